@@ -5,3 +5,4 @@ pub mod UserLaws
 pub mod NameLaws
 pub mod TopLaws
 pub mod FoundLaws
+pub mod FrontLaws

@@ -1,6 +1,7 @@
 //! Step 1: sections by their names.
 
-ghost use Rattle.std.specs.Prelude.{◌≡◌, ◌<◌, ◌+◌, ◌++◌, ◌∷◌, ◌&&◌, not, ℕ, List, [], length, map, true, IsTrue, OnOk, IfOk, IfErr, Some};
+ghost use Rattle.std.specs.Prelude.{◌≡◌, ◌<◌, ◌≤◌, ◌+◌, ◌++◌, ◌∷◌, ◌&&◌, not, ℕ, List, [], codes, length, map, true, IsTrue, OnOk, IfOk, IfErr};
+ghost use Rattle.std.specs.Option.{option_copied};
 ghost use Rattle.elf_types.specs.declared.errors.ElfError.TheVariants.{Memory};
 ghost use Rattle.elf_object.specs.Due.{all_sections};
 ghost use Rattle.command_objects.specs.Words.{is_allocated, header_at};
@@ -9,7 +10,7 @@ ghost use Rattle.strip_removed.specs.Steps.{IsRemovable, AreApart, goes, goes_by
 ghost use Rattle.elf_object.specs.Words.{Answers};
 ghost use Rattle.elf_descriptor.specs.Reads.{Queries, wanted};
 ghost use Rattle.strip_removed.specs.Calls.{ReadsNames, found, found_by};
-ghost use Rattle.sought_names.specs.Names.{is_sought};
+ghost use Rattle.sought_names.specs.Names.{is_sought, AreUpTo};
 
 use crate::headers::is_allocated;
 use crate::sets::SectionSet;
@@ -17,10 +18,14 @@ use crate::walks::may_go;
 use elf_descriptor::Elf;
 use elf_outside::Source;
 use elf_types::{ElfError, List, ScnId};
-use gelf_view::section_name;
+use gelf_view::section_name_front;
 use sought_names::NameSet;
 use std::alloc::Global;
 use tool_text::{Args, Text};
+
+/// The length of `.gdb_index`, the longest of the names and beginnings of names that tell a section
+/// of debug data.
+const LONGEST_DEBUG_NAME: usize = 10;
 
 /// Whether a name is one of those that compilers give sections of debug data.
 #[tactic(auto, unfolding(command_objects::specs::Removed::is_debug_name))]
@@ -71,15 +76,28 @@ fn may_be_debug<S: Source>(elf: &Elf<S>, s: ScnId, debug_too: bool) -> bool
     debug_too && !is_allocated(&elf.section_header(s))
 }
 
-/// Whether a name is one of these, or that of debug data where it may be.
-fn is_found_by(name: &[u8], names: &NameSet<'_>, debug: bool) -> bool
-    ensures { result ≡ found_by names.now debug (Some name.now) }
+/// Whether a name is one of these, or that of debug data where it may be; one that is none is
+/// neither.
+fn is_found_by(name: Option<&[u8]>, names: &NameSet<'_>, debug: bool) -> bool
+    ensures { result ≡ found_by names.now debug (option_copied name.entry) }
 {
-    names.has(name) || (debug && is_debug_name(name))
+    match name {
+        Some(name) => names.has(name) || (debug && is_debug_name(name)),
+        None => false,
+    }
+}
+
+/// A length that none of these names passes, and nothing by which a name is that of debug data.
+fn longest_of(names: &NameSet<'_>) -> usize
+    ensures names { AreUpTo result names.now }
+    ensures debug { length (codes ".gdb_index") ≤ result }
+{
+    names.longest().max(LONGEST_DEBUG_NAME)
 }
 
 /// Whether a section that is there is found by its name: that is one of these, or of debug data
-/// where it may be.
+/// where it may be. A longer name is none of them, and begins as its first bytes do, so that no
+/// more of it is looked at.
 fn is_found<S: Source>(
     elf: &mut Elf<S>,
     s: ScnId,
@@ -91,9 +109,9 @@ fn is_found<S: Source>(
         ((found names.now debug s.0).answer elf.old.o) }
     ensures queries { Queries S.Source (found names.now debug s.0) [] result elf.old elf.new }
 {
-    match section_name(elf, s) {
-        Ok(Some(name)) => Ok(is_found_by(name, names, debug)),
-        Ok(None) => Ok(false),
+    let longest = longest_of(names);
+    match section_name_front(elf, s, longest) {
+        Ok(front) => Ok(is_found_by(front, names, debug)),
         Err(e) => Err(e),
     }
 }

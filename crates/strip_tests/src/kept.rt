@@ -17,7 +17,7 @@ use tool_text::Args;
 const TABLES: [u32; 16] = [0, 0, 0, 0, 0, 0, 10, 0, 0, 0, 0, 0, 0, 0, 0, 0];
 
 /// The names of the sections that are kept, in their order.
-const TABLE: &[u8] = b"\0.text\0mine\0.line\0.debug_info\0";
+const TABLE: &[u8] = b"\0.text\0mine\0.line\0.debug_line_str\0";
 
 /// The place of each section's name in that table.
 const PLACES: [u32; 16] = [0, 1, 0, 0, 0, 0, 0, 0, 0, 0, 0, 7, 12, 18, 0, 0];

@@ -13,15 +13,15 @@ use test_sources::source;
 use tool_text::Args;
 
 /// The names of the sections, and the places of some of them.
-const NAMES: &[u8] = b"\0.debug_info\0.line\0.text\0mine\0";
+const NAMES: &[u8] = b"\0.debug_line_str\0.line\0.text\0mine\0";
 
 const DEBUG: u32 = 1;
 
-const LINE: u32 = 13;
+const LINE: u32 = 17;
 
-const TEXT: u32 = 19;
+const TEXT: u32 = 23;
 
-const MINE: u32 = 25;
+const MINE: u32 = 29;
 
 /// An image whose section 12 has the names; its section headers are empty.
 const EMPTY: Recipe = Recipe {
@@ -97,16 +97,19 @@ enum By {
 type Row = (By, &'static str, &'static [u32]);
 
 /// The names table stays though it is named, as section 0 does; a name that no section has does
-/// nothing; what is allocated goes by a name that is given alone.
-const ROWS: [Row; 8] = [
+/// nothing, not even where a section's begins with it; what is allocated goes by a name that is
+/// given alone.
+const ROWS: [Row; 10] = [
     (By::Strip, "none", &[2, 3, 5, 7, 9, 14]),
     (By::DebugOnly, "none", &[2, 3, 14]),
     (By::Strip, "mine", &[2, 3, 5, 7, 9, 11, 14]),
     (By::Strip, ".line", &[2, 3, 5, 7, 9, 14]),
-    (By::DebugOnly, ".debug_info", &[2, 3, 13, 14]),
+    (By::DebugOnly, ".debug_line_str", &[2, 3, 13, 14]),
+    (By::DebugOnly, ".debug_line", &[2, 3, 14]),
     (By::Copy, "none", &[]),
     (By::Copy, "mine", &[11]),
-    (By::Copy, ".debug_info", &[2, 3, 13]),
+    (By::Copy, ".debug_line_str", &[2, 3, 13]),
+    (By::Copy, ".debug_line", &[]),
 ];
 
 /// Whether a set has these numbers, and no other of the sections.
