@@ -9,7 +9,6 @@ ghost use Rattle.object_output.specs.Images.{image_report};
 ghost use Rattle.object_output.specs.Archives.{member_report, members_report, archive_report};
 ghost use Rattle.object_output.specs.Archives.{member_asks, left_asks, archive_asks};
 
-use crate::images::show_image;
 use crate::tools::{ObjectTool, refuse};
 use ar_members::{Ar, ArHdr};
 use elf_outside::{Sink, Source};
@@ -40,11 +39,11 @@ fn show_member<T: ObjectTool, S: Source, O: Sink, E: Sink>(
     let name = FileName::of_member(file, header.name.as_slice());
     match archive.member(header.at) {
         Ok(body) => {
-            let (body, shown) = show_image(alloc, tool, body, &name, outputs);
+            let (body, shown) = tool.show_source(alloc, body, &name, outputs);
             (body.into_inner(), shown)
         }
         Err((archive, e)) => {
-            let refused = refuse(tool, &name, e, outputs);
+            let refused = refuse(tool.command(), &name, e, outputs);
             (archive, refused)
         }
     }
@@ -80,7 +79,7 @@ fn show_members<T: ObjectTool, S: Source, O: Sink, E: Sink>(
                 }
             }
             Ok(None) => return (archive, Ok(refused)),
-            Err(e) => match refuse(tool, &FileName::of(file), e, outputs) {
+            Err(e) => match refuse(tool.command(), &FileName::of(file), e, outputs) {
                 Ok(was_refused) => return (archive, Ok(refused | was_refused)),
                 Err(stop) => return (archive, Err(stop)),
             },
@@ -115,7 +114,7 @@ pub fn show_archive<T: ObjectTool, S: Source, O: Sink, E: Sink>(
             (archive.end(), shown)
         }
         Err((src, e)) => {
-            let refused = refuse(tool, &FileName::of(file), e, outputs);
+            let refused = refuse(tool.command(), &FileName::of(file), e, outputs);
             (src, refused)
         }
     }

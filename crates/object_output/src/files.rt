@@ -8,7 +8,6 @@ ghost use Rattle.object_output.specs.Archives.{archive_report, archive_asks};
 ghost use Rattle.object_output.specs.Files.{file_report, file_asks};
 
 use crate::archives::show_archive;
-use crate::images::show_image;
 use crate::tools::{ObjectTool, refuse};
 use elf_ident::{FileKind, kind_of_source};
 use elf_outside::{Sink, Source};
@@ -39,10 +38,10 @@ pub fn show_file<T: ObjectTool, S: Source, O: Sink, E: Sink>(
     let name = FileName::of(file);
     match kind_of_source(&mut src) {
         Ok(FileKind::Archive) => show_archive(alloc, member_tool, src, file, outputs),
-        Ok(FileKind::Elf) => show_image(alloc, tool, src, &name, outputs),
-        Ok(FileKind::Other) => show_image(alloc, tool, src, &name, outputs),
+        Ok(FileKind::Elf) => tool.show_source(alloc, src, &name, outputs),
+        Ok(FileKind::Other) => tool.show_source(alloc, src, &name, outputs),
         Err(e) => {
-            let refused = refuse(tool, &name, e, outputs);
+            let refused = refuse(tool.command(), &name, e, outputs);
             (src, refused)
         }
     }

@@ -1,7 +1,7 @@
 //! Tools over objects: what a step over a descriptor and the two outputs does, and what a tool says
-//! of an image. A command that speaks of objects is an `ObjectTool`; `show_file` opens the image
-//! for it, or each member of an archive, and `show_object` gives its report on a descriptor that is
-//! there. What it says of each section, or of each section of a name, is a `SectionTool`. A command
+//! of an image. A command that speaks of objects is an `ObjectTool`; `show_file` gives its report on
+//! the image that a file holds, or on each member of an archive, and `show_object` on a descriptor
+//! that is there. What it says of each section, or of each section of a name, is a `SectionTool`. A command
 //! that takes no archive begins by `begin_image`.
 #![tactic(auto)]
 
@@ -18,9 +18,9 @@ pub mod tools;
 pub use archives::show_archive;
 pub use crowded::{is_crowded, is_out};
 pub use files::show_file;
-pub use images::{begin_image, show_image};
+pub use images::begin_image;
 pub use items::{item_there, phdr_at, stop_for};
 pub use names::{Bracketed, each_section_named, is_named, section_name, string_at};
 pub use sections::{SectionTool, each_section, section_header};
 pub use symbols::symbol_place;
-pub use tools::{ObjectTool, show_object};
+pub use tools::{ObjectTool, refuse, show_object};

@@ -1,13 +1,16 @@
 //! A tool that says something of an object.
 
-ghost use Rattle.std.specs.Prelude.{◌≡◌, ℕ, List, false};
+ghost use Rattle.std.specs.Prelude.{◌≡◌, ◌≤◌, ◌+◌, ℕ, List, false, IfSome, OnOk};
+ghost use Rattle.elf_ident.specs.Front.{front_bytes};
 ghost use Rattle.elf_object.specs.Object.{Object};
 ghost use Rattle.tool_output.specs.Names.{Name};
 ghost use Rattle.tool_output.specs.Reports.{Report};
+ghost use Rattle.tool_output.specs.Sources.{ReportsOn};
 ghost use Rattle.object_output.specs.Steps.{ReportsOver};
 ghost use Rattle.object_output.specs.Refusals.{Refuses};
 ghost use Rattle.object_output.specs.Shows.{ShowsOver};
 ghost use Rattle.object_output.specs.Looks.{Looks};
+ghost use Rattle.object_output.specs.Images.{image_report, image_asks};
 
 use elf_descriptor::Elf;
 use elf_outside::{Sink, Source};
@@ -44,21 +47,53 @@ pub trait ObjectTool {
         ensures reports { ReportsOver S.Source O.Sink E.Sink (looks self.now).passes
             (report self.now name.now) result elf.old elf.new outputs.old outputs.new }
         ensures unread { (looks self.now).reads ≡ false → elf.new ≡ elf.old };
+
+    /// Gives the report on the image that a source holds, under a name, and hands the source back.
+    /// What has no front of an image has the message that says why. It stops by `Read` only where a
+    /// read of the source failed. Of each home that lies in the file no more than its bytes are
+    /// asked for, and none by a tool that reads no sections; where homes overlap, once more for
+    /// each of its passes over them. A tool that needs no descriptor may give the same without one;
+    /// any other begins one and shows its object.
+    fn show_source<S: Source, O: Sink, E: Sink>(
+        &self,
+        alloc: Global,
+        src: S,
+        name: &FileName<'_>,
+        outputs: &mut Outputs<'_, O, E>,
+    ) -> (S, Result<bool, Stop>)
+        ensures reports { ReportsOn S.Source O.Sink E.Sink
+            (image_report (command self.now) (report self.now) name.now)
+            result.1 src result.0 outputs.old outputs.new }
+        ensures asks { OnOk result.1 (IfSome (S.holds src) (λ image.
+            S.taken result.0 ≤ S.taken src + image_asks (looks self.now) image)) }
+        ensures unread { (looks self.now).reads ≡ false → IfSome (S.holds src) (λ image.
+            S.taken result.0 ≤ S.taken src + front_bytes image) }
+    {
+        match Elf::begin(alloc, src) {
+            Ok(mut elf) => {
+                let shown = self.show(&mut elf, name, outputs);
+                (elf.end(), shown)
+            }
+            Err((src, e)) => {
+                let refused = refuse(self.command(), name, e, outputs);
+                (src, refused)
+            }
+        }
+    }
 }
 
-/// Refuses a file, or a member of an archive, for an error of the library: gives its message, or
-/// stops where the error is no refusal.
-pub(crate) fn refuse<T: ObjectTool, O: Sink, E: Sink>(
-    tool: &T,
+/// Refuses a file, or a member of an archive, for an error of the library: gives the message of a
+/// command, or stops where the error is no refusal.
+pub fn refuse<O: Sink, E: Sink>(
+    command: &str,
     name: &FileName<'_>,
     e: ElfError,
     outputs: &mut Outputs<'_, O, E>,
 ) -> Result<bool, Stop>
-    ensures { Refuses O.Sink E.Sink (T.command tool.now) name.now e
-        result outputs.old outputs.new }
+    ensures { Refuses O.Sink E.Sink command.now name.now e result outputs.old outputs.new }
 {
     let message = Message {
-        command: tool.command(),
+        command,
         name,
         text: e,
     };

@@ -17,7 +17,7 @@ use elf_types::{DataId, ScnId, Sym};
 use gelf_view::item_count;
 use image_generate::numbered_name;
 use object_files::FileEdit;
-use object_output::{ObjectTool, show_image, stop_for};
+use object_output::{ObjectTool, stop_for};
 use std::alloc::Global;
 use symbol_lookup::find_linear;
 use tool_output::{FileName, Message, Outputs, Stop};
@@ -155,6 +155,6 @@ impl FileEdit for Told {
         _files: &mut F,
         outputs: &mut Outputs<'_, O, E>,
     ) -> (S, Result<bool, Stop>) {
-        show_image(alloc, self, src, &FileName::of(name), outputs)
+        self.show_source(alloc, src, &FileName::of(name), outputs)
     }
 }

@@ -17,7 +17,7 @@ returns-in-Err-clause-reports g c =
     let refused = c.refuse-refused.ensures in
     refuses_after g.O.Sink g.E.Sink g.S.Source _ _ _ c.args.src _ c.args.outputs.now _ _ _ c.in-Err.ensures.asks
     (archive_refused (t.command c.args.tool.now) (t.report c.args.tool.now) c.args.file.now (g.S.Source.holds c.args.src) c.in-Err.e c.in-Err.ensures.begun)
-    (rw c.of.ensures at refused.reports) refused.stops refused.leaves
+    (rw (c.command.ensures, c.of.ensures) at refused.reports) refused.stops refused.leaves
 
 pub returns-in-Ok-clause-asks : goal.returns-in-Ok-clause-asks
 returns-in-Ok-clause-asks g c =

@@ -74,7 +74,7 @@ returns-in-Ok-refuse-clause-reports g c =
     (refuses_after g.O.Sink g.E.Sink g.S.Source _ _ _ c.loop-header.archive.source _
     c.loop-header.outputs _ _ _ c.in-Err.ensures.asks
     (bad_left command report c.args.file.now (g.S.Source.holds c.loop-header.archive.source) c.loop-header.archive.walk c.next.new.self.walk c.in-Err.e c.in-Err.ensures.members)
-    (rw c.of.ensures at refused.reports) refused.stops refused.leaves)
+    (rw (c.command.ensures, c.of.ensures) at refused.reports) refused.stops refused.leaves)
 
 pub returns-in-Ok-refuse-clause-asks : goal.returns-in-Ok-refuse-clause-asks
 returns-in-Ok-refuse-clause-asks g c =
@@ -92,4 +92,4 @@ returns-in-Err-refuse-clause-reports g c =
     (refuses_after g.O.Sink g.E.Sink g.S.Source _ _ _ c.loop-header.archive.source _
     c.loop-header.outputs _ _ _ c.in-Err.ensures.asks
     (bad_left command report c.args.file.now (g.S.Source.holds c.loop-header.archive.source) c.loop-header.archive.walk c.next.new.self.walk c.in-Err.e c.in-Err.ensures.members)
-    (rw c.of.ensures at refused.reports) refused.stops refused.leaves)
+    (rw (c.command.ensures, c.of.ensures) at refused.reports) refused.stops refused.leaves)

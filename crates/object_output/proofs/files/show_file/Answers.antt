@@ -34,7 +34,7 @@ returns-in-Ok-Elf-clause-reports g c =
     let of_archive = archive_report (t.command c.args.member_tool.now) (t.report c.args.member_tool.now) in
     after_call g.S.Source g.O.Sink g.E.Sink _ _ _ _ _ c.args.src _ _ c.args.outputs.now _ c.in-Ok-Elf.ensures.asks
     (file_is_image of_image of_archive (file_name c.args.file.now) (g.S.Source.holds c.args.src) _ (rw c.in-Ok-Elf.field-0-is at c.in-Ok-Elf.ensures.kind) elf_is_no_archive)
-    (rw c.of-name.ensures at c.show_image.ensures.reports)
+    (rw c.of-name.ensures at c.show_source.ensures.reports)
 
 pub returns-in-Ok-Elf-clause-asks : goal.returns-in-Ok-Elf-clause-asks
 returns-in-Ok-Elf-clause-asks g c =
@@ -44,7 +44,7 @@ returns-in-Ok-Elf-clause-asks g c =
     (archive_asks (tool.looks c.args.member_tool.now)) (g.S.Source.holds c.args.src)
     _ _ Elf _ _ _ asks.leaves.same_bytes
     (rw c.in-Ok-Elf.field-0-is at c.in-Ok-Elf.ensures.kind) asks.taken.no_more
-    c.show_image.ensures.asks
+    c.show_source.ensures.asks
 
 pub returns-in-Ok-Other-clause-reports : goal.returns-in-Ok-Other-clause-reports
 returns-in-Ok-Other-clause-reports g c =
@@ -53,7 +53,7 @@ returns-in-Ok-Other-clause-reports g c =
     let of_archive = archive_report (t.command c.args.member_tool.now) (t.report c.args.member_tool.now) in
     after_call g.S.Source g.O.Sink g.E.Sink _ _ _ _ _ c.args.src _ _ c.args.outputs.now _ c.in-Ok-Other.ensures.asks
     (file_is_image of_image of_archive (file_name c.args.file.now) (g.S.Source.holds c.args.src) _ (rw c.in-Ok-Other.field-0-is at c.in-Ok-Other.ensures.kind) other_is_no_archive)
-    (rw c.of-name.ensures at c.show_image-in-Ok-Other.ensures.reports)
+    (rw c.of-name.ensures at c.show_source-in-Ok-Other.ensures.reports)
 
 pub returns-in-Ok-Other-clause-asks : goal.returns-in-Ok-Other-clause-asks
 returns-in-Ok-Other-clause-asks g c =
@@ -63,13 +63,14 @@ returns-in-Ok-Other-clause-asks g c =
     (archive_asks (tool.looks c.args.member_tool.now)) (g.S.Source.holds c.args.src)
     _ _ Other _ _ _ asks.leaves.same_bytes
     (rw c.in-Ok-Other.field-0-is at c.in-Ok-Other.ensures.kind) asks.taken.no_more
-    c.show_image-in-Ok-Other.ensures.asks
+    c.show_source-in-Ok-Other.ensures.asks
 
 pub returns-in-Err-clause-reports : goal.returns-in-Err-clause-reports
 returns-in-Err-clause-reports g c =
     let refused = c.refuse-refused.ensures in
     refuses_after g.O.Sink g.E.Sink g.S.Source _ _ _ c.args.src _ c.args.outputs.now _ _ _ c.in-Err.ensures.asks
-    (kind_is_told (g.S.Source.holds c.args.src) _ _ c.in-Err.e c.in-Err.ensures.kind) refused.reports refused.stops refused.leaves
+    (kind_is_told (g.S.Source.holds c.args.src) _ _ c.in-Err.e c.in-Err.ensures.kind)
+    (rw c.command.ensures at refused.reports) refused.stops refused.leaves
 
 pub returns-in-Err-clause-asks : goal.returns-in-Err-clause-asks
 returns-in-Err-clause-asks g c =

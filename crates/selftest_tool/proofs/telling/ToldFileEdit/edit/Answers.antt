@@ -11,4 +11,4 @@ returns g c =
     told_edits g.F.Files g.O.Sink g.E.Sink g.S.Source
     (image_report (codes "selftest") (told_report c.args.self.now.count)
     (file_name c.args.name.now)) _ c.args.src _ c.args._files.now c.args.outputs.now _
-    (rw c.of.ensures at c.show_image.ensures.reports)
+    (rw c.of.ensures at c.show_source.ensures.reports)
