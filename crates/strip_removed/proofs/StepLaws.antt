@@ -1,8 +1,8 @@
 -- What a walk over the sections of an object finds: the definition's list.
-use Rattle.std.proofs.Common.{◌≡◌, ◌==◌, ◌&&◌, ◌||◌, ◌+◌, ◌-◌, ◌<◌, ◌≤◌, ℕ, zero, suc, Bool, true, false, not, List, [], ◌∷◌, ◌++◌, length, map, refl, sym, ap, ◌∙◌, inl, inr, length-append, ◌⊎◌, arith}
-use Rattle.std.specs.Prelude.{filter, slice_get, unwrap_or}
+use Rattle.std.proofs.Common.{◌≡◌, ◌==◌, ◌&&◌, ◌||◌, ◌+◌, ◌-◌, ◌<◌, ℕ, zero, suc, Bool, true, false, not, List, [], ◌∷◌, ◌++◌, length, map, refl, sym, ap, ◌∙◌, inl, inr, length-append, ◌⊎◌, arith}
+use Rattle.std.specs.Prelude.{filter}
 use Rattle.std.specs.List.{range_with_len}
-use Rattle.std.proofs.lemmas.Bool.{eqb-true, and_parts, and_right, ne_eqb}
+use Rattle.std.proofs.lemmas.Bool.{and_right, ne_eqb}
 use Rattle.std.proofs.lemmas.List.FromFn.{map-range_with_len_more}
 use Rattle.elf_object.specs.Object.{Object}
 use Rattle.elf_object.specs.Layout.{section_numbers}
@@ -11,7 +11,7 @@ use Rattle.command_objects.specs.Words.{is_among}
 use Rattle.command_objects.specs.Removed.{removable, with_found}
 use Rattle.strip_removed.specs.Sets.{is_marked, numbers_of}
 use Rattle.strip_removed.specs.Steps.{may_go, goes, IsRemovable, AreApart}
-use Rattle.strip_removed.proofs.SetLaws.{or_false, filter_filter, filter_range, one_filter, filter_among, among_numbers, numbers_map}
+use Rattle.strip_removed.proofs.SetLaws.{filter_filter, filter_range, one_filter, filter_among, among_numbers, numbers_map}
 
 module _ (o : Object) where
   stays : ℕ → Bool

@@ -1,13 +1,13 @@
 -- Steps 3 and 5 by the sections to which others link.
-use Rattle.std.proofs.Common.{◌≡◌, ◌==◌, ◌&&◌, ◌||◌, ◌+◌, ◌<◌, ◌≤◌, ℕ, zero, suc, Bool, true, false, not, cond, List, [], ◌∷◌, length, refl, sym, ap, ◌∙◌, arith}
-use Rattle.std.specs.Prelude.{filter, nat_eq}
-use Rattle.std.specs.List.{range_with_len, list_any, list_all}
+use Rattle.std.proofs.Common.{◌≡◌, ◌==◌, ◌&&◌, ◌||◌, ◌<◌, ℕ, suc, Bool, true, false, not, cond, List, [], ◌∷◌, length, refl, sym, ap, ◌∙◌, arith}
+use Rattle.std.specs.Prelude.{filter}
+use Rattle.std.specs.List.{list_any, list_all}
 use Rattle.std.proofs.lemmas.Bool.{ne_eqb}
-use Rattle.elf_types.specs.declared.constants.TheConstants.{SHT_SYMTAB, SHT_STRTAB, SHT_GROUP}
+use Rattle.elf_types.specs.declared.constants.TheConstants.{SHT_SYMTAB, SHT_STRTAB}
 use Rattle.elf_object.specs.Object.{Object}
 use Rattle.elf_object.specs.Layout.{section_numbers}
 use Rattle.elf_object.specs.Due.{all_sections}
-use Rattle.command_objects.specs.Words.{is_allocated, is_relocations, header_at, is_among}
+use Rattle.command_objects.specs.Words.{is_allocated, header_at, is_among}
 use Rattle.command_objects.specs.Removed.{with_found, needs_symbols, is_unneeded_symtab, linking_to, has_removed_users}
 use Rattle.strip_removed.specs.Steps.{links_to, linked_by}
 use Rattle.strip_removed.specs.Users.{needs_some, is_unneeded_by, is_left_by, AreUsers}

@@ -1,6 +1,6 @@
 -- Which sections strip and copy remove, as calls on an object: what they read, and when they may
 -- want memory.
-use Rattle.std.specs.Prelude.{◌≡◌, ℕ, ◌==◌, ◌<◌, ◌&&◌, ◌||◌, Bool, false, List, [], if◌then◌else◌, Option, Some, None, Result, Ok, Err, IfErr}
+use Rattle.std.specs.Prelude.{◌≡◌, ℕ, ◌==◌, ◌<◌, ◌&&◌, ◌||◌, Bool, false, List, [], if◌then◌else◌, Option, Some, None, Result, Ok, IfErr}
 use Rattle.std.specs.List.{list_any}
 use Rattle.elf_types.specs.declared.errors.ElfError.{ElfError}
 use Rattle.elf_types.specs.declared.errors.ElfError.TheVariants.{Memory, Read}

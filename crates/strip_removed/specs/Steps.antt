@@ -1,6 +1,6 @@
 -- The steps of strip as they are walked: what may be removed, what a walk finds, and which sections
 -- are linked to.
-use Rattle.std.specs.Prelude.{◌≡◌, ℕ, Bool, true, not, ◌==◌, ◌&&◌, ◌||◌, List, [], filter, length}
+use Rattle.std.specs.Prelude.{◌≡◌, ℕ, Bool, true, not, ◌==◌, ◌&&◌, ◌||◌, List, filter, length}
 use Rattle.std.specs.List.{list_any}
 use Rattle.elf_object.specs.Object.{Object}
 use Rattle.elf_object.specs.Layout.{section_numbers}

@@ -1,4 +1,4 @@
-use Rattle.std.proofs.Common.{◌||◌, ℕ, Bool, List, ap, ◌∙◌, take}
+use Rattle.std.proofs.Common.{◌||◌, ℕ, Bool, List, ap, ◌∙◌}
 use Rattle.std.specs.Str.{bytes_eq}
 use Rattle.std.proofs.lemmas.List.{take_all}
 use Rattle.sought_names.specs.Names.{is_sought}

@@ -1,4 +1,3 @@
-use Rattle.std.proofs.Common.{sym}
 use Rattle.strip_removed.proofs.FoundLaws.{found_told}
 use Rattle.strip_removed.proofs.NameLaws.{found_reads}
 use Rattle.strip_removed.proofs.names.is_found_too.Goals as goal

@@ -1,4 +1,4 @@
-use Rattle.std.proofs.Common.{◌≡◌, Bool, false, not, ℕ, List, subst}
+use Rattle.std.proofs.Common.{◌≡◌, false, subst}
 use Rattle.std.specs.Prelude.{IfOk}
 use Rattle.elf_object.specs.Object.{Object}
 use Rattle.command_objects.specs.Removed.{with_followers}
