@@ -3,8 +3,8 @@
 use elf_types::constants::{SHT_NOBITS, SHT_PROGBITS};
 use elf_types::{ElfError, Shdr};
 use std::alloc::Global;
-use test_cases::{Case, RUN, Stored, are_so};
-use test_images::{NULL_SECTION, Put, Recipe, Start, WIDE, image_of};
+use test_cases::{Bad, Case, GOOD, RUN, Stored, are_so, are_so_in_all_forms};
+use test_images::{Field, HeaderField, NULL_SECTION, Put, Recipe, Start, WIDE, image_of};
 use test_runs::{DONE, Ending, REFUSED, Size, said_by};
 use tool_output::Status;
 
@@ -129,6 +129,133 @@ static SIZES: [Case; 3] = [
 #[test]
 fn loaded_sections_are_added_up(rt: HostRuntime) {
     assert!(rt; are_so(rt.alloc(), &[], &SIZES));
+}
+
+/// An object of 100 sections, which are more than the headers that are read at once: those that are
+/// loaded are the last and the first of what is read together. Section 0 tells their number too.
+const MANY: Recipe = Recipe {
+    form: WIDE,
+    start: Start::Table(64, 100, 0),
+    puts: &[
+        Put::Section(
+            0,
+            Shdr {
+                size: 100,
+                ..NULL_SECTION
+            },
+        ),
+        Put::Section(
+            1,
+            Shdr {
+                stype: SHT_PROGBITS,
+                flags: 6,
+                size: 32,
+                ..NULL_SECTION
+            },
+        ),
+        Put::Section(
+            31,
+            Shdr {
+                stype: SHT_PROGBITS,
+                flags: 2,
+                size: 1,
+                ..NULL_SECTION
+            },
+        ),
+        Put::Section(
+            32,
+            Shdr {
+                stype: SHT_PROGBITS,
+                flags: 3,
+                size: 16,
+                ..NULL_SECTION
+            },
+        ),
+        Put::Section(
+            64,
+            Shdr {
+                stype: SHT_PROGBITS,
+                flags: 3,
+                size: 4,
+                ..NULL_SECTION
+            },
+        ),
+        Put::Section(
+            99,
+            Shdr {
+                stype: SHT_NOBITS,
+                flags: 3,
+                size: 256,
+                ..NULL_SECTION
+            },
+        ),
+    ],
+};
+
+/// What size shows of it.
+const SHOWN: &[u8] = b"   text\t   data\t    bss\t    dec\t    hex\tfilename\n     \
+    33\t     20\t    256\t    309\t    135\tF\n";
+
+/// The number of sections stands in the header, or in section 0 alone.
+static COUNTS: [Case; 2] = [
+    Case {
+        line: "size F",
+        file: Stored::Image(MANY),
+        ending: Ending { out: SHOWN, ..DONE },
+        ..RUN
+    },
+    Case {
+        line: "size F",
+        file: Stored::Changed(MANY, Put::Field(Field::Header(HeaderField::Shnum), 0)),
+        ending: Ending { out: SHOWN, ..DONE },
+        ..RUN
+    },
+];
+
+#[test]
+fn many_sections_are_added_up_in_each_form(rt: HostRuntime) {
+    assert!(rt; are_so_in_all_forms(rt.alloc(), &[], &COUNTS));
+}
+
+/// The run over two files, of the second of which a read fails.
+const UNREAD: Case = Case {
+    line: "size S F",
+    file: Stored::Image(MANY),
+    script: Stored::Image(THREE),
+    ending: Ending {
+        status: Status::ReadFailed,
+        out: b"   text\t   data\t    bss\t    dec\t    hex\tfilename\n     \
+            32\t     16\t    256\t    304\t    130\tS\n",
+        ..DONE
+    },
+    ..RUN
+};
+
+/// The fourth read of F, since three are of its kind and of its header.
+const FIRST_READ: Bad = Bad {
+    name: "F",
+    read: 4,
+    ..GOOD
+};
+
+/// The first of the four reads of its section headers fails, or the last.
+static LATE: [Case; 2] = [
+    Case {
+        bad: FIRST_READ,
+        ..UNREAD
+    },
+    Case {
+        bad: Bad {
+            read: 7,
+            ..FIRST_READ
+        },
+        ..UNREAD
+    },
+];
+
+#[test]
+fn a_failed_read_of_section_headers_keeps_what_was_shown(rt: HostRuntime) {
+    assert!(rt; are_so(rt.alloc(), &[], &LATE));
 }
 
 /// The first line comes before any file is looked at; and there is no file.

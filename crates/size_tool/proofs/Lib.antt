@@ -1,1 +1,3 @@
 mod SumLemmas
+mod TableSums
+mod FrontSums

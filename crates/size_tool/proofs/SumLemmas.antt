@@ -1,43 +1,89 @@
--- Sums over sections, one after another.
-use Rattle.std.proofs.Common.{◌≡◌, ◌+◌, ◌<◌, ◌≤◌, ℕ, List, [], ◌∷◌, length, take, get_or, Bool, sum_by, refl, ap, ◌∙◌, arith, take_all}
-use Rattle.std.proofs.lemmas.List.{take_more}
-use Rattle.std.proofs.lemmas.List.Sums.{sum_by-append}
+-- Sums over section headers, one after another.
+use Rattle.std.proofs.Common.{◌≡◌, ◌+◌, ◌<◌, ◌≤◌, ◌++◌, ℕ, Bool, List, [], ◌∷◌, length, take, map, get_or, refl, sym, ap, ◌∙◌, arith, take_all}
+use Rattle.std.proofs.lemmas.List.{take_more, get_or-map, length-map, length-append, append-nil, append_assoc}
+use Rattle.std.proofs.lemmas.List.Sums.{sum_by_push}
 use Rattle.elf_types.specs.declared.records.Shdr.{Shdr}
 use Rattle.elf_object.specs.Object.{Object, Section, section_at, absent_section}
 use Rattle.size_tool.specs.declared.sums.Sums.{Sums}
-use Rattle.size_tool.specs.Sums.{is_text, is_data, is_bss, size_if, size_of, sums_of}
+use Rattle.size_tool.specs.Sums.{is_text, is_data, is_bss, size_if, size_of, header_sums, sums_of, with_section, AreWithin, Adds}
 
-module _ (counts : Shdr → Bool) where
-  part : Section → ℕ
-  part s = size_if (counts s.header) s.header.size
+size_pushed : (counts : Shdr → Bool) (headers : List Shdr) (h : Shdr)
+    → size_of counts (headers ++ h ∷ []) ≡ size_of counts headers + size_if (counts h) h.size
+unfolding size_of
+size_pushed counts headers h = sum_by_push (λ x. size_if (counts x) x.size) headers h
 
-  pub size_none : (xs : List Section) → size_of counts (take 0 xs) ≡ 0
-  unfolding size_of
-  size_none xs = refl
+-- one section more
+pub sums_pushed : (headers : List Shdr) (h : Shdr)
+    → with_section (header_sums headers) h ≡ header_sums (headers ++ h ∷ [])
+unfolding header_sums
+sums_pushed headers h =
+    rw (size_pushed is_text headers h, size_pushed is_data headers h, size_pushed is_bss headers h)
+    refl
 
-  pub size_more : (xs : List Section) (i : ℕ) (d : Section) → i < length xs
-      → size_of counts (take (i + 1) xs) ≡ size_of counts (take i xs) + size_if (counts (get_or xs i d).header) (get_or xs i d).header.size
-  unfolding size_of
-  size_more xs i d lt =
-      let v = size_if (counts (get_or xs i d).header) (get_or xs i d).header.size in
-      ap (sum_by (λ s. size_if (counts s.header) s.header.size)) (take_more xs i d lt)
-      ∙ sum_by-append (λ s. size_if (counts s.header) s.header.size) (take i xs) (get_or xs i d ∷ [])
-      ∙ ap (λ (n : ℕ). sum_by (λ s. size_if (counts s.header) s.header.size) (take i xs) + n) (let e : 0 + v ≡ v = omega arith in e)
+-- of more sections
+pub within_more : (m n : ℕ) (sums : Sums) → m ≤ n → AreWithin m sums → AreWithin n sums
+within_more m n sums more w = record {
+  text = omega (arith, more, w.text);
+  «data» = omega (arith, more, w.«data»);
+  bss = omega (arith, more, w.bss);
+}
 
-  -- the next section is added, where it counts
-  pub size_added : (o : Object) (i : ℕ) (h : Shdr) (before added : ℕ) (b : Bool) → i < length o.sections → h ≡ (section_at o i).header
-      → before ≡ size_of counts (take i o.sections) → b ≡ counts h → added ≡ size_if b h.size → before + added ≡ size_of counts (take (i + 1) o.sections)
-  unfolding section_at
-  size_added o i h before added b lt is so_far test more =
-      let last : added ≡ size_if (counts (get_or o.sections i absent_section).header) (get_or o.sections i absent_section).header.size =
-      more ∙ ap (λ (q : Bool). size_if q h.size) test ∙ ap (λ (x : Shdr). size_if (counts x) x.size) is in
-      omega (arith, so_far, last, size_more o.sections i absent_section lt)
+-- ---- The sections of an object
 
-  pub size_all : (xs : List Section) (i n : ℕ) → length xs ≤ i → n ≡ size_of counts (take i xs) → n ≡ size_of counts xs
-  size_all xs i n le is = is ∙ ap (size_of counts) (take_all i xs le)
+-- the next of them is added
+pub sums_next : (o : Object) (i : ℕ) (h : Shdr) (before after : Sums) → i < length o.sections
+    → h ≡ (section_at o i).header → before ≡ header_sums (take i (map (λ s. s.header) o.sections))
+    → after ≡ with_section before h
+    → after ≡ header_sums (take (i + 1) (map (λ s. s.header) o.sections))
+unfolding section_at
+sums_next o i h before after low is so_far added =
+    let header : Section → Shdr = λ s. s.header in
+    let headers = map header o.sections in
+    let absent = absent_section.header in
+    let here : get_or headers i absent ≡ h =
+    get_or-map header o.sections i absent_section absent low ∙ sym is in
+    let long : length headers ≡ length o.sections = length-map o.sections header in
+    added
+    ∙ ap (λ (sums : Sums). with_section sums h) so_far
+    ∙ sums_pushed (take i headers) h
+    ∙ ap (λ (x : Shdr). header_sums (take i headers ++ x ∷ [])) (sym here)
+    ∙ ap header_sums (sym (take_more headers i absent (omega (arith, low, long))))
 
-pub sums_all : (xs : List Section) (i text written bss : ℕ) → length xs ≤ i → text ≡ size_of is_text (take i xs) → written ≡ size_of is_data (take i xs) → bss ≡ size_of is_bss (take i xs)
-    → ◌≡◌ {A = Sums} (record { text = text; «data» = written; bss = bss }) (sums_of xs)
+-- they are all of them
+pub sums_all : (sections : List Section) (i : ℕ) (sums : Sums) → length sections ≤ i
+    → sums ≡ header_sums (take i (map (λ s. s.header) sections)) → sums ≡ sums_of sections
 unfolding sums_of
-sums_all xs i text written bss le t d b =
-    rw (size_all is_text xs i text le t, size_all is_data xs i written le d, size_all is_bss xs i bss le b) refl
+sums_all sections i sums all is =
+    let header : Section → Shdr = λ s. s.header in
+    let long : length (map header sections) ≡ length sections = length-map sections header in
+    is ∙ ap header_sums (take_all i (map header sections) (omega (arith, all, long)))
+
+-- ---- More headers
+
+pub adds_none : (sums : Sums) → Adds [] sums sums
+adds_none sums = record {
+  sums = λ headers is. is ∙ ap header_sums (sym (append-nil headers));
+  within = λ n w. within_more n (n + 0) sums (omega arith) w;
+}
+
+-- and one more
+pub adds_more : (more : List Shdr) (h : Shdr) (old mid new : Sums) → Adds more old mid
+    → new ≡ with_section mid h → ((n : ℕ) → AreWithin n mid → AreWithin (n + 1) new)
+    → Adds (more ++ h ∷ []) old new
+adds_more more h old mid new adds is within = record {
+  sums = λ headers same.
+      is
+      ∙ ap (λ (sums : Sums). with_section sums h) (adds.sums headers same)
+      ∙ sums_pushed (headers ++ more) h
+      ∙ ap header_sums (append_assoc headers more (h ∷ []));
+  within = λ n w.
+      let long : length (more ++ h ∷ []) ≡ length more + 1 = length-append more (h ∷ []) in
+      within_more (n + length more + 1) (n + length (more ++ h ∷ [])) new (omega (arith, long))
+      (within (n + length more) (adds.within n w));
+}
+
+-- with those before them they are so many at most
+pub adds_within : (more : List Shdr) (old new : Sums) (m n : ℕ) → Adds more old new
+    → AreWithin m old → m + length more ≤ n → AreWithin n new
+adds_within more old new m n adds w few =
+    within_more (m + length more) n new few (adds.within m w)

@@ -1,10 +1,13 @@
 -- What size adds up: the sizes of the sections that a process has in memory (gABI chapter 4,
 -- "Sections": sh_size, sh_flags, SHT_NOBITS).
-use Rattle.std.specs.Prelude.{◌+◌, ◌*◌, ◌^◌, ◌≤◌, ◌==◌, ◌&&◌, ◌||◌, ℕ, List, Bool, not, sum_by, if◌then◌else◌}
+use Rattle.std.specs.Prelude.{◌≡◌, ◌+◌, ◌*◌, ◌^◌, ◌≤◌, ◌++◌, ◌==◌, ◌&&◌, ◌||◌, ℕ, List, length, map, Bool, not, sum_by, if◌then◌else◌, Result, Ok}
 use Rattle.elf_types.specs.declared.records.Shdr.{Shdr}
 use Rattle.elf_types.specs.declared.constants.TheConstants.{SHT_NOBITS, SHF_WRITE, SHF_EXECINSTR}
+use Rattle.elf_types.specs.declared.errors.ElfError.{ElfError}
+use Rattle.elf_types.specs.Answers.{◌>>=◌}
 use Rattle.elf_types.specs.Kinds.{has_flag}
 use Rattle.elf_object.specs.Object.{Section}
+use Rattle.elf_object.specs.Open.{opened}
 use Rattle.command_objects.specs.Words.{is_allocated}
 use Rattle.size_tool.specs.declared.sums.Sums.{Sums}
 
@@ -27,16 +30,27 @@ is_data h = is_allocated h && not (h.stype == SHT_NOBITS) && not (is_fixed h)
 abbrev pub size_if : Bool → ℕ → ℕ
 size_if counts size = if counts then size else 0
 
-unfoldable pub size_of : (Shdr → Bool) → List Section → ℕ
-size_of counts sections = sum_by (λ s. size_if (counts s.header) s.header.size) sections
+-- those of the sections with these headers that count, added up
+unfoldable pub size_of : (Shdr → Bool) → List Shdr → ℕ
+size_of counts headers = sum_by (λ h. size_if (counts h) h.size) headers
 
--- the sums over sections, of any size
-unfoldable pub sums_of : List Section → Sums
-sums_of sections = record {
-  text = size_of is_text sections;
-  «data» = size_of is_data sections;
-  bss = size_of is_bss sections;
+-- the sums over section headers, of any size
+unfoldable pub header_sums : List Shdr → Sums
+header_sums headers = record {
+  text = size_of is_text headers;
+  «data» = size_of is_data headers;
+  bss = size_of is_bss headers;
 }
+
+-- the sums over sections, by their headers
+unfoldable pub sums_of : List Section → Sums
+sums_of sections = header_sums (map (λ s. s.header) sections)
+
+-- the sums of the object of an image, or the first refusal of its front
+unfoldable pub sums_in : List ℕ → Result Sums ElfError
+sums_in image = do
+  o ← opened image
+  Ok (sums_of o.sections)
 
 -- of all three
 abbrev pub total_of : Sums → ℕ
@@ -47,3 +61,19 @@ pub record AreWithin (count : ℕ) (sums : Sums) : Type 0 where
   pub text : sums.text ≤ count * 2 ^ 64
   pub «data» : sums.«data» ≤ count * 2 ^ 64
   pub bss : sums.bss ≤ count * 2 ^ 64
+
+-- ---- Headers one after another
+
+-- sums, and those of one section more
+abbrev pub with_section : Sums → Shdr → Sums
+with_section sums h = record {
+  text = sums.text + size_if (is_text h) h.size;
+  «data» = sums.«data» + size_if (is_data h) h.size;
+  bss = sums.bss + size_if (is_bss h) h.size;
+}
+
+-- Those of more headers were added: sums over some headers are then sums over these and the others.
+pub record Adds (more : List Shdr) (old new : Sums) : Type 0 where
+  pub sums : (headers : List Shdr) → old ≡ header_sums headers
+      → new ≡ header_sums (headers ++ more)
+  pub within : (n : ℕ) → AreWithin n old → AreWithin (n + length more) new

@@ -1,8 +1,8 @@
 //! The sums of the sizes of sections.
 
-ghost use Rattle.std.specs.Prelude.{◌≡◌, ◌+◌, ◌<◌, ◌≤◌, ◌^◌, ◌/◌, ◌%◌, ◌==◌, length};
+ghost use Rattle.std.specs.Prelude.{◌≡◌, ◌+◌, ◌<◌, ◌≤◌, ◌^◌, ◌/◌, ◌%◌, ◌==◌, ℕ, [], length};
 ghost use Rattle.command_objects.specs.Words.{is_allocated};
-ghost use Rattle.size_tool.specs.Sums.{is_bss, is_fixed, is_text, is_data, size_if, sums_of, AreWithin};
+ghost use Rattle.size_tool.specs.Sums.{is_bss, is_fixed, is_text, is_data, size_if, header_sums, sums_of, with_section, AreWithin};
 
 use elf_descriptor::Elf;
 use elf_outside::Source;
@@ -71,19 +71,44 @@ fn size_if(counts: bool, size: u64) -> u128
     if counts { u128::from(size) } else { 0 }
 }
 
+/// The sums of no section.
+#[tactic(auto, unfolding(crate::specs::Sums::header_sums, crate::specs::Sums::size_of))]
+pub fn no_sums() -> Sums
+    ensures sums { result ≡ header_sums [] }
+    ensures within { AreWithin 0 result }
+{
+    Sums {
+        text: 0,
+        data: 0,
+        bss: 0,
+    }
+}
+
+/// Sums, and those of one section more.
+#[inline(always)]
+pub fn with_section(sums: Sums, h: &Shdr) -> Sums
+    requires { AreWithin (2 ^ 32) sums }
+    ensures sums { result ≡ with_section sums h.now }
+    ensures within { (n : ℕ) → AreWithin n sums → AreWithin (n + 1) result }
+{
+    let text = size_if(is_text(h), h.size);
+    let data = size_if(is_data(h), h.size);
+    let bss = size_if(is_bss(h), h.size);
+    Sums {
+        text: sums.text + text,
+        data: sums.data + data,
+        bss: sums.bss + bss,
+    }
+}
+
 /// The sums of the sections of an object. Nothing is read.
 pub fn sum_sections<S: Source>(elf: &Elf<S>) -> Sums
     ensures sums { result ≡ sums_of elf.now.o.sections }
     ensures within { AreWithin (2 ^ 32) result }
 {
-    let mut text: u128 = 0;
-    let mut data: u128 = 0;
-    let mut bss: u128 = 0;
+    let mut sums = no_sums();
     for s in 0..elf.shnum() {
-        let h = section_header(elf, ScnId(s));
-        text += size_if(is_text(&h), h.size);
-        data += size_if(is_data(&h), h.size);
-        bss += size_if(is_bss(&h), h.size);
+        sums = with_section(sums, &section_header(elf, ScnId(s)));
     }
-    Sums { text, data, bss }
+    sums
 }

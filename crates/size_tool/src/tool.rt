@@ -1,20 +1,41 @@
 //! The tool of the command size.
 
-ghost use Rattle.std.specs.Prelude.{◌≡◌, codes};
+ghost use Rattle.std.specs.Prelude.{◌≡◌, ◌^◌, codes};
 ghost use Rattle.tool_output.specs.Names.{file_name};
+ghost use Rattle.tool_output.specs.Reports.{Reports, shown};
+ghost use Rattle.tool_output.specs.Steps.{LeavesOutputs};
 ghost use Rattle.object_output.specs.Looks.{no_look};
 ghost use Rattle.object_output.specs.Shows.{ShowsElf};
+ghost use Rattle.size_tool.specs.Rows.{size_row};
+ghost use Rattle.size_tool.specs.Sums.{AreWithin, total_of};
 ghost use Rattle.size_tool.specs.Tool.{size_report};
 
+use crate::headers::sum_source;
 use crate::rows::SizeRow;
-use crate::sums::sum_sections;
+use crate::sums::{Sums, sum_sections};
 use elf_descriptor::Elf;
 use elf_outside::{Sink, Source};
-use object_output::{ObjectTool, show_object};
+use object_output::{ObjectTool, refuse, show_object};
 use std::alloc::Global;
 use tool_output::{FileName, Outputs, Stop};
 
-/// The tool of the command size. It asks for nothing but the front.
+/// Shows the row of the sums of an object.
+fn show_sums<O: Sink, E: Sink>(
+    sums: Sums,
+    name: &FileName<'_>,
+    outputs: &mut Outputs<'_, O, E>,
+) -> Result<bool, Stop>
+    requires { AreWithin (2 ^ 32) sums }
+    ensures reports { Reports O.Sink E.Sink result outputs.old outputs.new
+        (shown (size_row sums (total_of sums) name.now)) }
+    ensures leaves { LeavesOutputs O.Sink E.Sink ⊥ result outputs.old outputs.new }
+{
+    let total = sums.text + sums.data + sums.bss;
+    outputs.show(&SizeRow { sums, total, name })
+}
+
+/// The tool of the command size. It asks for nothing but the front, and of an image that no
+/// descriptor is over for no program headers either.
 #[derive(Clone, Copy)]
 pub struct SizeTool;
 
@@ -36,8 +57,27 @@ impl ObjectTool for SizeTool {
         outputs: &mut Outputs<'_, O, E>,
     ) -> Result<bool, Stop> {
         let sums = sum_sections(elf);
-        let total = sums.text + sums.data + sums.bss;
-        outputs.show(&SizeRow { sums, total, name })
+        show_sums(sums, name, outputs)
+    }
+
+    /// The same row as of a descriptor over the source, by the section headers alone.
+    fn show_source<S: Source, O: Sink, E: Sink>(
+        &self,
+        _alloc: Global,
+        mut src: S,
+        name: &FileName<'_>,
+        outputs: &mut Outputs<'_, O, E>,
+    ) -> (S, Result<bool, Stop>) {
+        match sum_source(&mut src) {
+            Ok(sums) => {
+                let shown = show_sums(sums, name, outputs);
+                (src, shown)
+            }
+            Err(e) => {
+                let refused = refuse(self.command(), name, e, outputs);
+                (src, refused)
+            }
+        }
     }
 }
 

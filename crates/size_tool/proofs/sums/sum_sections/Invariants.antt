@@ -1,11 +1,9 @@
-use Rattle.std.proofs.Common.{◌≡◌, take}
-use Rattle.size_tool.specs.Sums.{is_text, is_data, is_bss, size_of, AreWithin}
+use Rattle.std.proofs.Common.{◌≡◌, take, map}
+use Rattle.size_tool.specs.Sums.{header_sums, AreWithin}
 use Rattle.size_tool.proofs.sums.sum_sections.Given as goal
 
 abbrev pub invariant-loop-s : goal.invariant-loop-s
 invariant-loop-s g l = record {
-  text : l.text ≡ size_of is_text (take l.s l.elf.o.sections);
-  «data» : l.«data» ≡ size_of is_data (take l.s l.elf.o.sections);
-  bss : l.bss ≡ size_of is_bss (take l.s l.elf.o.sections);
-  within : AreWithin l.s (record { text = l.text; «data» = l.«data»; bss = l.bss });
+  sums : l.sums ≡ header_sums (take l.s (map (λ s. s.header) l.elf.o.sections));
+  within : AreWithin l.s l.sums;
 }
