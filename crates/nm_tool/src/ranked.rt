@@ -242,7 +242,8 @@ fn sort_by_keys(strings: &[u8], rows: &mut [Kept])
 #[inline(always)]
 fn run_end(rows: &[Kept], from: usize, key: u64) -> usize
     requires { from ≤ length rows.now }
-    ensures same { (i : ℕ) → from ≤ i → i < result → (d : TheKept) → (get_or rows.now i d).key ≡ key }
+    ensures same { (i : ℕ) → from ≤ i → i < result → (d : TheKept)
+        → (get_or rows.now i d).key ≡ key }
     ensures other { result < length rows.now → (d : TheKept)
         → (get_or rows.now result d).key ≡ key → ⊥ }
     ensures above { from ≤ result }

@@ -2,11 +2,11 @@
 
 ghost use Rattle.std.specs.Prelude.{◌≡◌, ◌++◌, ◌∷◌, ◌≤◌, [], codes, OnOk, IfErr};
 ghost use Rattle.elf_types.specs.Writers.{WantsMemory};
-ghost use Rattle.number_columns.specs.Columns.{number};
+ghost use Rattle.number_columns.specs.Columns.{number, spaces};
 ghost use Rattle.nm_tool.specs.Rows.{file_column, width_of, value_column, value_and_size, plain_row, portable_row, row_by, row_text};
 
 use elf_types::{Class, ElfError, Octets, Sym, put_bytes, put_text};
-use number_columns::{put_number, put_spaces, put_zero_filled};
+use number_columns::{put_number, put_zero_filled_before};
 use tool_output::{FileName, Line};
 use tool_text::{NmOptions, Radix};
 
@@ -52,15 +52,11 @@ fn put_letter(page: &mut Octets, letter: u8) -> Result<(), ElfError>
     put_bytes(page, &[b' ', letter])
 }
 
-/// Appends a letter between two spaces.
-#[tactic(auto, using(elf_types::proofs::Writers::kept))]
-fn put_between(page: &mut Octets, letter: u8) -> Result<(), ElfError>
-    ensures ok { OnOk result
-        (page.new ≡ page.old ++ (codes " " ++ (letter ∷ []) ++ codes " ")) }
-    ensures err { IfErr result (WantsMemory page.old page.new) }
-{
-    put_bytes(page, &[b' ', letter, b' '])
-}
+/// How many digits a value of class 32 has at least.
+const WIDTH_32: usize = 8;
+
+/// How many digits a value of class 64 has at least.
+const WIDTH_64: usize = 16;
 
 /// How many digits a value has at least.
 fn width_of(class: Class) -> usize
@@ -68,30 +64,46 @@ fn width_of(class: Class) -> usize
     ensures small { result ≤ 16 }
 {
     match class {
-        Class::C32 => 8,
-        Class::C64 => 16,
+        Class::C32 => WIDTH_32,
+        Class::C64 => WIDTH_64,
     }
 }
 
-/// Appends the value, or as many blanks where the symbol is undefined.
+/// Appends as many blanks as a value has places at least, and a letter between two spaces.
+#[tactic(auto, unfolding(number_columns::specs::Columns::spaces))]
+fn put_undefined(page: &mut Octets, class: Class, letter: u8) -> Result<(), ElfError>
+    ensures ok { OnOk result (page.new ≡ page.old
+        ++ (spaces (width_of class) ++ codes " " ++ (letter ∷ []) ++ codes " ")) }
+    ensures err { IfErr result (WantsMemory page.old page.new) }
+{
+    let mut text = [b' '; WIDTH_64 + 3];
+    text[WIDTH_64 + 1] = letter;
+    match class {
+        Class::C32 => put_bytes(page, &text[WIDTH_64 - WIDTH_32..]),
+        Class::C64 => put_bytes(page, &text),
+    }
+}
+
+/// Appends the value, or as many blanks where the symbol is undefined, and the letter between two
+/// spaces.
 #[tactic(auto, unfolding(crate::specs::Rows::value_column))]
-fn put_value(
+fn put_value_and_letter(
     page: &mut Octets,
     radix: Radix,
     class: Class,
     undefined: bool,
     value: u64,
+    letter: u8,
 ) -> Result<(), ElfError>
-    ensures ok { OnOk result
-        (page.new ≡ page.old ++ value_column radix class undefined value) }
+    ensures ok { OnOk result (page.new ≡ page.old ++ (value_column radix class undefined value
+        ++ codes " " ++ (letter ∷ []) ++ codes " ")) }
     ensures err { IfErr result (WantsMemory page.old page.new) }
 {
-    let width = width_of(class);
     if undefined {
-        put_spaces(page, width)
-    } else {
-        put_zero_filled(page, u128::from(value), radix, width)
+        return put_undefined(page, class, letter);
     }
+    let width = width_of(class);
+    put_zero_filled_before(page, u128::from(value), radix, width, [b' ', letter, b' '])
 }
 
 /// Appends a space and a number.
@@ -130,8 +142,8 @@ fn put_plain(page: &mut Octets, row: &SymbolRow<'_>) -> Result<(), ElfError>
     ensures err { IfErr result (WantsMemory page.old page.new) }
 {
     let radix = row.options.radix;
-    put_value(page, radix, row.class, row.undefined, row.symbol.value)?;
-    put_between(page, row.letter)?;
+    let value = row.symbol.value;
+    put_value_and_letter(page, radix, row.class, row.undefined, value, row.letter)?;
     put_bytes(page, row.name)?;
     put_text(page, "\n")
 }

@@ -4,7 +4,7 @@
 ghost use Rattle.std.specs.Prelude.{◌≡◌, ◌++◌, ◌≤◌, ℕ, length, OnOk, IfErr};
 ghost use Rattle.std.proofs.Math.ListN.{replicate};
 ghost use Rattle.elf_types.specs.Writers.{WantsMemory};
-ghost use Rattle.number_columns.specs.Columns.{number, spaces, padded, column, zero_filled};
+ghost use Rattle.number_columns.specs.Columns.{number, padded, column, zero_filled};
 
 use crate::digits::{MAX_DIGITS, fill_in};
 use elf_types::{ElfError, Octets, put_bytes};
@@ -13,24 +13,8 @@ use tool_text::Radix;
 /// The places of a column.
 const COLUMN: usize = 7;
 
-/// Appends so many copies of a byte.
-fn put_copies(page: &mut Octets, byte: u8, count: usize) -> Result<(), ElfError>
-    requires { count ≤ 16 }
-    ensures ok { OnOk result (page.new ≡ page.old ++ replicate count byte) }
-    ensures err { IfErr result (WantsMemory page.old page.new) }
-{
-    put_bytes(page, &[byte; 16][..count])
-}
-
-/// Appends so many spaces, at most sixteen.
-#[tactic(auto, unfolding(crate::specs::Columns::spaces))]
-pub fn put_spaces(page: &mut Octets, count: usize) -> Result<(), ElfError>
-    requires { count ≤ 16 }
-    ensures ok { OnOk result (page.new ≡ page.old ++ spaces count) }
-    ensures err { IfErr result (WantsMemory page.old page.new) }
-{
-    put_copies(page, b' ', count)
-}
+/// The bytes that are put behind a number at once with it.
+const BEHIND: usize = 3;
 
 /// Appends a number, right in so many places of at least `width`, by a buffer for its digits. What
 /// the buffer holds stands before them.
@@ -76,20 +60,44 @@ pub fn put_number(page: &mut Octets, n: u128, radix: Radix) -> Result<(), ElfErr
     put_filled(page, n, radix, b'0', 0)
 }
 
-/// Appends a number in a radix, of at least `width` digits: zeros stand before it where it has
-/// fewer.
-#[tactic(auto, unfolding(crate::specs::Columns::zero_filled))]
-pub fn put_zero_filled(
+/// Appends a number, right in so many places of at least `width`, and some bytes behind it, by a
+/// buffer for its digits and these. What the buffer holds stands before them.
+fn put_both_by(
     page: &mut Octets,
     n: u128,
     radix: Radix,
     width: usize,
+    behind: [u8; BEHIND],
+    buffer: &mut [u8],
 ) -> Result<(), ElfError>
-    requires { width ≤ 16 }
-    ensures ok { OnOk result (page.new ≡ page.old ++ zero_filled radix width n) }
+    requires len { length buffer.old ≡ 46 }
+    requires width { width ≤ 16 }
+    ensures ok { (byte : ℕ) → buffer.old ≡ replicate 46 byte
+        → OnOk result (page.new ≡ page.old ++ (padded byte width (number radix n) ++ behind)) }
     ensures err { IfErr result (WantsMemory page.old page.new) }
 {
-    put_filled(page, n, radix, b'0', width)
+    let (digits, rest) = buffer.split_at_mut(MAX_DIGITS);
+    let start = fill_in(n, radix, digits);
+    rest.copy_from_slice(&behind);
+    put_bytes(page, &buffer[start.min(MAX_DIGITS - width)..])
+}
+
+/// Appends a number in a radix, of at least `width` digits, with zeros before it where it has
+/// fewer, and three bytes behind it.
+#[tactic(auto, unfolding(crate::specs::Columns::zero_filled))]
+pub fn put_zero_filled_before(
+    page: &mut Octets,
+    n: u128,
+    radix: Radix,
+    width: usize,
+    behind: [u8; 3],
+) -> Result<(), ElfError>
+    requires { width ≤ 16 }
+    ensures ok { OnOk result (page.new ≡ page.old ++ (zero_filled radix width n ++ behind)) }
+    ensures err { IfErr result (WantsMemory page.old page.new) }
+{
+    let mut buffer = [b'0'; MAX_DIGITS + BEHIND];
+    put_both_by(page, n, radix, width, behind, &mut buffer)
 }
 
 /// Appends a number in a radix, right in seven places; one with more digits has them all.

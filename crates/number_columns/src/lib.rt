@@ -5,4 +5,4 @@
 pub mod columns;
 pub mod digits;
 
-pub use columns::{put_column, put_number, put_spaces, put_zero_filled};
+pub use columns::{put_column, put_number, put_zero_filled_before};
