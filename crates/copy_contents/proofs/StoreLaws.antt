@@ -10,7 +10,7 @@ use Rattle.elf_object.specs.Steps.{with_own, with_shdr, own_piece}
 use Rattle.object_laws.proofs.KeepLaws.{section_at_is}
 use Rattle.command_objects.specs.Words.{header_at}
 use Rattle.command_objects.specs.Copied.{CopyFault as StatedFault}
-use Rattle.strip_names.specs.declared.building.NewNames.{NewNames}
+use Rattle.copy_names.specs.declared.naming.NewNames.{NewNames}
 use Rattle.strip_contents.specs.declared.arranged.Arranged.{Arranged}
 use Rattle.copy_changes.specs.declared.faults.CopyFault.{CopyFault}
 use Rattle.copy_changes.specs.Stated.{stated_fault, IsUnread}

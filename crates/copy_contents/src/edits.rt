@@ -6,12 +6,13 @@ ghost use Rattle.elf_types.specs.Lists.{AreBytes};
 ghost use Rattle.strip_stream.specs.Fronts.{HoldsMore};
 ghost use Rattle.copy_contents.specs.Edits.{HasBytes, IsPushedLast};
 
-use elf_types::{Addrs, ElfError, List, Octets, Shdr, Shdrs, bytes_are_ranged};
+use elf_types::{Addrs, ElfError, List, Shdr, Shdrs, bytes_are_ranged};
 use image_ranges::ByteRange;
+use shared_bytes::SharedBytes;
 use strip_contents::Arranged;
 
 /// Holds bytes behind the others, and answers their range. It refuses `Memory` alone.
-pub(crate) fn hold_bytes(held: &mut Octets, bytes: &[u8]) -> Result<ByteRange, ElfError>
+pub(crate) fn hold_bytes(held: &mut SharedBytes, bytes: &[u8]) -> Result<ByteRange, ElfError>
     ensures ok { IfOk result (HoldsMore bytes.now held.old held.new) }
     ensures err { IfErr result (λ e. e ≡ Memory) }
     ensures bytes { AreBytes bytes.now }

@@ -8,7 +8,7 @@ ghost use Rattle.command_objects.specs.Copied.{names_in};
 ghost use Rattle.gelf_view.specs.Records.{string_front};
 ghost use Rattle.sought_names.specs.Names.{is_sought, AreUpTo};
 ghost use Rattle.sought_names.specs.Rows.{stands_under};
-ghost use Rattle.copy_contents.specs.Rows.{Origin, IsContents, header_in};
+ghost use Rattle.copy_contents.specs.Rows.{Origin, IsContents, header_in, HasNamesIn};
 ghost use Rattle.copy_contents.specs.Indexes.{IsIndexOf};
 
 use crate::rows::header_of;
@@ -117,8 +117,33 @@ fn index_section(
     }
 }
 
-/// Puts the sections from 1 on under their names. It refuses `Memory` alone.
+/// Puts the sections from 1 on under their names in a table. It refuses `Memory` alone.
+fn fill_from(
+    x: &Arranged,
+    table: &[u8],
+    longest: usize,
+    index: &mut NameIndex<'_>,
+) -> Result<(), ElfError>
+    requires up_to { AreUpTo longest index.old.sought }
+    requires none { (q : List ℕ) (t : ℕ) → stands_under index.old q t ≡ false }
+    ensures sought { index.new.sought ≡ index.old.sought }
+    ensures index { (o : Origin) (p : Object) → IsContents o p x.now → HasNamesIn x.now table.now
+        → OnOk result (IsIndexOf index.new (names_in p)) }
+    ensures err { IfErr result (λ e. e ≡ Memory) }
+{
+    for s in 1..x.listed.header.shnum {
+        match index_section(x, table, s, longest, index) {
+            Ok(()) => {}
+            Err(e) => return Err(e),
+        }
+    }
+    Ok(())
+}
+
+/// Puts the sections from 1 on under their names. It refuses `Memory` alone, and holds a copy of
+/// the table of the names meanwhile.
 pub(crate) fn fill_index(
+    alloc: Global,
     x: &Arranged,
     longest: usize,
     index: &mut NameIndex<'_>,
@@ -130,14 +155,10 @@ pub(crate) fn fill_index(
         → OnOk result (IsIndexOf index.new (names_in p)) }
     ensures err { IfErr result (λ e. e ≡ Memory) }
 {
-    let table = table_of(x);
-    for s in 1..x.listed.header.shnum {
-        match index_section(x, table, s, longest, index) {
-            Ok(()) => {}
-            Err(e) => return Err(e),
-        }
+    match table_of(alloc, x) {
+        Ok(table) => fill_from(x, table.as_slice(), longest, index),
+        Err(e) => Err(e),
     }
-    Ok(())
 }
 
 /// The sections by those of their names that are looked for. It refuses `Memory` alone. It looks at
@@ -156,7 +177,7 @@ pub(crate) fn index_names<'a>(
 {
     let longest = sought.longest();
     let mut index = NameIndex::new(alloc, sought);
-    match fill_index(x, longest, &mut index) {
+    match fill_index(alloc, x, longest, &mut index) {
         Ok(()) => Ok(index),
         Err(e) => Err(e),
     }

@@ -47,9 +47,10 @@ fn place_section(
     }
 }
 
-/// Adds the names of the sections from 1 on.
+/// Adds the names of the sections from 1 on, in a table.
 fn place_sections(
     x: &Arranged,
+    table: &[u8],
     marks: &List<u64>,
     changes: &Changes,
     making: &mut Making,
@@ -57,12 +58,11 @@ fn place_sections(
     requires plain { HasPlainNames changes.now }
     requires strings { making.old.strings ≡ [] }
     requires places { making.old.places ≡ 0 ∷ [] }
-    ensures added { (o : Origin) (p : Object) → IsContents o p x.now
+    ensures added { (o : Origin) (p : Object) → IsContents o p x.now → HasNamesIn x.now table.now
         → IfOk result (AddsTo (all_texts p marks.now changes.now)
         making.new.strings making.new.places (length p.sections - 1)) }
     ensures err { IfErr result (λ e. e ≡ Memory) }
 {
-    let table = table_of(x);
     for s in 1..x.listed.header.shnum {
         match place_section(x, table, s, marks, changes, making) {
             Ok(fits) => {
@@ -79,6 +79,7 @@ fn place_sections(
 /// Adds all names.
 fn place_all(
     x: &Arranged,
+    table: &[u8],
     marks: &List<u64>,
     changes: &Changes,
     making: &mut Making,
@@ -86,13 +87,13 @@ fn place_all(
     requires plain { HasPlainNames changes.now }
     requires strings { making.old.strings ≡ [] }
     requires places { making.old.places ≡ 0 ∷ [] }
-    ensures added { (o : Origin) (p : Object) → IsContents o p x.now
+    ensures added { (o : Origin) (p : Object) → IsContents o p x.now → HasNamesIn x.now table.now
         → IfOk result (AddsTo (all_texts p marks.now changes.now)
         making.new.strings making.new.places
         (length (all_texts p marks.now changes.now))) }
     ensures err { IfErr result (λ e. e ≡ Memory) }
 {
-    match place_sections(x, marks, changes, making) {
+    match place_sections(x, table, marks, changes, making) {
         Ok(fits) => {
             if !fits {
                 return Ok(false);
@@ -116,11 +117,15 @@ fn build_table(
         → IfOk result (IsBuilt (all_texts p marks.now changes.now)) }
     ensures err { IfErr result (λ e. e ≡ Memory) }
 {
+    let table = match table_of(alloc, x) {
+        Ok(table) => table,
+        Err(e) => return Err(e),
+    };
     let mut making = match begin_table(alloc) {
         Ok(making) => making,
         Err(e) => return Err(e),
     };
-    match place_all(x, marks, changes, &mut making) {
+    match place_all(x, table.as_slice(), marks, changes, &mut making) {
         Ok(fits) => finish_names(making, fits),
         Err(e) => Err(e),
     }

@@ -10,11 +10,10 @@ ghost use Rattle.copy_contents.specs.Steps.{AltersContents, BecomesContents};
 use crate::edits::{put_bytes, set_header};
 use crate::rows::header_of;
 use copy_changes::CopyFault;
-use copy_names::{Naming, place_at};
+use copy_names::{Naming, NewNames, place_at};
 use elf_object::occupies_file;
 use elf_types::{ElfError, Shdr, Words};
 use strip_contents::Arranged;
-use strip_names::NewNames;
 
 /// Stores the place of the name of a section.
 fn put_name(x: &mut Arranged, s: u32, place: u32)

@@ -76,6 +76,7 @@ fn update_at(alloc: Global, x: &mut Arranged, s: u32, change: &NameBytes) -> Res
 
 /// Puts the sections under their names anew, where a section got other bytes that holds the names.
 fn index_again(
+    alloc: Global,
     x: &Arranged,
     s: u32,
     longest: usize,
@@ -93,7 +94,7 @@ fn index_again(
         return Ok(());
     }
     index.clear();
-    match fill_index(x, longest, index) {
+    match fill_index(alloc, x, longest, index) {
         Ok(()) => Ok(()),
         Err(e) => Err(CopyFault::Strip(e)),
     }
@@ -119,7 +120,7 @@ fn update_found(
     ensures unread { IsUnread result }
 {
     match update_at(alloc, x, s, change) {
-        Ok(()) => index_again(x, s, longest, index),
+        Ok(()) => index_again(alloc, x, s, longest, index),
         Err(fault) => Err(fault),
     }
 }

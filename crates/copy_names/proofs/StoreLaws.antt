@@ -27,7 +27,7 @@ use Rattle.elf_descriptor.specs.State.{State}
 use Rattle.elf_descriptor.specs.Edits.{stepped}
 use Rattle.command_objects.specs.Words.{header_at}
 use Rattle.object_making.proofs.RefusedLaws.{alone, passes_first}
-use Rattle.strip_names.specs.declared.building.NewNames.{NewNames}
+use Rattle.copy_names.specs.declared.naming.NewNames.{NewNames}
 use Rattle.copy_edits.specs.Steps.{IsThere, KeepsIndex, Alters}
 use Rattle.copy_edits.proofs.StepLaws.{keeps_as, keeps_both}
 use Rattle.copy_names.specs.Stores.{placed_name, with_places, with_table}

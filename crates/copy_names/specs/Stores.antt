@@ -8,7 +8,7 @@ use Rattle.elf_object.specs.Object.{Object, Section}
 use Rattle.elf_object.specs.Steps.{with_own}
 use Rattle.command_objects.specs.Copied.{CopyFault as StatedFault}
 use Rattle.command_objects.specs.Rebuilt.{table_refusal}
-use Rattle.strip_names.specs.declared.building.NewNames.{NewNames}
+use Rattle.copy_names.specs.declared.naming.NewNames.{NewNames}
 use Rattle.copy_edits.specs.Steps.{IsThere}
 use Rattle.copy_names.specs.declared.naming.Naming.{Naming}
 use Rattle.copy_names.specs.declared.naming.Naming.TheVariants.{Stay, NoTable, TooLarge, Anew}

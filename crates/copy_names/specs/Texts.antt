@@ -6,7 +6,7 @@ use Rattle.strtab_build.specs.Table.{distinct, table, place_of}
 use Rattle.elf_object.specs.Object.{Object}
 use Rattle.elf_object.specs.Strings.{or_empty_name}
 use Rattle.command_objects.specs.Rebuilt.{table_refusal}
-use Rattle.strip_names.specs.declared.building.NewNames.{NewNames}
+use Rattle.copy_names.specs.declared.naming.NewNames.{NewNames}
 use Rattle.copy_changes.specs.declared.changes.Changes.{Changes}
 use Rattle.copy_changes.specs.Stated.{stated_changes}
 use Rattle.copy_edits.specs.Names.{names_now}

@@ -10,14 +10,13 @@ ghost use Rattle.copy_changes.specs.Stated.{bytes_pair, HasPlainNames, stated_ch
 ghost use Rattle.copy_names.specs.Texts.{all_texts, AreAdded, AddsTo};
 ghost use Rattle.copy_names.specs.Stores.{IsBuilt, IsNaming};
 
-use crate::naming::Naming;
+use crate::naming::{Naming, NewNames};
 use crate::placing::{Making, place_section, place_text};
 use copy_changes::{Changes, NameBytes};
 use elf_descriptor::Elf;
 use elf_outside::Source;
 use elf_types::{ElfError, List, ScnId};
 use std::alloc::Global;
-use strip_names::NewNames;
 use strtab_build::Strings;
 
 /// Adds the names of the sections from 1 on, and answers whether the table is not too large.

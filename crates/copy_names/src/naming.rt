@@ -1,6 +1,15 @@
 //! What becomes of the names of sections.
 
-use strip_names::NewNames;
+use elf_types::{Octets, Words};
+
+/// The table of the names of all sections.
+#[derive(Drop)]
+pub struct NewNames {
+    /// The table's bytes.
+    pub table: Octets,
+    /// For each section by its number the place of its name in the table, in bytes.
+    pub places: Words,
+}
 
 /// What becomes of the names.
 #[derive(Drop)]

@@ -9,13 +9,12 @@ ghost use Rattle.command_objects.specs.Words.{header_at};
 ghost use Rattle.copy_edits.specs.Steps.{IsThere, Alters};
 ghost use Rattle.copy_names.specs.Stores.{with_places, with_table, named_by, HasTable};
 
-use crate::naming::Naming;
+use crate::naming::{Naming, NewNames};
 use copy_changes::CopyFault;
 use elf_descriptor::Elf;
 use elf_outside::Source;
 use elf_types::{DataId, ElfError, Octets, ScnId, Shdr, Words};
 use elf_xlate::Items;
-use strip_names::NewNames;
 
 /// The place of a section's name in a table, in bytes, and 0 where none is told.
 pub fn place_at(places: &Words, s: u32) -> u32

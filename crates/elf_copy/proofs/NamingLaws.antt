@@ -14,7 +14,7 @@ use Rattle.elf_descriptor.specs.State.{State}
 use Rattle.command_objects.specs.Words.{in_turn}
 use Rattle.command_objects.specs.Rebuilt.{table_refusal}
 use Rattle.command_objects.specs.Copied.{CopyFault as StatedFault, or_strip, with_added, with_section_flags, named_section, with_names, named, changes_names}
-use Rattle.strip_names.specs.declared.building.NewNames.{NewNames}
+use Rattle.copy_names.specs.declared.naming.NewNames.{NewNames}
 use Rattle.copy_changes.specs.declared.changes.Changes.{Changes}
 use Rattle.copy_changes.specs.declared.faults.CopyFault.{CopyFault}
 use Rattle.copy_changes.specs.Stated.{stated_changes}

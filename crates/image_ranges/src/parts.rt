@@ -4,11 +4,12 @@ ghost use Rattle.std.specs.Prelude.{◌≡◌, ℕ, List, ◌<◌, ◌+◌, ◌^
 ghost use Rattle.elf_update.specs.Origins.{absent_piece, CopiesBy, IsExtent};
 ghost use Rattle.image_ranges.specs.Ranges.{IsInside, LiesInside, range_bytes, pieces_at, piece_due, bytes_of_source, kept_of_source, source_faults, source_taken};
 
-use crate::ranges::{ByteRange, PartRanges, copy_held, range_at};
+use crate::ranges::{ByteRange, PartRanges, range_at};
 use elf_outside::Source;
 use elf_outside::reads::read;
-use elf_types::{ElfError, Octets, Part};
+use elf_types::{ElfError, Part};
 use elf_update::{ImageParts, Origin, PieceExtent};
+use shared_bytes::SharedBytes;
 
 /// The parts of an image: each is one piece, a range of the bytes that are held or of those of a
 /// source, which are the base. Between the parts stand the first bytes of that base.
@@ -17,7 +18,7 @@ pub struct RangedParts<S: Source> {
     /// The source from which it is copied.
     pub source: S,
     /// The bytes that are held.
-    pub held: Octets,
+    pub held: SharedBytes,
     /// The ranges of the parts.
     pub ranges: PartRanges,
     /// How many first bytes of the base stand between the parts.
@@ -48,7 +49,7 @@ fn copy_source<S: Source>(src: &mut S, at: u64, buf: &mut [u8]) -> Result<(), El
 /// and takes no memory.
 fn copy_range<S: Source>(
     src: &mut S,
-    held: &Octets,
+    held: &SharedBytes,
     range: ByteRange,
     from: u64,
     buf: &mut [u8],
@@ -65,7 +66,7 @@ fn copy_range<S: Source>(
     if range.held {
         let _count = held.len();
         let place = range.at + from;
-        copy_held(held.as_slice(), place, buf);
+        held.copy_at(place, buf);
         return Ok(());
     }
     let _len = base_len(src);
@@ -77,7 +78,7 @@ fn copy_range<S: Source>(
 /// on into the whole of `buf`. It refuses `Read` alone and takes no memory.
 fn copy_some<S: Source>(
     src: &mut S,
-    held: &Octets,
+    held: &SharedBytes,
     range: Option<ByteRange>,
     p: u32,
     from: u64,
@@ -105,7 +106,7 @@ fn copy_some<S: Source>(
 /// The same of any number of bytes.
 fn copy_piece<S: Source>(
     src: &mut S,
-    held: &Octets,
+    held: &SharedBytes,
     range: Option<ByteRange>,
     p: u32,
     from: u64,

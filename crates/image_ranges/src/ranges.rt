@@ -1,6 +1,6 @@
 //! Where the bytes of an image's parts are.
 
-ghost use Rattle.std.specs.Prelude.{◌≡◌, ◌+◌, ◌≤◌, length, take, drop};
+ghost use Rattle.std.specs.Prelude.{◌≡◌};
 ghost use Rattle.image_ranges.specs.Ranges.{range_at};
 
 use elf_types::{List, Part};
@@ -42,14 +42,4 @@ pub fn range_at(ranges: &PartRanges, part: Part) -> Option<ByteRange>
         Part::Object => None,
         Part::Piece(_, _) => None,
     }
-}
-
-/// Copies the bytes from the place `at` on into the whole of `buf`.
-pub(crate) fn copy_held(bytes: &[u8], at: u64, buf: &mut [u8])
-    requires { at + length buf.old ≤ length bytes.now }
-    ensures { buf.new ≡ take (length buf.old) (drop at bytes.now) }
-{
-    let start = at as usize;
-    let range = &bytes[start..start + buf.len()];
-    buf.copy_from_slice(range);
 }

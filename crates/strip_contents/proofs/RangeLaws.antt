@@ -8,6 +8,8 @@ use Rattle.elf_types.specs.declared.records.Ehdr.{Ehdr}
 use Rattle.elf_types.specs.declared.errors.ElfError.{ElfError}
 use Rattle.elf_types.specs.declared.errors.ElfError.TheVariants.{Memory, OutOfFile}
 use Rattle.elf_types.specs.Answers.{refused_if}
+use Rattle.elf_types.specs.Lists.{AreBytes}
+use Rattle.elf_outside.specs.Asks.{ReadRose}
 use Rattle.elf_outside.specs.declared.sources.Source.{Ghosts}
 use Rattle.elf_xlate.specs.declared.content.Items.{Items}
 use Rattle.elf_xlate.specs.declared.content.Items.TheVariants as items
@@ -31,7 +33,7 @@ use Rattle.strip_rebuild.specs.declared.naming.Names.{Names}
 use Rattle.strip_rebuild.specs.declared.naming.Names.TheVariants.{Stay, Anew, TooLarge}
 use Rattle.strip_rebuild.specs.declared.keepers.Keeper.{Keeper}
 use Rattle.strip_rebuild.specs.Homes.{home_refusal}
-use Rattle.strip_rebuild.specs.Keepers.{indexes_by, kept_by, items_or_names, items_by, follows_by, is_renewed, makes_by, kept_refusal_by, refusal_or_none, refusal_by, reads_by}
+use Rattle.strip_rebuild.specs.Keepers.{indexes_by, kept_by, items_or_names, items_by, follows_by, is_renewed, makes_by, kept_refusal_by, refusal_or_none, refusal_by, reads_by, HasTable}
 use Rattle.strip_rebuild.specs.Makes.{AsksFor}
 use Rattle.strip_rebuild.proofs.AskLaws.{asks_looks, asks_nothing}
 use Rattle.strip_rebuild.proofs.HomeLaws.{raw_there}
@@ -231,4 +233,41 @@ module _ {S : Type 0} (g : Ghosts S) (k : Keeper) (s : ℕ) (old new : State S)
     err = by;
     asks = asks_made (Err e)
         (one_unread {T = Items} {U = ByteRange} g e old new (λ o. reads_by k o s) looks);
+  }
+
+-- ---- The table of the names
+
+rose_none : {T : Type 0} (q : Result T ElfError) (a b : ℕ) → IfErr q (λ e. e ≡ Memory)
+    → ReadRose q a b
+rose_none (Ok x) a b only = tt
+rose_none {T} (Err e) a b only =
+    subst (λ (d : ElfError). ReadRose {T = T} (Err d) a b) (sym only) tt
+
+module _ {S : Type 0} (g : Ghosts S) (k : Keeper) (s : ℕ) (state : State S)
+    (table held next : List ℕ) (has : HasTable k state.o s table) (are : AreBytes table) where
+  table_bytes : bytes_by k state.o s ≡ table
+  unfolding bytes_by
+  table_bytes =
+      ap (encoded state.o.header.class state.o.header.order) has.is
+      ∙ bytes_encoded state.o.header.class state.o.header.order table are
+
+  range_of_table : (range : ByteRange) → HoldsMore table held next range
+      → IsRangeOf state.told state.o.base (bytes_by k state.o s) held next range
+  range_of_table range holds = record {
+    added = table;
+    all = holds.all;
+    long = λ t. holds.len ∙ ap (λ (l : List ℕ). length l) (sym table_bytes);
+    is = λ t later.
+        held_bytes_stay table held next later state.o.base range holds ∙ sym table_bytes;
+  }
+
+  pub table_found : (q : Result ByteRange ElfError) → IfOk q (HoldsMore table held next)
+      → IfErr q (λ e. e ≡ Memory) → FindsRange g k s q state state held next
+  table_found q holds only = record {
+    ok = IfOk-weaker q (HoldsMore table held next)
+        (IsRangeOf state.told state.o.base (bytes_by k state.o s) held next) range_of_table holds;
+    passed = passes_on q (refusal_by k state.o s ≡ None) has.passed;
+    err = memory_unread q (refusal_by k state.o s) only;
+    asks = asks_nothing g q state (making_due k state.o s)
+        (rose_none q (g.faults state.source) (g.faults state.source) only);
   }

@@ -1,8 +1,9 @@
 //! Listed headers with their places, and where the bytes of the sections are.
 
-use elf_types::{List, Octets};
+use elf_types::List;
 use image_ranges::ByteRange;
 use listed_layout::Listed;
+use shared_bytes::SharedBytes;
 
 /// What was kept of sections, with the places of what stands behind the base of a program.
 #[derive(Drop)]
@@ -12,7 +13,7 @@ pub struct Arranged {
     /// The range of each section.
     pub ranges: List<ByteRange>,
     /// The bytes that are held.
-    pub held: Octets,
+    pub held: SharedBytes,
     /// The place from which on what is not loaded stands, where there is one.
     pub tail: Option<u64>,
 }

@@ -5,8 +5,9 @@ ghost use Rattle.elf_types.specs.declared.errors.ElfError.TheVariants.{Memory};
 ghost use Rattle.strip_contents.specs.Contents.{IsPushed, IsPutBehind, HasFirst, kept_size};
 
 use elf_object::occupies_file;
-use elf_types::{Addrs, ElfError, List, NULL_SECTION, Octets, Shdr, Shdrs};
+use elf_types::{Addrs, ElfError, List, NULL_SECTION, Shdr, Shdrs};
 use image_ranges::ByteRange;
+use shared_bytes::SharedBytes;
 use std::alloc::Global;
 
 /// The headers of the sections of a new image, how many bytes each has in the file, and where these
@@ -20,7 +21,7 @@ pub struct Contents {
     /// The range of each.
     pub ranges: List<ByteRange>,
     /// The bytes that are held.
-    pub held: Octets,
+    pub held: SharedBytes,
 }
 
 impl Contents {
@@ -35,7 +36,7 @@ impl Contents {
             headers: List::new(alloc),
             sizes: List::new(alloc),
             ranges: List::new(alloc),
-            held: List::new(alloc),
+            held: SharedBytes::new(alloc),
         }
     }
 

@@ -12,9 +12,10 @@ use crate::segments::list_segments;
 use elf_descriptor::Elf;
 use elf_outside::Source;
 use elf_types::constants::EV_CURRENT;
-use elf_types::{Ehdr, ElfError, List, Octets};
+use elf_types::{Ehdr, ElfError, List};
 use image_ranges::{ByteRange, PartRanges};
 use listed_layout::Listed;
+use shared_bytes::SharedBytes;
 use std::alloc::Global;
 use strip_stream::{Streamed, stream_listed};
 
@@ -36,7 +37,7 @@ fn new_header<S: Source>(elf: &Elf<S>, index: u32, count: u32) -> Ehdr
 }
 
 /// The plan of what was planned and held of listed headers, and of the ranges of the sections.
-fn plan_of(held: Octets, ranges: List<ByteRange>, kept: u64, streamed: Streamed) -> RangedPlan
+fn plan_of(held: SharedBytes, ranges: List<ByteRange>, kept: u64, streamed: Streamed) -> RangedPlan
     ensures { result ≡ plan_of held ranges kept streamed }
 {
     let front = streamed.front;
@@ -62,7 +63,7 @@ fn plan_copied<S: Source>(
     elf: &Elf<S>,
     x: Listed,
     ranges: List<ByteRange>,
-    held: Octets,
+    held: SharedBytes,
     tail: Option<u64>,
 ) -> Result<RangedPlan, ElfError>
     requires few { length x.headers ≤ MAX_SECTIONS }

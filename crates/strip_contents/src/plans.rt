@@ -1,14 +1,14 @@
 //! The plan of an image that is made anew.
 
 use elf_layout::Parts;
-use elf_types::Octets;
 use image_ranges::PartRanges;
+use shared_bytes::SharedBytes;
 
 /// What an image is copied from besides the base of a descriptor, and where its parts stand.
 #[derive(Drop)]
 pub struct RangedPlan {
     /// The bytes that are held.
-    pub held: Octets,
+    pub held: SharedBytes,
     /// The ranges of the parts, of these bytes and of the base.
     pub ranges: PartRanges,
     /// How many first bytes of the base stand between the parts.

@@ -5,7 +5,7 @@ ghost use Rattle.elf_types.specs.declared.errors.ElfError.TheVariants.{Memory, R
 ghost use Rattle.elf_xlate.specs.Translation.{encoded};
 ghost use Rattle.elf_object.specs.Object.{is_dirty};
 ghost use Rattle.elf_object.specs.Valid.{IsObject, IsTied};
-ghost use Rattle.strip_rebuild.specs.Keepers.{makes_by};
+ghost use Rattle.strip_rebuild.specs.Keepers.{makes_by, HasTable};
 ghost use Rattle.strip_rebuild.specs.Makes.{AsksFor};
 ghost use Rattle.strip_tables.specs.Rows.{AreInBase, rows_made, tables_due};
 ghost use Rattle.strip_contents.specs.Ranges.{IsRangeOf, FindsRange};
@@ -13,12 +13,13 @@ ghost use Rattle.strip_contents.specs.Ranges.{IsRangeOf, FindsRange};
 use crate::homes::home_range;
 use elf_descriptor::Elf;
 use elf_outside::Source;
-use elf_types::{ElfError, Octets, ScnId};
+use elf_types::{ElfError, ScnId};
 use image_ranges::ByteRange;
 use object_making::SectionMaker;
+use shared_bytes::SharedBytes;
 use strip_items::Numbering;
 use strip_rebuild::Keeper;
-use strip_stream::hold_items;
+use strip_stream::{hold_items, hold_shared};
 use strip_tables::{FollowedRows, find_rows, hold_rows};
 
 /// The range of the items that are made of a section that is there, whose file form is held behind
@@ -27,7 +28,7 @@ fn items_range<S: Source>(
     keeper: &Keeper<'_>,
     elf: &mut Elf<S>,
     s: ScnId,
-    held: &mut Octets,
+    held: &mut SharedBytes,
 ) -> Result<ByteRange, ElfError>
     requires there { s.0 < length elf.old.o.sections }
     requires makes { makes_by keeper.now elf.old.o s.0 ≡ true }
@@ -40,8 +41,41 @@ fn items_range<S: Source>(
     }
 }
 
+/// The range of the table of the names that are made anew, whose text is held behind the others.
+fn names_range<S: Source>(
+    keeper: &Keeper<'_>,
+    elf: &Elf<S>,
+    s: ScnId,
+    table: &SharedBytes,
+    held: &mut SharedBytes,
+) -> Result<ByteRange, ElfError>
+    requires table { HasTable keeper.now elf.now.o s.0 table.now }
+    ensures { FindsRange S.Source keeper.now s.0 result elf.now elf.now held.old held.new }
+{
+    table.are_ranged();
+    hold_shared(held, table)
+}
+
+/// The range of what is made of a section that is there, whose file form is held behind the others:
+/// of the table of the names for their section, and else of its items.
+fn names_or_items<S: Source>(
+    keeper: &Keeper<'_>,
+    elf: &mut Elf<S>,
+    s: ScnId,
+    held: &mut SharedBytes,
+) -> Result<ByteRange, ElfError>
+    requires there { s.0 < length elf.old.o.sections }
+    requires makes { makes_by keeper.now elf.old.o s.0 ≡ true }
+    ensures { FindsRange S.Source keeper.now s.0 result elf.old elf.new held.old held.new }
+{
+    match keeper.new_table(elf, s) {
+        Some(table) => names_range(keeper, elf, s, table, held),
+        None => items_range(keeper, elf, s, held),
+    }
+}
+
 /// The range of the bytes that are held from a place on.
-fn range_from(held: &Octets, at: u64) -> ByteRange
+fn range_from(held: &SharedBytes, at: u64) -> ByteRange
     requires { at ≤ length held.now }
     ensures held { result.held ≡ true }
     ensures at { result.at ≡ at }
@@ -60,7 +94,7 @@ fn rows_range<S: Source>(
     elf: &mut Elf<S>,
     numbering: &Numbering,
     x: FollowedRows,
-    held: &mut Octets,
+    held: &mut SharedBytes,
 ) -> Result<ByteRange, ElfError>
     requires inside { AreInBase elf.old.o.base x }
     ensures ok { IfOk result (IsRangeOf elf.old.told elf.old.o.base
@@ -82,7 +116,7 @@ fn made_range<S: Source>(
     keeper: &Keeper<'_>,
     elf: &mut Elf<S>,
     s: ScnId,
-    held: &mut Octets,
+    held: &mut SharedBytes,
 ) -> Result<ByteRange, ElfError>
     requires there { s.0 < length elf.old.o.sections }
     requires object { IsObject elf.old.o }
@@ -93,7 +127,7 @@ fn made_range<S: Source>(
 {
     match find_rows(keeper, elf, s) {
         Some(x) => rows_range(elf, &keeper.numbering, x, held),
-        None => items_range(keeper, elf, s, held),
+        None => names_or_items(keeper, elf, s, held),
     }
 }
 
@@ -104,7 +138,7 @@ pub(crate) fn find_range<S: Source>(
     keeper: &Keeper<'_>,
     elf: &mut Elf<S>,
     s: ScnId,
-    held: &mut Octets,
+    held: &mut SharedBytes,
 ) -> Result<ByteRange, ElfError>
     requires there { s.0 < length elf.old.o.sections }
     requires object { IsObject elf.old.o }

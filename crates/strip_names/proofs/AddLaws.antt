@@ -63,3 +63,14 @@ added_at old new name places more None (Ok fits) large placed =
 added_at old new name places more (Some place) (Ok fits) added placed =
     subst (λ (b : Bool). IsAddedAt old new places more name b) (sym placed.0)
     (added.0, placed.1 ∙ ap (λ (k : ℕ). places ++ k ∷ []) added.1, added.2)
+
+-- over other words for what was before
+pub placed_as : (old mid new : List (List ℕ)) (places between more name copy : List ℕ)
+    (r : Result Bool ElfError) → mid ≡ old → between ≡ places → copy ≡ name
+    → IfOk r (λ fits. IsAddedAt mid new between more copy fits)
+    → IfOk r (λ fits. IsAddedAt old new places more name fits)
+placed_as old mid new places between more name copy r strings_are places_are copy_is placed =
+    subst (λ (l : List ℕ). IfOk r (λ fits. IsAddedAt old new places more l fits)) copy_is
+    (subst (λ (l : List ℕ). IfOk r (λ fits. IsAddedAt old new l more copy fits)) places_are
+    (subst (λ (l : List (List ℕ)). IfOk r (λ fits. IsAddedAt l new between more copy fits))
+    strings_are placed))

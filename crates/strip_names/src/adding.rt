@@ -5,7 +5,7 @@ ghost use Rattle.elf_types.specs.declared.errors.ElfError.TheVariants.{Memory};
 ghost use Rattle.strip_names.specs.Names.{is_too_large, IsAdded, IsPlaced, IsAddedAt};
 
 use elf_types::{ElfError, Words};
-use strtab_build::Strings;
+use shared_strings::SharedStrings;
 
 /// Whether an error says that a table is too large.
 fn is_too_large(e: &ElfError) -> bool
@@ -25,14 +25,14 @@ fn none_if_too_large(e: ElfError) -> Result<Option<u32>, ElfError>
     Err(e)
 }
 
-/// Adds a name to a table, and answers its place, or None where the table would be too large. It
-/// refuses `Memory` alone.
-fn add_name(strings: &mut Strings, name: &[u8]) -> Result<Option<u32>, ElfError>
+/// Adds a name to a table, which may stand at a place of the text that it holds, and answers its
+/// place in the table, or None where the table would be too large. It refuses `Memory` alone.
+fn add_name(strings: &mut SharedStrings, name: &[u8], near: u64) -> Result<Option<u32>, ElfError>
     requires { All (λ b. b ≢ 0) name.now }
     ensures added { IfOk result (IsAdded strings.old strings.new name.now) }
     ensures err { IfErr result (λ e. e ≡ Memory) }
 {
-    match strings.add(name) {
+    match strings.add(name, near) {
         Ok(place) => Ok(Some(place)),
         Err(e) => none_if_too_large(e),
     }
@@ -61,19 +61,21 @@ fn push_place(places: &mut Words, place: Option<u32>) -> Result<bool, ElfError>
     }
 }
 
-/// Adds a name to a table, appends its place to others, and answers whether the table is not too
-/// large. It refuses `Memory` alone.
+/// Adds a name to a table, which may stand at a place of the text that it holds, appends its place
+/// in the table to others, and answers whether the table is not too large. It refuses `Memory`
+/// alone.
 pub(crate) fn place_name(
-    strings: &mut Strings,
+    strings: &mut SharedStrings,
     places: &mut Words,
     name: &[u8],
+    near: u64,
 ) -> Result<bool, ElfError>
     requires { All (λ b. b ≢ 0) name.now }
     ensures placed { IfOk result (λ fits. IsAddedAt strings.old strings.new places.old places.new
         name.now fits) }
     ensures err { IfErr result (λ e. e ≡ Memory) }
 {
-    match add_name(strings, name) {
+    match add_name(strings, name, near) {
         Ok(place) => push_place(places, place),
         Err(e) => Err(e),
     }

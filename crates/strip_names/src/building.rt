@@ -1,28 +1,29 @@
 //! The table of the names, section by section.
 
-ghost use Rattle.std.specs.Prelude.{◌≡◌, ◌<◌, ◌⊎◌, [], true, false, length, IsTrue, IfOk, IfErr};
+ghost use Rattle.std.specs.Prelude.{◌≡◌, ◌≢◌, ◌<◌, ◌⊎◌, [], true, false, length, All, IsTrue, IfOk, IfErr};
 ghost use Rattle.elf_types.specs.declared.errors.ElfError.TheVariants.{Memory, TooLarge};
 ghost use Rattle.elf_object.specs.Words.{AnswersRead};
 ghost use Rattle.elf_descriptor.specs.Reads.{Queries, wanted};
 ghost use Rattle.strip_removed.specs.Calls.{ReadsNames};
-ghost use Rattle.strip_names.specs.Names.{AreNamed, AddsSection, HasNames, IsFinished};
+ghost use Rattle.strip_names.specs.Names.{AreNamed, AddsSection, HasNames, IsAddedAt, IsFinished};
 ghost use Rattle.strip_names.specs.Calls as calls;
 
 use crate::adding::place_name;
 use crate::copying::copy_name;
-use elf_descriptor::Elf;
+use elf_descriptor::{Elf, Held};
 use elf_outside::Source;
-use elf_types::{ElfError, List, Octets, ScnId, Words};
+use elf_types::{DataId, ElfError, List, Octets, ScnId, Words};
+use shared_bytes::SharedBytes;
+use shared_strings::SharedStrings;
 use std::alloc::Global;
 use strip_kept::is_kept;
 use strip_removed::SectionSet;
-use strtab_build::Strings;
 
 /// The table of the names of the sections that are kept.
 #[derive(Drop)]
 pub struct NewNames {
-    /// The table's bytes.
-    pub table: Octets,
+    /// The table's bytes: names that share one NUL in the old table are held once.
+    pub table: SharedBytes,
     /// For each section by its old number the place of its name in the table, in bytes; 0 for
     /// section 0 and for one that is removed.
     pub places: Words,
@@ -32,11 +33,79 @@ pub struct NewNames {
 #[derive(Drop)]
 struct Making {
     /// The names.
-    strings: Strings,
+    strings: SharedStrings,
     /// The place of the name of each section so far.
     places: Words,
     /// The name that is added, a copy.
     copy: Octets,
+    /// Whether `strings` holds the text of the old table.
+    begun: bool,
+}
+
+/// The bytes of the old table, where they are at hand. Nothing but the memory depends on them.
+fn old_table<S: Source>(elf: &Elf<S>) -> Option<&[u8]> {
+    let d = DataId {
+        section: elf.shstrndx(),
+        piece: 0,
+    };
+    match elf.held(d) {
+        Ok(Held::Raw(bytes)) => Some(bytes),
+        Ok(Held::Edited(_)) => None,
+        Ok(Held::Unread) => None,
+        Err(_) => None,
+    }
+}
+
+/// Holds the text of the old table, in which the names stand, once the new one is as long. It
+/// refuses `Memory` alone.
+fn hold_text(making: &mut Making, text: &[u8]) -> Result<(), ElfError>
+    ensures strings { making.new.strings ≡ making.old.strings }
+    ensures places { making.new.places ≡ making.old.places }
+    ensures copy { making.new.copy ≡ making.old.copy }
+    ensures err { IfErr result (λ e. e ≡ Memory) }
+{
+    if making.strings.len() < text.len() as u64 {
+        return Ok(());
+    }
+    making.begun = true;
+    making.strings.hold(text)
+}
+
+/// The same where that was not done.
+fn begin_text<S: Source>(elf: &Elf<S>, making: &mut Making) -> Result<(), ElfError>
+    ensures strings { making.new.strings ≡ making.old.strings }
+    ensures places { making.new.places ≡ making.old.places }
+    ensures copy { making.new.copy ≡ making.old.copy }
+    ensures err { IfErr result (λ e. e ≡ Memory) }
+{
+    if making.begun {
+        return Ok(());
+    }
+    match old_table(elf) {
+        Some(text) => hold_text(making, text),
+        None => Ok(()),
+    }
+}
+
+/// Adds the name that was copied of a section that is there, and answers whether the table is not
+/// too large. It refuses `Memory` alone.
+fn place_copied<S: Source>(elf: &Elf<S>, s: ScnId, making: &mut Making) -> Result<bool, ElfError>
+    requires there { s.0 < length elf.now.o.sections }
+    requires plain { All (λ b. b ≢ 0) making.old.copy }
+    ensures placed { IfOk result (λ fits. IsAddedAt making.old.strings making.new.strings
+        making.old.places making.new.places making.old.copy fits) }
+    ensures err { IfErr result (λ e. e ≡ Memory) }
+{
+    let near = elf.section_header(s).name;
+    match begin_text(elf, making) {
+        Ok(()) => place_name(
+            &mut making.strings,
+            &mut making.places,
+            making.copy.as_slice(),
+            u64::from(near),
+        ),
+        Err(e) => Err(e),
+    }
 }
 
 /// Adds the name of a section that is there and kept, and answers whether the table is not too
@@ -49,11 +118,7 @@ fn add_kept<S: Source>(elf: &mut Elf<S>, s: ScnId, making: &mut Making) -> Resul
 {
     making.copy.truncate(0);
     match copy_name(elf, s, &mut making.copy) {
-        Ok(()) => place_name(
-            &mut making.strings,
-            &mut making.places,
-            making.copy.as_slice(),
-        ),
+        Ok(()) => place_copied(elf, s, making),
         Err(e) => Err(e),
     }
 }
@@ -114,6 +179,7 @@ fn finish(making: Making) -> Result<NewNames, ElfError>
         strings,
         places,
         copy: _copy,
+        begun: _begun,
     } = making;
     match strings.finish() {
         Ok(table) => Ok(NewNames { table, places }),
@@ -149,9 +215,10 @@ pub fn build_names<S: Source>(
     ensures queries { Queries S.Source (calls.new_names removed.now) [] result elf.old elf.new }
 {
     let mut making = Making {
-        strings: Strings::new(alloc),
+        strings: SharedStrings::new(alloc),
         places: List::new(alloc),
         copy: List::new(alloc),
+        begun: false,
     };
     match add_all(elf, removed, &mut making) {
         Ok(fits) => finish_if(making, fits),

@@ -4,6 +4,7 @@ pub mod DecodeLaws
 pub mod MakeLaws
 pub mod HomeLaws
 pub mod KeeperLaws
+pub mod TableLaws
 pub mod AskLaws
 pub mod NameLaws
 pub mod NumberLaws

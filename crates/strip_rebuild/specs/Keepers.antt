@@ -105,6 +105,19 @@ reads_by k o s =
     else (if members_follow o s then s ∷ []
     else (if indexes_by k o s then s ∷ (header_at o s).link ∷ [] else s ∷ []))
 
+-- ---- The table of the names
+
+-- a table is the one that is made anew, where a section is the one that holds it
+abbrev pub IsTableIn : Names → Bool → List ℕ → Type 0
+IsTableIn (Anew names) is_names table = (is_names ≡ true) × (table ≡ names.table)
+IsTableIn Stay is_names table = ⊥
+IsTableIn TooLarge is_names table = ⊥
+
+-- it is all that is made of a section
+pub record HasTable (k : Keeper) (o : Object) (s : ℕ) (table : List ℕ) : Type 0 where
+  pub is : items_by k o s ≡ items.Bytes table
+  pub passed : refusal_by k o s ≡ None
+
 -- ---- The header
 
 abbrev pub index_by : Keeper → Object → ℕ

@@ -11,6 +11,7 @@ use elf_descriptor::Elf;
 use elf_outside::Source;
 use elf_types::{Class, DataId, ElfError, Kind, List, Octets, Order, ScnId, Syms, Words};
 use elf_xlate::{Items, XlateError, to_memory};
+use shared_bytes::SharedBytes;
 use std::alloc::Global;
 
 /// The refusal of a translation, as that of the section with a number.
@@ -100,6 +101,17 @@ pub(crate) fn copy_items(alloc: Global, bytes: &[u8]) -> Result<Items, ElfError>
     ensures err { IfErr result (λ e. e ≡ ElfError.Memory) }
 {
     match Octets::from_slice(alloc, bytes) {
+        Ok(copy) => Ok(Items::Bytes(copy)),
+        Err(e) => Err(e),
+    }
+}
+
+/// Bytes that are shared as items, copied. It refuses `Memory` alone.
+pub(crate) fn copy_shared(alloc: Global, bytes: &SharedBytes) -> Result<Items, ElfError>
+    ensures ok { IfOk result (λ made. made ≡ items.Bytes bytes.now) }
+    ensures err { IfErr result (λ e. e ≡ ElfError.Memory) }
+{
+    match bytes.to_octets(alloc) {
         Ok(copy) => Ok(Items::Bytes(copy)),
         Err(e) => Err(e),
     }

@@ -1,15 +1,15 @@
 //! What is made of each section that is kept.
 
-ghost use Rattle.std.specs.Prelude.{◌≡◌, ◌==◌, ◌<◌, ◌∷◌, [], length, slice_index, None};
+ghost use Rattle.std.specs.Prelude.{◌≡◌, ◌==◌, ◌<◌, ◌∷◌, [], length, slice_index, None, IfSome};
 ghost use Rattle.elf_xlate.specs.declared.content.Items.TheVariants as items;
 ghost use Rattle.elf_object.specs.Answers.{words_of, syms_of};
 ghost use Rattle.command_objects.specs.Words.{header_at};
 ghost use Rattle.command_objects.specs.Followed.{followed_syms, followed_words};
 ghost use Rattle.strip_rebuild.specs.Homes.{home_items, home_refusal, syms_found};
 ghost use Rattle.strip_rebuild.specs.Makes.{Makes, FitsAs};
-ghost use Rattle.strip_rebuild.specs.Keepers.{header_by, items_by, kept_by, symbols_by, group_by, words_by, indexes_by, serves, name_by, items_or_names, follows_by, is_renewed, makes_by, kept_refusal_by, refusal_or_none, refusal_by, reads_by};
+ghost use Rattle.strip_rebuild.specs.Keepers.{header_by, items_by, kept_by, symbols_by, group_by, words_by, indexes_by, serves, name_by, items_or_names, follows_by, is_renewed, makes_by, kept_refusal_by, refusal_or_none, refusal_by, reads_by, IsTableIn, HasTable};
 
-use crate::homes::{bytes_at_home, copy_items, home_syms, home_words, own_syms, own_words};
+use crate::homes::{bytes_at_home, copy_shared, home_syms, home_words, own_syms, own_words};
 use crate::making::{group_items, index_items, symbol_items};
 use crate::naming::Names;
 use elf_descriptor::Elf;
@@ -17,6 +17,7 @@ use elf_outside::Source;
 use elf_types::{ElfError, ScnId, Shdr, Words};
 use elf_xlate::Items;
 use object_making::SectionMaker;
+use shared_bytes::SharedBytes;
 use strip_items::{Numbering, followed_header};
 use strip_kept::{is_group, is_kept, is_symbol_table};
 use strip_names::NewNames;
@@ -50,6 +51,22 @@ fn name_of(names: &Names, s: ScnId, name: u32) -> u32
         Names::Anew(names) => number_at(&names.places, s.0),
         Names::Stay => name,
         Names::TooLarge => name,
+    }
+}
+
+/// The table of the names that are made anew, where a section is the one that holds them.
+fn table_of(names: &Names, is_names: bool) -> Option<&SharedBytes>
+    ensures { IfSome result (λ table. IsTableIn names.now is_names table.now) }
+{
+    match names {
+        Names::Anew(names) => {
+            if is_names {
+                return Some(&names.table);
+            }
+            None
+        }
+        Names::Stay => None,
+        Names::TooLarge => None,
     }
 }
 
@@ -114,6 +131,14 @@ impl Keeper<'_> {
             return true;
         }
         self.follows(elf, s)
+    }
+
+    /// The table of the names that are made anew, where a section is the one that holds them: what
+    /// is made of that section. It reads nothing and takes no memory.
+    pub fn new_table<S: Source>(&self, elf: &Elf<S>, s: ScnId) -> Option<&SharedBytes>
+        ensures { IfSome result (λ table. HasTable self.now elf.now.o s.0 table.now) }
+    {
+        table_of(&self.names, s.0 == elf.shstrndx())
     }
 
     /// The symbols of a table that is there, with the words of their extended indexes.
@@ -232,7 +257,7 @@ impl Keeper<'_> {
             (λ o. reads_by self.now o s.0) result elf.old elf.new }
     {
         if s.0 == elf.shstrndx() {
-            return copy_items(elf.alloc(), names.table.as_slice());
+            return copy_shared(elf.alloc(), &names.table);
         }
         self.kept(elf, s)
     }

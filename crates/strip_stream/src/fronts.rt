@@ -6,12 +6,13 @@ ghost use Rattle.elf_xlate.specs.Headers.{ehdr_size, phdr_size, shdr_size, ehdr_
 ghost use Rattle.elf_object.specs.Open.{phdrs_bytes, shdrs_bytes};
 ghost use Rattle.strip_stream.specs.Fronts.{HoldsMore};
 
-use elf_types::{Class, Ehdr, ElfError, Octets, Order, Phdr, Shdr};
+use elf_types::{Class, Ehdr, ElfError, Order, Phdr, Shdr};
 use elf_xlate::{ehdr_size, phdr_size, put_ehdr, put_phdr, put_shdr, shdr_size};
 use image_ranges::ByteRange;
+use shared_bytes::SharedBytes;
 
 /// The range of what was appended to bytes that are held, which were so many.
-pub(crate) fn range_behind(held: &Octets, at: u64) -> ByteRange
+pub(crate) fn range_behind(held: &SharedBytes, at: u64) -> ByteRange
     requires { at ≤ length held.now }
     ensures held { result.held ≡ true }
     ensures at { result.at ≡ at }
@@ -25,7 +26,12 @@ pub(crate) fn range_behind(held: &Octets, at: u64) -> ByteRange
 }
 
 /// Appends an ELF header. `out` has just as many bytes as it has.
-fn append_header(held: &mut Octets, h: &Ehdr, pad: [u8; 7], out: &mut [u8]) -> Result<(), ElfError>
+fn append_header(
+    held: &mut SharedBytes,
+    h: &Ehdr,
+    pad: [u8; 7],
+    out: &mut [u8],
+) -> Result<(), ElfError>
     requires size { length out.old ≡ ehdr_size h.now.class }
     requires fits { IsTrue (ehdr_fits h.now) }
     requires counts { HasNarrowCounts h.now }
@@ -40,7 +46,7 @@ fn append_header(held: &mut Octets, h: &Ehdr, pad: [u8; 7], out: &mut [u8]) -> R
 /// `Memory` alone.
 ///
 /// Source: gABI chapter 4, "ELF Header".
-pub fn hold_header(held: &mut Octets, h: &Ehdr, pad: [u8; 7]) -> Result<ByteRange, ElfError>
+pub fn hold_header(held: &mut SharedBytes, h: &Ehdr, pad: [u8; 7]) -> Result<ByteRange, ElfError>
     requires fits { IsTrue (ehdr_fits h.now) }
     requires counts { HasNarrowCounts h.now }
     ensures ok { IfOk result (HoldsMore (ehdr_bytes h.now pad) held.old held.new) }
@@ -56,7 +62,7 @@ pub fn hold_header(held: &mut Octets, h: &Ehdr, pad: [u8; 7]) -> Result<ByteRang
 
 /// Appends a program header. `out` has just as many bytes as it has.
 fn append_segment(
-    held: &mut Octets,
+    held: &mut SharedBytes,
     class: Class,
     order: Order,
     p: &Phdr,
@@ -72,7 +78,12 @@ fn append_segment(
 }
 
 /// The same with room of its own.
-fn hold_segment(held: &mut Octets, class: Class, order: Order, p: &Phdr) -> Result<(), ElfError>
+fn hold_segment(
+    held: &mut SharedBytes,
+    class: Class,
+    order: Order,
+    p: &Phdr,
+) -> Result<(), ElfError>
     requires { IsTrue (phdr_fits class p.now) }
     ensures ok { OnOk result (held.new ≡ held.old ++ phdr_bytes class order p.now) }
     ensures err { IfErr result (λ e. e ≡ Memory) }
@@ -86,7 +97,7 @@ fn hold_segment(held: &mut Octets, class: Class, order: Order, p: &Phdr) -> Resu
 ///
 /// Source: gABI chapter 5, "Program Header".
 pub fn hold_segments(
-    held: &mut Octets,
+    held: &mut SharedBytes,
     class: Class,
     order: Order,
     phdrs: &[Phdr],
@@ -107,7 +118,7 @@ pub fn hold_segments(
 
 /// Appends a section header. `out` has just as many bytes as it has.
 fn append_section(
-    held: &mut Octets,
+    held: &mut SharedBytes,
     class: Class,
     order: Order,
     h: &Shdr,
@@ -123,7 +134,12 @@ fn append_section(
 }
 
 /// The same with room of its own.
-fn hold_section(held: &mut Octets, class: Class, order: Order, h: &Shdr) -> Result<(), ElfError>
+fn hold_section(
+    held: &mut SharedBytes,
+    class: Class,
+    order: Order,
+    h: &Shdr,
+) -> Result<(), ElfError>
     requires { IsTrue (shdr_fits class h.now) }
     ensures ok { OnOk result (held.new ≡ held.old ++ shdr_bytes class order h.now) }
     ensures err { IfErr result (λ e. e ≡ Memory) }
@@ -137,7 +153,7 @@ fn hold_section(held: &mut Octets, class: Class, order: Order, h: &Shdr) -> Resu
 ///
 /// Source: gABI chapter 4, "Section Header".
 pub fn hold_sections(
-    held: &mut Octets,
+    held: &mut SharedBytes,
     class: Class,
     order: Order,
     headers: &[Shdr],

@@ -7,9 +7,10 @@ ghost use Rattle.strip_stream.specs.Holding.{HoldsFront};
 
 use crate::fronts::{hold_header, hold_sections, hold_segments};
 use elf_object::written_header;
-use elf_types::{ElfError, Octets, Phdr};
+use elf_types::{ElfError, Phdr};
 use image_ranges::ByteRange;
 use listed_layout::Listed;
+use shared_bytes::SharedBytes;
 
 /// The ranges of the ELF header and of the two tables.
 #[derive(Clone, Copy, Debug, PartialEq, Eq)]
@@ -28,7 +29,7 @@ pub struct FrontRanges {
 ///
 /// Source: gABI chapter 4, "ELF Header" and "Section Header"; chapter 5, "Program Header".
 pub fn hold_front(
-    held: &mut Octets,
+    held: &mut SharedBytes,
     x: &Listed,
     pad: [u8; 7],
     phdrs: &[Phdr],

@@ -16,6 +16,6 @@ mod streaming;
 pub use arranging::arrange_listed;
 pub use fronts::{hold_header, hold_sections, hold_segments};
 pub use holding::{FrontRanges, hold_front};
-pub use items::hold_items;
+pub use items::{hold_items, hold_shared};
 pub use planning::plan_listed;
 pub use streaming::{Streamed, stream_listed};

@@ -17,10 +17,11 @@ ghost use Rattle.strip_stream.specs.Streams.{IsStreamed, IsNoFront};
 
 use crate::holding::{FrontRanges, hold_front};
 use crate::planning::plan_listed;
-use elf_types::{Class, ElfError, Octets, Part, Phdr};
+use elf_types::{Class, ElfError, Part, Phdr};
 use elf_update::PlannedParts;
 use elf_xlate::{ehdr_fits, phdr_fits, shdr_fits};
 use listed_layout::{Listed, store_places};
+use shared_bytes::SharedBytes;
 use std::alloc::Global;
 
 /// Whether the headers of the sections fit the class.
@@ -54,7 +55,7 @@ fn segments_fit(class: Class, phdrs: &[Phdr]) -> bool
 /// Holds the front of an image of which the headers are listed with their places. Headers that do
 /// not fit their class, which no object has, are refused as `Unfit`.
 fn hold_stored(
-    held: &mut Octets,
+    held: &mut SharedBytes,
     x: &Listed,
     pad: [u8; 7],
     phdrs: &[Phdr],
@@ -109,7 +110,7 @@ pub fn stream_listed(
     phdrs: &[Phdr],
     layout: bool,
     base: u64,
-    held: &mut Octets,
+    held: &mut SharedBytes,
 ) -> Result<Streamed, ElfError>
     requires few { length x.headers ≤ MAX_SECTIONS }
     requires sizes { length x.sizes ≡ length x.headers }

@@ -12,8 +12,9 @@ use crate::reading::{read_syms, read_words};
 use crate::rows::{FollowedRows, row_count};
 use elf_descriptor::Elf;
 use elf_outside::Source;
-use elf_types::{ElfError, Kind, Octets, Sym};
+use elf_types::{ElfError, Kind, Sym};
 use elf_xlate::{Items, item_size};
+use shared_bytes::SharedBytes;
 use std::alloc::Global;
 use strip_items::{Numbering, followed_syms, followed_words};
 use strip_stream::hold_items;
@@ -25,7 +26,7 @@ const ROWS: u64 = 2_048;
 const SPARE: u64 = 65_536;
 
 /// Appends items that fit the class in their file form. It refuses `Memory` alone.
-fn append_items(held: &mut Octets, x: FollowedRows, items: &Items) -> Result<(), ElfError>
+fn append_items(held: &mut SharedBytes, x: FollowedRows, items: &Items) -> Result<(), ElfError>
     requires { first_unfit x.class items.now ≡ None }
     ensures ok { OnOk result (held.new ≡ held.old ++ encoded x.class x.order items.now) }
     ensures err { IfErr result (λ e. e ≡ Memory) }
@@ -40,7 +41,7 @@ fn append_items(held: &mut Octets, x: FollowedRows, items: &Items) -> Result<(),
 /// refuses `Memory` alone.
 fn append_syms(
     alloc: Global,
-    held: &mut Octets,
+    held: &mut SharedBytes,
     x: FollowedRows,
     numbering: &Numbering,
     words: &[u32],
@@ -60,7 +61,7 @@ fn append_syms(
 /// Appends the file form of what words become, with their symbols. It refuses `Memory` alone.
 fn append_words(
     alloc: Global,
-    held: &mut Octets,
+    held: &mut SharedBytes,
     x: FollowedRows,
     numbering: &Numbering,
     words: &[u32],
@@ -79,7 +80,7 @@ fn append_words(
 /// Appends the file form of what is made of some rows. It refuses `Memory` alone.
 fn append_made(
     alloc: Global,
-    held: &mut Octets,
+    held: &mut SharedBytes,
     x: FollowedRows,
     numbering: &Numbering,
     words: &[u32],
@@ -104,7 +105,7 @@ fn hold_some<S: Source>(
     x: FollowedRows,
     from: u64,
     to: u64,
-    held: &mut Octets,
+    held: &mut SharedBytes,
 ) -> Result<(), ElfError>
     requires inside { AreInBase elf.old.o.base x }
     requires order { from ≤ to }
@@ -130,7 +131,7 @@ fn hold_all<S: Source>(
     elf: &mut Elf<S>,
     numbering: &Numbering,
     x: FollowedRows,
-    held: &mut Octets,
+    held: &mut SharedBytes,
 ) -> Result<(), ElfError>
     requires inside { AreInBase elf.old.o.base x }
     ensures ok { OnOk result (HoldsMade elf.old.told
@@ -152,7 +153,7 @@ fn hold_all<S: Source>(
 
 /// Makes room for what is made and for what is held behind it, so that what was made is seldom
 /// moved. It refuses `Memory` alone.
-fn reserve_rows(held: &mut Octets, x: FollowedRows) -> Result<(), ElfError>
+fn reserve_rows(held: &mut SharedBytes, x: FollowedRows) -> Result<(), ElfError>
     ensures same { held.new ≡ held.old }
     ensures err { IfErr result (λ e. e ≡ Memory) }
 {
@@ -171,7 +172,7 @@ pub fn hold_rows<S: Source>(
     elf: &mut Elf<S>,
     numbering: &Numbering,
     x: FollowedRows,
-    held: &mut Octets,
+    held: &mut SharedBytes,
 ) -> Result<(), ElfError>
     requires inside { AreInBase elf.old.o.base x }
     ensures ok { OnOk result (HoldsMade elf.old.told

@@ -1,18 +1,23 @@
-use Rattle.std.proofs.Common.{ℕ, List, drop, take, sym, ap, ◌∙◌}
+use Rattle.std.proofs.Common.{◌≡◌, ℕ, List, drop, take, sym, ap, ◌∙◌, subst}
+use Rattle.std.proofs.lemmas.Result.{IfOk-weaker}
 use Rattle.image_ranges.specs.declared.ranges.ByteRange.{ByteRange}
+use Rattle.copy_contents.specs.Rows.{HasNamesIn}
 use Rattle.copy_contents.proofs.NameLaws.{no_names, held_names}
 use Rattle.copy_contents.proofs.tables.table_of.Goals as goal
 
-pub returns-then-not-has_strings : goal.returns-then-not-has_strings
-returns-then-not-has_strings c =
-    no_names c.args.x.now (sym c.has_strings.ensures ∙ c.if-not-has_strings.true)
+pub returns-then-not-has_strings-clause-names : goal.returns-then-not-has_strings-clause-names
+returns-then-not-has_strings-clause-names c =
+    subst (λ (l : List ℕ). HasNamesIn c.args.x.now l) (sym c.new.ensures)
+    (no_names c.args.x.now (sym c.has_strings.ensures ∙ c.if-not-has_strings.true))
 
-pub returns : goal.returns
-returns c =
+pub returns-clause-names : goal.returns-clause-names
+returns-clause-names c =
     let range = c.range_of-range.result in
-    held_names c.args.x.now c.first_bytes.result.now
+    IfOk-weaker c.octets_at.result
+    (λ (l : List ℕ). l ≡ take range.len (drop range.at c.args.x.now.held))
+    (λ (l : List ℕ). HasNamesIn c.args.x.now l)
+    (λ l is. held_names c.args.x.now l
     (sym c.has_strings.ensures ∙ c.if-not-has_strings.false)
-    (c.first_bytes.ensures
-    ∙ ap (λ (l : List ℕ). take range.len l) c.bytes_past.ensures
-    ∙ ap (λ (l : List ℕ). take range.len (drop range.at l)) c.as_slice.ensures
-    ∙ ap (λ (r : ByteRange). take r.len (drop r.at c.args.x.now.held)) c.range_of-range.ensures)
+    (is ∙ ap (λ (r : ByteRange). take r.len (drop r.at c.args.x.now.held))
+    c.range_of-range.ensures))
+    c.octets_at.ensures.ok

@@ -1,4 +1,4 @@
-use Rattle.std.proofs.Common.{◌∙◌, length, sym, arith}
+use Rattle.std.proofs.Common.{length, arith}
 use Rattle.image_ranges.specs.Ranges.{bytes_of_source}
 use Rattle.image_ranges.proofs.RangeLaws.{under_held, under_base, part_inside, part_copied, base_copied, base_due, still_copies, copies_more}
 use Rattle.image_ranges.proofs.parts.copy_range.Goals as goal
@@ -11,21 +11,20 @@ overflow_add-place g c =
     c.requires.inside c.requires.there in
     omega (arith, inside, c.len-count.ensures)
 
-pub copy_held-requires : goal.copy_held-requires
-copy_held-requires g c =
+pub copy_at-requires : goal.copy_at-requires
+copy_at-requires g c =
     let base = bytes_of_source g.S.Source c.args.src.now in
-    part_inside c.args.held.now base c.args.range c.as_slice.result.now c.args.from
-    (length c.args.buf.now)
-    (under_held c.args.held.now base c.args.range c.if-range.true ∙ sym c.as_slice.ensures)
+    part_inside c.args.held.now base c.args.range c.args.held.now c.args.from
+    (length c.args.buf.now) (under_held c.args.held.now base c.args.range c.if-range.true)
     c.requires.inside c.requires.there
 
 pub returns-then-range-clause-bytes : goal.returns-then-range-clause-bytes
 returns-then-range-clause-bytes g c = λ told.
     let base = bytes_of_source g.S.Source c.args.src.now in
-    part_copied c.args.held.now base c.args.range c.as_slice.result.now c.args.from
-    (length c.args.buf.now) c.copy_held.new.buf
-    (under_held c.args.held.now base c.args.range c.if-range.true ∙ sym c.as_slice.ensures)
-    c.requires.there c.copy_held.ensures
+    part_copied c.args.held.now base c.args.range c.args.held.now c.args.from
+    (length c.args.buf.now) c.copy_at.new.buf
+    (under_held c.args.held.now base c.args.range c.if-range.true) c.requires.there
+    c.copy_at.ensures
 
 pub returns-then-range-clause-copies : goal.returns-then-range-clause-copies
 returns-then-range-clause-copies g c = still_copies g.S.Source c.args.src.now _

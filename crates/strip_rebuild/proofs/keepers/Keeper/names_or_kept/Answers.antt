@@ -1,4 +1,4 @@
-use Rattle.std.proofs.Common.{◌∙◌}
+use Rattle.std.proofs.Common.{refl, ◌∙◌}
 use Rattle.std.proofs.lemmas.Bool.{eq-eqb}
 use Rattle.update_plan.proofs.RowLaws.{ok_is}
 use Rattle.strip_rebuild.proofs.KeeperLaws.{names_made}
@@ -6,8 +6,8 @@ use Rattle.strip_rebuild.proofs.keepers.Keeper.names_or_kept.Goals as goal
 
 pub returns-then-s-shstrndx : goal.returns-then-s-shstrndx
 returns-then-s-shstrndx g c =
-    names_made g.S.Source c.args.self.now c.args.s.0 c.args.names.now c.as_slice.result.now
-    c.copy_items.result c.args.elf.now
+    names_made g.S.Source c.args.self.now c.args.s.0 c.args.names.now c.args.names.now.table
+    c.copy_shared.result c.args.elf.now
     (eq-eqb c.args.s.0 c.args.elf.now.o.header.shstrndx
-    (c.if-s-shstrndx.true ∙ ok_is _ _ c.shstrndx.ensures)) c.as_slice.ensures
-    c.copy_items.ensures.ok c.copy_items.ensures.err
+    (c.if-s-shstrndx.true ∙ ok_is _ _ c.shstrndx.ensures)) refl
+    c.copy_shared.ensures.ok c.copy_shared.ensures.err

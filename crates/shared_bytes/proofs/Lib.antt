@@ -1,0 +1,4 @@
+pub mod StretchLaws
+pub mod PartLaws
+pub mod ShareLaws
+pub mod CopyLaws

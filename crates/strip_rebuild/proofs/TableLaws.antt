@@ -1,0 +1,35 @@
+-- The table of the names that are made anew is all that is made of its section.
+use Rattle.std.proofs.Common.{◌≡◌, ◌==◌, ℕ, Bool, true, List, Option, Some, None, if◌then◌else◌, refl, sym, ap, ◌∙◌, subst}
+use Rattle.std.specs.Prelude.{IfSome}
+use Rattle.std.specs.Borrow.{Bor}
+use Rattle.elf_types.specs.declared.errors.ElfError.{ElfError}
+use Rattle.elf_xlate.specs.declared.content.Items.{Items}
+use Rattle.elf_xlate.specs.declared.content.Items.TheVariants as items
+use Rattle.elf_object.specs.Object.{Object}
+use Rattle.strip_rebuild.specs.declared.naming.Names.{Names}
+use Rattle.strip_rebuild.specs.declared.naming.Names.TheVariants.{Stay, Anew, TooLarge}
+use Rattle.strip_rebuild.specs.declared.keepers.Keeper.{Keeper}
+use Rattle.strip_rebuild.specs.Keepers.{kept_by, items_or_names, items_by, kept_refusal_by, refusal_or_none, refusal_by, IsTableIn, HasTable}
+
+module _ (k : Keeper) (o : Object) (s : ℕ) where
+  is_made : (names : Names) → k.names ≡ names → (table : List ℕ)
+      → IsTableIn names (s == o.header.shstrndx) table → HasTable k o s table
+  unfolding items_by refusal_by
+  is_made Stay at table is = absurd is
+  is_made (Anew names) at table is = record {
+    is = ap (λ (n : Names). items_or_names n (s == o.header.shstrndx) (kept_by k o s)) at
+        ∙ ap (λ (b : Bool). if b then items.Bytes names.table else kept_by k o s) is.0
+        ∙ ap (λ (l : List ℕ). items.Bytes l) (sym is.1);
+    passed = ap (λ (n : Names).
+        refusal_or_none n (s == o.header.shstrndx) (kept_refusal_by k o s)) at
+        ∙ ap (λ (b : Bool). if b then None else kept_refusal_by k o s) is.0;
+  }
+  is_made TooLarge at table is = absurd is
+
+  pub table_had : (n : ℕ) (r : Option (Bor (List ℕ))) → n ≡ o.header.shstrndx
+      → IfSome r (λ table. IsTableIn k.names (s == n) table.now)
+      → IfSome r (λ table. HasTable k o s table.now)
+  table_had n None index is = tt
+  table_had n (Some table) index is =
+      is_made k.names refl table.now
+      (subst (λ (m : ℕ). IsTableIn k.names (s == m) table.now) index is)
