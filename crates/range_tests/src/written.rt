@@ -5,6 +5,7 @@ use elf_outside::{MemSink, MemSource};
 use elf_types::{Addrs, Class, ElfError, List, Octets, Order, Part};
 use image_ranges::{ByteRange, PartRanges, RangedImage, RangedParts};
 use object_files::Image;
+use shared_bytes::SharedBytes;
 use std::alloc::Global;
 use test_images::{Recipe, Start, image_in};
 use test_sources::source;
@@ -124,7 +125,11 @@ fn image_of(alloc: Global, setting: &Setting) -> Result<RangedImage<MemSource>, 
     let src = source(alloc, bytes, setting.bad_read)?;
     let ranges = ranges_of(alloc, setting)?;
     let plan = plan_of(alloc, setting)?;
-    let held = Octets::from_slice(alloc, HELD)?;
+    // As two ranges of a text, which is held behind others that are not wanted.
+    let mut held = SharedBytes::new(alloc);
+    held.hold(HELD)?;
+    held.extend_near(&HELD[..6], 0)?;
+    held.extend_near(&HELD[6..], 6)?;
     Ok(RangedImage {
         parts: RangedParts {
             source: src,

@@ -1,4 +1,5 @@
-//! Tests of listed headers and of the places of their parts, and of what is held in its file form.
+//! Tests of listed headers and of the places of their parts, of what is held in its file form, and
+//! of bytes that share a text.
 //! They demand values, since a call that always wanted memory would meet the contracts too. They
 //! stand in a crate of their own, since a crate with tests is proved twice.
 #![tactic(auto)]
@@ -9,5 +10,7 @@ mod behind;
 mod forms;
 #[cfg(test)]
 mod listing;
+#[cfg(test)]
+mod sharing;
 #[cfg(test)]
 mod streaming;

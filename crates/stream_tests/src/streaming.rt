@@ -1,7 +1,8 @@
 //! The plan and the front of an image of which the headers are listed.
 
+use crate::forms::begun;
 use crate::listing::listed;
-use elf_types::{ElfError, Octets};
+use elf_types::ElfError;
 use image_ranges::ByteRange;
 use std::alloc::Global;
 use strip_stream::stream_listed;
@@ -22,9 +23,10 @@ fn is_streamed(alloc: Global) -> Result<bool, ElfError> {
     if x.headers.is_empty() || x.headers.len() > 1 << 20 || x.headers.len() != x.sizes.len() {
         return Ok(false);
     }
-    let mut held = Octets::from_slice(alloc, b"abc")?;
+    let mut held = begun(alloc)?;
     let streamed = stream_listed(alloc, x, [0; 7], &[], false, 0, &mut held)?;
     let (planned, front) = (streamed.planned, streamed.front);
+    let bytes = held.to_octets(alloc)?;
     Ok(
         planned.places.end == 424
             && planned.parts.len() == 5
@@ -32,7 +34,7 @@ fn is_streamed(alloc: Global) -> Result<bool, ElfError> {
             && front.segments == held_at(67, 0)
             && front.table == held_at(67, 320)
             && held.len() == 387
-            && held.as_slice().starts_with(b"abc\x7fELF"),
+            && bytes.as_slice().starts_with(b"abc\x7fELF"),
     )
 }
 

@@ -4,6 +4,7 @@ use crate::removed::{bytes_in, bytes_linked};
 use elf_descriptor::Elf;
 use elf_outside::Source;
 use elf_types::Octets;
+use shared_bytes::SharedBytes;
 use std::alloc::Global;
 use strip_kept::{extended_tables, renews_names};
 use strip_names::build_names;
@@ -30,11 +31,19 @@ fn has_tables<S: Source>(alloc: Global, elf: &Elf<S>, gone: &SectionSet) -> bool
     }
 }
 
+/// Whether shared bytes are those of the table.
+fn is_shared(alloc: Global, bytes: &SharedBytes) -> bool {
+    match bytes.to_octets(alloc) {
+        Ok(bytes) => bytes.as_slice() == TABLE,
+        Err(_) => false,
+    }
+}
+
 /// Whether the table of the names is made anew as it should.
 fn has_names<S: Source>(alloc: Global, elf: &mut Elf<S>, gone: &SectionSet) -> bool {
     match build_names(alloc, elf, gone) {
         Ok(names) => {
-            names.table.as_slice() == TABLE && names.places.as_slice() == PLACES.as_slice()
+            is_shared(alloc, &names.table) && names.places.as_slice() == PLACES.as_slice()
         }
         Err(_) => false,
     }
