@@ -18,6 +18,9 @@ use std::marker::Model;
 /// and `st_name`).
 const LIMIT: u64 = u32::MAX as u64;
 
+/// The place of no text, behind all that can be held.
+const NOWHERE: u64 = u64::MAX;
+
 /// The names of a string table in the making, which contracts see as their list: each name that is
 /// not empty once, in order of first use.
 ///
@@ -33,7 +36,7 @@ pub struct SharedStrings {
     entries: Vec<Entry>,
     /// The index of the last entry whose name has a hash.
     newest: IndexMap<u64, u32>,
-    /// Where the text of an older table begins in that of `bytes`.
+    /// Where the text of an older table begins in that of `bytes`; `NOWHERE` before one is held.
     text_at: u64,
 }
 
@@ -95,7 +98,7 @@ impl SharedStrings {
             bytes: SharedBytes::new(alloc),
             entries: Vec::new(alloc),
             newest: IndexMap::new(alloc),
-            text_at: 0,
+            text_at: NOWHERE,
         }
     }
 
@@ -222,6 +225,7 @@ impl SharedStrings {
                 Ok(start)
             }
             Err(e) => {
+                self.text_at = NOWHERE;
                 self.bytes.clear();
                 self.entries.clear();
                 self.newest.clear();
