@@ -1,5 +1,5 @@
 -- Sections by those of their names that changes look for.
-use Rattle.std.proofs.Common.{◌≡◌, ◌≢◌, ◌⊎◌, ◌&&◌, ◌||◌, ◌==◌, ◌+◌, ◌-◌, ◌<◌, ◌≤◌, not, ℕ, zero, suc, Bool, true, false, cond, List, [], ◌∷◌, length, map, drop, get_or, position, Option, Some, None, Result, Ok, Err, refl, sym, ap, ◌∙◌, subst, inl, inr, arith}
+use Rattle.std.proofs.Common.{◌≡◌, ◌≢◌, ◌⊎◌, ◌&&◌, ◌||◌, ◌==◌, ◌+◌, ◌-◌, ◌<◌, ◌≤◌, not, ℕ, zero, suc, Bool, true, false, cond, List, [], ◌∷◌, length, map, take, drop, get_or, position, Option, Some, None, Result, Ok, Err, refl, sym, ap, ◌∙◌, subst, inl, inr, arith}
 use Rattle.std.specs.Prelude.{All, IfSome, OnOk, nat_lt, slice_set}
 use Rattle.std.specs.List.{position_from, range_with_len}
 use Rattle.std.specs.Str.{bytes_eq}
@@ -12,7 +12,7 @@ use Rattle.elf_object.specs.Object.{Object}
 use Rattle.elf_object.specs.Strings.{section_name, is_name}
 use Rattle.command_objects.specs.Copied.{names_in, section_named}
 use Rattle.gelf_view.specs.Records.{string_front, shorter_than}
-use Rattle.gelf_view.proofs.EndedStrings.{short_name}
+use Rattle.gelf_view.proofs.EndedStrings.{front_short, short_name}
 use Rattle.sought_names.specs.declared.sections.NameIndex.{NameIndex}
 use Rattle.sought_names.specs.Names.{is_sought, AreUpTo}
 use Rattle.sought_names.specs.Rows.{stands_under, IsFirst}
@@ -351,23 +351,34 @@ sought_flags xs ys new r same all =
 
 -- ---- One section under its name
 
-pub section_put : {T E : Type 0} (longest : ℕ) (old new : NameIndex) (name : List ℕ)
-    (front : Option (List ℕ)) (s : ℕ) (r : Result T E) → AreUpTo longest old.sought
-    → Some name ≡ shorter_than (longest + 1) front
+pub string_put : {T E : Type 0} (old new : NameIndex) (name : List ℕ) (front : Option (List ℕ))
+    (s : ℕ) (r : Result T E) → Some name ≡ front
     → OnOk r ((q : List ℕ) (t : ℕ) → is_sought old.sought q ≡ true
     → stands_under new q t ≡ ((bytes_eq name q && s == t) || stands_under old q t))
     → OnOk r ((q : List ℕ) (t : ℕ) → is_sought old.sought q ≡ true
     → stands_under new q t ≡ ((is_name q front && s == t) || stands_under old q t))
-section_put longest old new name front s (Ok x) up_to is put =
+string_put old new name front s (Ok x) is put =
     λ q t sought. put q t sought
-    ∙ ap (λ (b : Bool). (b && s == t) || stands_under old q t)
-    (short_found longest q (Some name) front is (up_to q sought))
-section_put longest old new name front s (Err e) up_to is put = tt
+    ∙ ap (λ (n : Option (List ℕ)). (is_name q n && s == t) || stands_under old q t) is
+string_put old new name front s (Err e) is put = tt
 
-pub section_passed : (longest : ℕ) (index : NameIndex) (front : Option (List ℕ)) (s : ℕ)
-    → AreUpTo longest index.sought → None ≡ shorter_than (longest + 1) front
+pub string_passed : (index : NameIndex) (front : Option (List ℕ)) (s : ℕ) → None ≡ front
     → (q : List ℕ) (t : ℕ) → is_sought index.sought q ≡ true
     → stands_under index q t ≡ ((is_name q front && s == t) || stands_under index q t)
-section_passed longest index front s up_to is q t sought =
-    ap (λ (b : Bool). (b && s == t) || stands_under index q t)
-    (short_found longest q None front is (up_to q sought))
+string_passed index front s is q t sought =
+    ap (λ (n : Option (List ℕ)). (is_name q n && s == t) || stands_under index q t) is
+
+-- by the first bytes from the place of its name on
+pub section_put : {T E : Type 0} (longest : ℕ) (old new : NameIndex) (bytes l : List ℕ) (s : ℕ)
+    (r : Result T E) → AreUpTo longest old.sought → bytes ≡ take (longest + 1) l
+    → OnOk r ((q : List ℕ) (t : ℕ) → is_sought old.sought q ≡ true
+    → stands_under new q t
+    ≡ ((is_name q (string_front bytes) && s == t) || stands_under old q t))
+    → OnOk r ((q : List ℕ) (t : ℕ) → is_sought old.sought q ≡ true
+    → stands_under new q t ≡ ((is_name q (string_front l) && s == t) || stands_under old q t))
+section_put longest old new bytes l s (Ok x) up_to is put =
+    λ q t sought. put q t sought
+    ∙ ap (λ (b : Bool). (b && s == t) || stands_under old q t)
+    (short_found longest q (string_front bytes) (string_front l)
+    (ap string_front is ∙ front_short (longest + 1) l) (up_to q sought))
+section_put longest old new bytes l s (Err e) up_to is put = tt

@@ -2,6 +2,7 @@ pub mod RowLaws
 pub mod PushLaws
 pub mod TurnLaws
 pub mod NameLaws
+pub mod TableLaws
 pub mod FindLaws
 pub mod EditLaws
 pub mod UpdateLaws

@@ -37,6 +37,10 @@ size_in x s = unwrap_or (slice_get x.listed.sizes s) 0
 abbrev pub range_in : Arranged → ℕ → ByteRange
 range_in x s = unwrap_or (slice_get x.ranges s) no_range
 
+-- the bytes that are held of a range
+abbrev pub held_in : Arranged → ByteRange → List ℕ
+held_in x range = take range.len (drop range.at x.held)
+
 -- a section, as elf_newscn and elf_newdata make it, has one piece of its own where it has bytes in
 -- the file; its bytes stand in a range, whatever is held behind what is held, and are as many
 pub record IsRow (class : Class) (order : Order) (base held : List ℕ) (c : Section) (h : Shdr)

@@ -8,13 +8,15 @@ ghost use Rattle.command_objects.specs.Copied.{names_in};
 ghost use Rattle.gelf_view.specs.Records.{string_front};
 ghost use Rattle.sought_names.specs.Names.{is_sought, AreUpTo};
 ghost use Rattle.sought_names.specs.Rows.{stands_under};
-ghost use Rattle.copy_contents.specs.Rows.{Origin, IsContents, header_in, HasNamesIn};
+ghost use Rattle.copy_contents.specs.Rows.{Origin, IsContents, header_in, held_in};
 ghost use Rattle.copy_contents.specs.Indexes.{IsIndexOf};
 
 use crate::rows::header_of;
-use crate::tables::{short_name_at, table_of};
+use crate::tables::{copy_front, table_of};
 use copy_changes::{Changes, NameBits, NameBytes};
 use elf_types::ElfError;
+use gelf_view::string_in;
+use image_ranges::ByteRange;
 use sought_names::{NameIndex, NameSet};
 use std::alloc::Global;
 use strip_contents::Arranged;
@@ -95,10 +97,26 @@ pub(crate) fn seek_updated(alloc: Global, changes: &[NameBytes]) -> Result<NameS
 
 // ---- Sections that have them
 
+/// Puts a section under the string with which bytes begin, where that is looked for. It refuses
+/// `Memory` alone.
+fn put_string(bytes: &[u8], s: u32, index: &mut NameIndex<'_>) -> Result<(), ElfError>
+    ensures sought { index.new.sought ≡ index.old.sought }
+    ensures put { OnOk result ((q : List ℕ) (t : ℕ) → is_sought index.old.sought q ≡ true
+        → stands_under index.new q t
+        ≡ ((is_name q (string_front bytes.now) && s == t) || stands_under index.old q t)) }
+    ensures err { IfErr result (λ e. e ≡ Memory) }
+{
+    match string_in(bytes) {
+        Some(name) => index.put(name, s),
+        None => Ok(()),
+    }
+}
+
 /// Puts a section under its name in a table, where that is looked for. It refuses `Memory` alone.
 fn index_section(
+    alloc: Global,
     x: &Arranged,
-    table: &[u8],
+    table: ByteRange,
     s: u32,
     longest: usize,
     index: &mut NameIndex<'_>,
@@ -107,41 +125,17 @@ fn index_section(
     ensures sought { index.new.sought ≡ index.old.sought }
     ensures put { OnOk result ((q : List ℕ) (t : ℕ) → is_sought index.old.sought q ≡ true
         → stands_under index.new q t
-        ≡ ((is_name q (string_front (drop (header_in x.now s).name table.now)) && s == t)
-        || stands_under index.old q t)) }
+        ≡ ((is_name q (string_front (drop (header_in x.now s).name (held_in x.now table)))
+        && s == t) || stands_under index.old q t)) }
     ensures err { IfErr result (λ e. e ≡ Memory) }
 {
-    match short_name_at(table, header_of(x, s).name, longest) {
-        Some(name) => index.put(name, s),
-        None => Ok(()),
+    match copy_front(alloc, x, table, header_of(x, s).name, longest as u64) {
+        Ok(bytes) => put_string(bytes.as_slice(), s, index),
+        Err(e) => Err(e),
     }
 }
 
-/// Puts the sections from 1 on under their names in a table. It refuses `Memory` alone.
-fn fill_from(
-    x: &Arranged,
-    table: &[u8],
-    longest: usize,
-    index: &mut NameIndex<'_>,
-) -> Result<(), ElfError>
-    requires up_to { AreUpTo longest index.old.sought }
-    requires none { (q : List ℕ) (t : ℕ) → stands_under index.old q t ≡ false }
-    ensures sought { index.new.sought ≡ index.old.sought }
-    ensures index { (o : Origin) (p : Object) → IsContents o p x.now → HasNamesIn x.now table.now
-        → OnOk result (IsIndexOf index.new (names_in p)) }
-    ensures err { IfErr result (λ e. e ≡ Memory) }
-{
-    for s in 1..x.listed.header.shnum {
-        match index_section(x, table, s, longest, index) {
-            Ok(()) => {}
-            Err(e) => return Err(e),
-        }
-    }
-    Ok(())
-}
-
-/// Puts the sections from 1 on under their names. It refuses `Memory` alone, and holds a copy of
-/// the table of the names meanwhile.
+/// Puts the sections from 1 on under their names. It refuses `Memory` alone.
 pub(crate) fn fill_index(
     alloc: Global,
     x: &Arranged,
@@ -155,10 +149,14 @@ pub(crate) fn fill_index(
         → OnOk result (IsIndexOf index.new (names_in p)) }
     ensures err { IfErr result (λ e. e ≡ Memory) }
 {
-    match table_of(alloc, x) {
-        Ok(table) => fill_from(x, table.as_slice(), longest, index),
-        Err(e) => Err(e),
+    let table = table_of(x);
+    for s in 1..x.listed.header.shnum {
+        match index_section(alloc, x, table, s, longest, index) {
+            Ok(()) => {}
+            Err(e) => return Err(e),
+        }
     }
+    Ok(())
 }
 
 /// The sections by those of their names that are looked for. It refuses `Memory` alone. It looks at

@@ -1,41 +1,65 @@
 //! What becomes of the names.
 
-ghost use Rattle.std.specs.Prelude.{◌≡◌, ◌<◌, ◌-◌, ◌∷◌, [], length, IfOk, IfErr};
+ghost use Rattle.std.specs.Prelude.{◌≡◌, ◌<◌, ◌-◌, ◌∷◌, [], drop, length, IfOk, IfErr};
 ghost use Rattle.elf_types.specs.declared.errors.ElfError.TheVariants.{Memory};
 ghost use Rattle.elf_object.specs.Object.{Object};
 ghost use Rattle.elf_object.specs.Strings.{or_empty_name};
 ghost use Rattle.command_objects.specs.Copied.{changes_names};
+ghost use Rattle.gelf_view.specs.Records.{string_front};
 ghost use Rattle.strip_names.specs.Names.{IsAddedAt};
 ghost use Rattle.copy_changes.specs.Stated.{HasPlainNames, stated_changes};
 ghost use Rattle.copy_edits.specs.Names.{name_now};
 ghost use Rattle.copy_names.specs.Texts.{all_texts, AddsTo};
 ghost use Rattle.copy_names.specs.Stores.{IsBuilt, IsNaming};
-ghost use Rattle.copy_contents.specs.Rows.{Origin, IsContents, HasNamesIn};
+ghost use Rattle.copy_contents.specs.Rows.{Origin, IsContents, HasNamesIn, held_in};
 
 use crate::rows::header_of;
-use crate::tables::{name_at, table_of};
+use crate::tables::{copy_string, table_of};
 use copy_changes::Changes;
 use copy_edits::{mark_of, new_name};
 use copy_names::{
     Making, Naming, begin_table, changes_names, finish_names, place_added, place_found, place_text,
 };
 use elf_types::{ElfError, List};
+use gelf_view::string_in;
+use image_ranges::ByteRange;
 use std::alloc::Global;
 use strip_contents::Arranged;
+
+/// Adds the name at a place of a table that is held to a table in the making, appends its place to
+/// the others, and answers whether the table is not too large. It refuses `Memory` alone.
+fn place_held(
+    alloc: Global,
+    x: &Arranged,
+    table: ByteRange,
+    place: u32,
+    making: &mut Making,
+) -> Result<bool, ElfError>
+    ensures placed { IfOk result (λ fits. IsAddedAt making.old.strings making.new.strings
+        making.old.places making.new.places
+        (or_empty_name (string_front (drop place (held_in x.now table)))) fits) }
+    ensures err { IfErr result (λ e. e ≡ Memory) }
+{
+    match copy_string(alloc, x, table, place) {
+        Ok(bytes) => place_found(making, string_in(bytes.as_slice())),
+        Err(e) => Err(e),
+    }
+}
 
 /// Adds the name that a section has by now to a table in the making, appends its place to the
 /// others, and answers whether the table is not too large. It refuses `Memory` alone.
 fn place_section(
+    alloc: Global,
     x: &Arranged,
-    table: &[u8],
+    table: ByteRange,
     s: u32,
     marks: &List<u64>,
     changes: &Changes,
     making: &mut Making,
 ) -> Result<bool, ElfError>
     requires { HasPlainNames changes.now }
-    ensures placed { (o : Origin) (p : Object) → IsContents o p x.now → HasNamesIn x.now table.now
-        → s < length p.sections
+    ensures placed { (o : Origin) (p : Object) → IsContents o p x.now
+        → HasNamesIn x.now (held_in x.now table) → s < length p.sections
         → IfOk result (λ fits. IsAddedAt making.old.strings making.new.strings
         making.old.places making.new.places
         (or_empty_name (name_now p marks.now changes.now.rename s)) fits) }
@@ -43,14 +67,14 @@ fn place_section(
 {
     match new_name(&changes.rename, mark_of(marks, s)) {
         Some(name) => place_text(making, name.as_slice()),
-        None => place_found(making, name_at(table, header_of(x, s).name)),
+        None => place_held(alloc, x, table, header_of(x, s).name, making),
     }
 }
 
-/// Adds the names of the sections from 1 on, in a table.
+/// Adds the names of the sections from 1 on.
 fn place_sections(
+    alloc: Global,
     x: &Arranged,
-    table: &[u8],
     marks: &List<u64>,
     changes: &Changes,
     making: &mut Making,
@@ -58,13 +82,14 @@ fn place_sections(
     requires plain { HasPlainNames changes.now }
     requires strings { making.old.strings ≡ [] }
     requires places { making.old.places ≡ 0 ∷ [] }
-    ensures added { (o : Origin) (p : Object) → IsContents o p x.now → HasNamesIn x.now table.now
+    ensures added { (o : Origin) (p : Object) → IsContents o p x.now
         → IfOk result (AddsTo (all_texts p marks.now changes.now)
         making.new.strings making.new.places (length p.sections - 1)) }
     ensures err { IfErr result (λ e. e ≡ Memory) }
 {
+    let table = table_of(x);
     for s in 1..x.listed.header.shnum {
-        match place_section(x, table, s, marks, changes, making) {
+        match place_section(alloc, x, table, s, marks, changes, making) {
             Ok(fits) => {
                 if !fits {
                     return Ok(false);
@@ -78,8 +103,8 @@ fn place_sections(
 
 /// Adds all names.
 fn place_all(
+    alloc: Global,
     x: &Arranged,
-    table: &[u8],
     marks: &List<u64>,
     changes: &Changes,
     making: &mut Making,
@@ -87,13 +112,13 @@ fn place_all(
     requires plain { HasPlainNames changes.now }
     requires strings { making.old.strings ≡ [] }
     requires places { making.old.places ≡ 0 ∷ [] }
-    ensures added { (o : Origin) (p : Object) → IsContents o p x.now → HasNamesIn x.now table.now
+    ensures added { (o : Origin) (p : Object) → IsContents o p x.now
         → IfOk result (AddsTo (all_texts p marks.now changes.now)
         making.new.strings making.new.places
         (length (all_texts p marks.now changes.now))) }
     ensures err { IfErr result (λ e. e ≡ Memory) }
 {
-    match place_sections(x, table, marks, changes, making) {
+    match place_sections(alloc, x, marks, changes, making) {
         Ok(fits) => {
             if !fits {
                 return Ok(false);
@@ -117,15 +142,11 @@ fn build_table(
         → IfOk result (IsBuilt (all_texts p marks.now changes.now)) }
     ensures err { IfErr result (λ e. e ≡ Memory) }
 {
-    let table = match table_of(alloc, x) {
-        Ok(table) => table,
-        Err(e) => return Err(e),
-    };
     let mut making = match begin_table(alloc) {
         Ok(making) => making,
         Err(e) => return Err(e),
     };
-    match place_all(x, table.as_slice(), marks, changes, &mut making) {
+    match place_all(alloc, x, marks, changes, &mut making) {
         Ok(fits) => finish_names(making, fits),
         Err(e) => Err(e),
     }

@@ -1,27 +1,23 @@
 //! The table of the names, where it is held.
 
-ghost use Rattle.std.specs.Prelude.{◌≡◌, ◌+◌, drop, IfOk, IfErr};
-ghost use Rattle.std.specs.Option.{option_copied};
+ghost use Rattle.std.specs.Prelude.{◌≡◌, ◌+◌, min, drop, take, true, is_some, IfOk, IfErr, IfSome};
 ghost use Rattle.elf_types.specs.declared.errors.ElfError.TheVariants.{Memory};
-ghost use Rattle.gelf_view.specs.Records.{string_front, shorter_than};
-ghost use Rattle.copy_contents.specs.Rows.{HasNamesIn, has_strings};
+ghost use Rattle.gelf_view.specs.Records.{string_front};
+ghost use Rattle.copy_contents.specs.Rows.{HasNamesIn, has_strings, held_in};
 
 use crate::rows::{header_of, range_of};
 use elf_types::constants::SHT_STRTAB;
 use elf_types::{ElfError, Octets};
-use gelf_view::{short_string, string_in};
+use gelf_view::string_in;
+use image_ranges::ByteRange;
 use std::alloc::Global;
 use strip_contents::Arranged;
 
-/// The bytes from a place on, and none where there are fewer.
-pub(crate) fn bytes_past(bytes: &[u8], at: u64) -> &[u8]
-    ensures { result.now ≡ drop at bytes.now }
-{
-    if at > bytes.len() as u64 {
-        return &[];
-    }
-    &bytes[at as usize..]
-}
+/// How many bytes of a name are copied at first, and one more.
+const FIRST: u64 = 63;
+
+/// From so many on all that there are are copied at once.
+const MOST: u64 = 1 << 32;
 
 /// Whether the names of the sections stand in a string table, by its header.
 pub(crate) fn has_strings(x: &Arranged) -> bool
@@ -31,30 +27,111 @@ pub(crate) fn has_strings(x: &Arranged) -> bool
     index != 0 && index < x.listed.header.shnum && header_of(x, index).stype == SHT_STRTAB
 }
 
-/// The bytes that are held of the table of the names, copied, and none where there is no such
-/// table. It refuses `Memory` alone.
-pub(crate) fn table_of(alloc: Global, x: &Arranged) -> Result<Octets, ElfError>
-    ensures names { IfOk result (λ table. HasNamesIn x.now table) }
-    ensures err { IfErr result (λ e. e ≡ Memory) }
+/// The range of the bytes that are held of the table of the names, and one of none where there is
+/// no such table.
+pub(crate) fn table_of(x: &Arranged) -> ByteRange
+    ensures { HasNamesIn x.now (held_in x.now result) }
 {
     if !has_strings(x) {
-        return Ok(Octets::new(alloc));
+        return ByteRange {
+            held: true,
+            at: 0,
+            len: 0,
+        };
     }
-    let range = range_of(x, x.listed.header.shstrndx);
-    x.held.octets_at(alloc, range.at, range.len)
+    range_of(x, x.listed.header.shstrndx)
 }
 
-/// The name at a place of a table, where a NUL ends it.
-pub(crate) fn name_at(table: &[u8], place: u32) -> Option<&[u8]>
-    ensures { option_copied result ≡ string_front (drop place table.now) }
+/// How many bytes there are of so many and one more, where so many are left.
+fn front_len(count: u64, left: u64) -> u64
+    ensures { result ≡ min (count + 1) left }
 {
-    string_in(bytes_past(table, u64::from(place)))
+    if count < left {
+        return count + 1;
+    }
+    left
 }
 
-/// The same where it has at most `longest` bytes. It looks at so many bytes and one more.
-pub(crate) fn short_name_at(table: &[u8], place: u32, longest: usize) -> Option<&[u8]>
-    ensures { option_copied result
-        ≡ shorter_than (longest + 1) (string_front (drop place table.now)) }
+/// The bytes of a table from a place on, `count` of them and one more, or those that are there,
+/// copied. It refuses `Memory` alone.
+pub(crate) fn copy_front(
+    alloc: Global,
+    x: &Arranged,
+    table: ByteRange,
+    place: u32,
+    count: u64,
+) -> Result<Octets, ElfError>
+    ensures ok { IfOk result
+        (λ bytes. bytes ≡ take (count + 1) (drop place (held_in x.now table))) }
+    ensures err { IfErr result (λ e. e ≡ Memory) }
 {
-    short_string(bytes_past(table, u64::from(place)), longest)
+    let _held = x.held.len();
+    let past = u64::from(place);
+    let len = front_len(count, table.len.saturating_sub(past));
+    x.held.octets_at(alloc, table.at.saturating_add(past), len)
+}
+
+/// Whether a NUL is among bytes.
+fn is_ended(bytes: &[u8]) -> bool
+    ensures { result ≡ is_some (string_front bytes.now) }
+{
+    match string_in(bytes) {
+        Some(_) => true,
+        None => false,
+    }
+}
+
+/// Bytes, if a NUL is among them.
+fn if_ended(bytes: Octets) -> Option<Octets>
+    ensures { IfSome result (λ same. (same ≡ bytes) × (is_some (string_front bytes) ≡ true)) }
+{
+    if is_ended(bytes.as_slice()) {
+        return Some(bytes);
+    }
+    None
+}
+
+/// The bytes of a table from a place on, so many of them and one more, copied, if a NUL is among
+/// them. It refuses `Memory` alone.
+fn copy_ended(
+    alloc: Global,
+    x: &Arranged,
+    table: ByteRange,
+    place: u32,
+    count: u64,
+) -> Result<Option<Octets>, ElfError>
+    ensures ok { IfOk result (λ found. IfSome found
+        (λ bytes. string_front bytes ≡ string_front (drop place (held_in x.now table)))) }
+    ensures err { IfErr result (λ e. e ≡ Memory) }
+{
+    match copy_front(alloc, x, table, place, count) {
+        Ok(bytes) => Ok(if_ended(bytes)),
+        Err(e) => Err(e),
+    }
+}
+
+/// The bytes of a table from a place on, copied: at least those of the string with which they begin,
+/// and its NUL, where one ends it. It refuses `Memory` alone, and copies at most a few times as many
+/// bytes as that string has.
+pub(crate) fn copy_string(
+    alloc: Global,
+    x: &Arranged,
+    table: ByteRange,
+    place: u32,
+) -> Result<Octets, ElfError>
+    ensures ok { IfOk result
+        (λ bytes. string_front bytes ≡ string_front (drop place (held_in x.now table))) }
+    ensures err { IfErr result (λ e. e ≡ Memory) }
+{
+    let most = table.len.min(MOST);
+    let mut count = FIRST;
+    while count < most {
+        match copy_ended(alloc, x, table, place, count) {
+            Ok(Some(bytes)) => return Ok(bytes),
+            Ok(None) => {}
+            Err(e) => return Err(e),
+        }
+        count *= 2;
+    }
+    copy_front(alloc, x, table, place, table.len)
 }

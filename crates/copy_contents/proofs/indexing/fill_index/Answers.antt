@@ -1,9 +1,32 @@
-use Rattle.std.proofs.Common.{ℕ, List, sym, subst}
-use Rattle.copy_contents.specs.Rows.{HasNamesIn}
+use Rattle.std.proofs.Common.{List, ℕ, sym, ◌∙◌, subst, arith}
+use Rattle.sought_names.specs.Names.{AreUpTo}
+use Rattle.copy_contents.specs.Rows.{held_in}
+use Rattle.copy_contents.proofs.IndexLaws.{indexed_none, indexed_more, indexed_all}
 use Rattle.copy_contents.proofs.indexing.fill_index.Goals as goal
 
-pub returns-in-Ok-clause-index : goal.returns-in-Ok-clause-index
-returns-in-Ok-clause-index c = λ o p is.
-    c.fill_from.ensures.index o p is
-    (subst (λ (l : List ℕ). HasNamesIn c.args.x.now l) (sym c.as_slice.ensures)
-    c.in-Ok.ensures.names)
+pub loop-s-init : goal.loop-s-init
+loop-s-init c =
+    indexed_none c.args.x.now (held_in c.args.x.now c.table_of-table.result) c.args.index.now c.requires.none
+
+pub index_section-requires : goal.index_section-requires
+index_section-requires c =
+    subst (λ (l : List (List ℕ)). AreUpTo c.args.longest l) (sym c.loop-s.invariant.same)
+    c.requires.up_to
+
+pub loop-s-preserved : goal.loop-s-preserved
+loop-s-preserved c =
+    let first = c.loop-s.auto.s in
+    indexed_more c.args.x.now (held_in c.args.x.now c.table_of-table.result) c.args.index.now.sought
+    c.loop-s.index c.loop-s.s c.loop-s.invariant c.index_section.new.index
+    (omega (arith, first)) c.loop-s-test.true c.index_section.ensures.sought c.in-Ok.ensures.put
+
+pub returns-in-Err-clause-sought : goal.returns-in-Err-clause-sought
+returns-in-Err-clause-sought c = c.index_section.ensures.sought ∙ c.loop-s.invariant.same
+
+pub returns-clause-sought : goal.returns-clause-sought
+returns-clause-sought c = c.loop-s.invariant.same
+
+pub returns-clause-index : goal.returns-clause-index
+returns-clause-index c =
+    indexed_all c.args.x.now (held_in c.args.x.now c.table_of-table.result) c.args.index.now.sought
+    c.loop-s.index c.loop-s.s c.loop-s.invariant c.loop-s-test.false c.table_of-table.ensures

@@ -1,17 +1,13 @@
-use Rattle.std.proofs.Common.{ℕ, List, sym, subst}
 use Rattle.copy_names.specs.Texts.{all_texts}
-use Rattle.copy_contents.specs.Rows.{HasNamesIn}
 use Rattle.copy_contents.proofs.naming.build_table.Goals as goal
 
 pub place_all-requires-clause-strings : goal.place_all-requires-clause-strings
-place_all-requires-clause-strings c = c.in-Ok-begin_table.ensures.begun.0
+place_all-requires-clause-strings c = c.in-Ok.ensures.begun.0
 
 pub place_all-requires-clause-places : goal.place_all-requires-clause-places
-place_all-requires-clause-places c = c.in-Ok-begin_table.ensures.begun.1
+place_all-requires-clause-places c = c.in-Ok.ensures.begun.1
 
 pub returns-in-Ok-place_all-clause-built : goal.returns-in-Ok-place_all-clause-built
 returns-in-Ok-place_all-clause-built c = λ o p is.
-    let has = subst (λ (l : List ℕ). HasNamesIn c.args.x.now l) (sym c.as_slice.ensures)
-    c.in-Ok.ensures.names in
     c.finish_names.ensures.built (all_texts p c.args.marks.now c.args.changes.now)
-    (c.in-Ok-place_all.ensures.added o p is has)
+    (c.in-Ok-place_all.ensures.added o p is)

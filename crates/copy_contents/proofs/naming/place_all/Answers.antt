@@ -9,13 +9,13 @@ pub place_added-requires : goal.place_added-requires
 place_added-requires c = rw c.as_slice.ensures c.requires.plain.add
 
 pub returns-then-not-fits-clause-added : goal.returns-then-not-fits-clause-added
-returns-then-not-fits-clause-added c = λ o p is has.
+returns-then-not-fits-clause-added c = λ o p is.
     subst (λ (b : Bool). AddsTo (all_texts p c.args.marks.now c.args.changes.now)
     c.place_sections.new.making.strings c.place_sections.new.making.places
-    (length p.sections - 1) b) c.if-not-fits.true (c.in-Ok.ensures.added o p is has)
+    (length p.sections - 1) b) c.if-not-fits.true (c.in-Ok.ensures.added o p is)
 
 pub returns-else-not-fits-clause-added : goal.returns-else-not-fits-clause-added
-returns-else-not-fits-clause-added c = λ o p is has.
+returns-else-not-fits-clause-added c = λ o p is.
     let marks = c.args.marks.now in
     let changes = c.args.changes.now in
     let texts = all_texts p marks changes in
@@ -28,4 +28,4 @@ returns-else-not-fits-clause-added c = λ o p is has.
     (texts_behind p marks changes
     ∙ ap (λ (l : List NameBytes). map (λ (a : NameBytes). a.name) l) (sym c.as_slice.ensures))
     (subst (λ (b : Bool). AddsTo texts c.place_sections.new.making.strings
-    c.place_sections.new.making.places n b) c.if-not-fits.false (c.in-Ok.ensures.added o p is has)))
+    c.place_sections.new.making.places n b) c.if-not-fits.false (c.in-Ok.ensures.added o p is)))

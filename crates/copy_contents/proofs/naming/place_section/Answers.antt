@@ -1,7 +1,9 @@
-use Rattle.std.proofs.Common.{◌≢◌, ℕ, List, All, sym, ap, ◌∙◌, subst}
+use Rattle.std.proofs.Common.{◌≢◌, ℕ, List, All, drop, refl, sym, ap, ◌∙◌, subst}
+use Rattle.gelf_view.specs.Records.{string_front}
 use Rattle.copy_edits.specs.Names.{new_name}
 use Rattle.copy_names.proofs.PlaceLaws.{plain_new}
-use Rattle.copy_contents.proofs.NamingLaws.{front_plain_as, new_placed, old_placed}
+use Rattle.copy_contents.specs.Rows.{held_in}
+use Rattle.copy_contents.proofs.NamingLaws.{new_placed, old_placed}
 use Rattle.copy_contents.proofs.naming.place_section.Goals as goal
 
 pub place_text-requires : goal.place_text-requires
@@ -18,14 +20,12 @@ returns-in-Some-clause-placed c = λ o p is has below.
     (c.in-Some.ensures ∙ ap (new_name c.args.changes.now.rename) c.mark_of.ensures)
     c.place_text.ensures.placed p
 
-pub place_found-requires : goal.place_found-requires
-place_found-requires c = front_plain_as _ _ c.name_at.ensures
-
 pub returns-in-None-clause-placed : goal.returns-in-None-clause-placed
 returns-in-None-clause-placed c = λ o p is has below.
+    let table : List ℕ = held_in c.args.x.now c.args.table in
     old_placed c.args.x.now c.args.marks.now c.args.changes.now.rename c.args.s
-    c.args.making.now.strings c.place_found.new.making.strings c.args.making.now.places
-    c.place_found.new.making.places c.place_found.result c.args.table.now _ _
+    c.args.making.now.strings c.place_held.new.making.strings c.args.making.now.places
+    c.place_held.new.making.places c.place_held.result table
+    (string_front (drop c.header_of.result.name table)) c.header_of.result.name
     (c.in-None.ensures ∙ ap (new_name c.args.changes.now.rename) c.mark_of.ensures)
-    (ap (λ h. h.name) c.header_of.ensures) c.name_at.ensures c.place_found.ensures.placed o p is
-    has below
+    (ap (λ h. h.name) c.header_of.ensures) refl c.place_held.ensures.placed o p is has below

@@ -7,41 +7,41 @@ use Rattle.copy_contents.proofs.NamingLaws.{placed_none, placed_more, placed_lar
 use Rattle.copy_contents.proofs.naming.place_sections.Goals as goal
 
 pub loop-s-init : goal.loop-s-init
-loop-s-init c = λ o p is has.
+loop-s-init c = λ o p is.
     placed_none p c.args.marks.now c.args.changes.now c.args.making.now.strings
     c.args.making.now.places c.requires.strings c.requires.places
 
 pub returns-then-not-fits-clause-added : goal.returns-then-not-fits-clause-added
-returns-then-not-fits-clause-added c = λ o p is has.
+returns-then-not-fits-clause-added c = λ o p is.
     let first = c.loop-s.auto.s in
     let count = count_is o p c.args.x.now is in
     let below : c.loop-s.s < length p.sections = omega (arith, count, c.loop-s-test.true) in
     placed_large p c.args.marks.now c.args.changes.now c.loop-s.making.strings
-    c.loop-s.making.places c.loop-s.s (c.loop-s.invariant o p is has)
+    c.loop-s.making.places c.loop-s.s (c.loop-s.invariant o p is)
     c.place_section.new.making.strings c.place_section.new.making.places (omega (arith, first))
     below
     (subst (λ (b : Bool). IsAddedAt c.loop-s.making.strings c.place_section.new.making.strings
     c.loop-s.making.places c.place_section.new.making.places
     (or_empty_name (name_now p c.args.marks.now c.args.changes.now.rename c.loop-s.s)) b)
-    c.if-not-fits.true (c.in-Ok.ensures.placed o p is has below))
+    c.if-not-fits.true (c.in-Ok.ensures.placed o p is c.table_of-table.ensures below))
 
 pub loop-s-preserved : goal.loop-s-preserved
-loop-s-preserved c = λ o p is has.
+loop-s-preserved c = λ o p is.
     let first = c.loop-s.auto.s in
     let count = count_is o p c.args.x.now is in
     let below : c.loop-s.s < length p.sections = omega (arith, count, c.loop-s-test.true) in
     placed_more p c.args.marks.now c.args.changes.now c.loop-s.making.strings
-    c.loop-s.making.places c.loop-s.s (c.loop-s.invariant o p is has)
+    c.loop-s.making.places c.loop-s.s (c.loop-s.invariant o p is)
     c.place_section.new.making.strings c.place_section.new.making.places (omega (arith, first))
     below
     (subst (λ (b : Bool). IsAddedAt c.loop-s.making.strings c.place_section.new.making.strings
     c.loop-s.making.places c.place_section.new.making.places
     (or_empty_name (name_now p c.args.marks.now c.args.changes.now.rename c.loop-s.s)) b)
-    c.if-not-fits.false (c.in-Ok.ensures.placed o p is has below))
+    c.if-not-fits.false (c.in-Ok.ensures.placed o p is c.table_of-table.ensures below))
 
 pub returns-clause-added : goal.returns-clause-added
-returns-clause-added c = λ o p is has.
+returns-clause-added c = λ o p is.
     let count = count_is o p c.args.x.now is in
     placed_all p c.args.marks.now c.args.changes.now c.loop-s.making.strings
-    c.loop-s.making.places c.loop-s.s (c.loop-s.invariant o p is has)
+    c.loop-s.making.places c.loop-s.s (c.loop-s.invariant o p is)
     (omega (arith, count, c.loop-s-test.false))

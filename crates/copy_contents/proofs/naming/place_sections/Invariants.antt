@@ -1,8 +1,8 @@
 use Rattle.elf_object.specs.Object.{Object}
-use Rattle.copy_contents.specs.Rows.{Origin, IsContents, HasNamesIn}
+use Rattle.copy_contents.specs.Rows.{Origin, IsContents}
 use Rattle.copy_contents.proofs.NamingLaws.{PlacedTo}
 use Rattle.copy_contents.proofs.naming.place_sections.Given as goal
 
 abbrev pub invariant-loop-s : goal.invariant-loop-s
 invariant-loop-s l = (o : Origin) (p : Object) → IsContents o p l.x
-    → HasNamesIn l.x l.table → PlacedTo p l.marks l.changes l.making.strings l.making.places l.s
+    → PlacedTo p l.marks l.changes l.making.strings l.making.places l.s
