@@ -10,6 +10,7 @@ use elf_types::{Addrs, ElfError, List, Shdr, Shdrs, bytes_are_ranged};
 use image_ranges::ByteRange;
 use shared_bytes::SharedBytes;
 use strip_contents::Arranged;
+use strip_stream::hold_shared;
 
 /// Holds bytes behind the others, and answers their range. It refuses `Memory` alone.
 pub(crate) fn hold_bytes(held: &mut SharedBytes, bytes: &[u8]) -> Result<ByteRange, ElfError>
@@ -28,6 +29,19 @@ pub(crate) fn hold_bytes(held: &mut SharedBytes, bytes: &[u8]) -> Result<ByteRan
         }),
         Err(e) => Err(e),
     }
+}
+
+/// Holds bytes that are shared behind the others, and answers their range: their text is held, and
+/// not what they are. It refuses `Memory` alone.
+fn hold_ranges(held: &mut SharedBytes, bytes: &SharedBytes) -> Result<ByteRange, ElfError>
+    ensures ok { IfOk result (HoldsMore bytes.now held.old held.new) }
+    ensures err { IfErr result (λ e. e ≡ Memory) }
+    ensures bytes { AreBytes bytes.now }
+    ensures long { length bytes.now < 2 ^ 64 }
+{
+    bytes.are_ranged();
+    let _count = bytes.len();
+    hold_shared(held, bytes)
 }
 
 /// Stores a header. One of no section is not stored.
@@ -66,6 +80,21 @@ pub(crate) fn put_bytes(x: &mut Arranged, s: u32, bytes: &[u8]) -> Result<(), El
     ensures err { IfErr result (λ e. e ≡ Memory) }
 {
     match hold_bytes(&mut x.held, bytes) {
+        Ok(range) => {
+            set_size(&mut x.listed.sizes, s, range.len);
+            set_range(&mut x.ranges, s, range);
+            Ok(())
+        }
+        Err(e) => Err(e),
+    }
+}
+
+/// The same with bytes that are shared, whose text is held.
+pub(crate) fn put_shared(x: &mut Arranged, s: u32, bytes: &SharedBytes) -> Result<(), ElfError>
+    ensures ok { OnOk result (HasBytes s bytes.now x.old x.new) }
+    ensures err { IfErr result (λ e. e ≡ Memory) }
+{
+    match hold_ranges(&mut x.held, bytes) {
         Ok(range) => {
             set_size(&mut x.listed.sizes, s, range.len);
             set_range(&mut x.ranges, s, range);

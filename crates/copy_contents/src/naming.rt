@@ -14,34 +14,57 @@ ghost use Rattle.copy_names.specs.Stores.{IsBuilt, IsNaming};
 ghost use Rattle.copy_contents.specs.Rows.{Origin, IsContents, HasNamesIn, held_in};
 
 use crate::rows::header_of;
-use crate::tables::{copy_string, table_of};
+use crate::tables::{OldTable, copy_string, name_near, old_table};
 use copy_changes::Changes;
 use copy_edits::{mark_of, new_name};
 use copy_names::{
-    Making, Naming, begin_table, changes_names, finish_names, place_added, place_found, place_text,
+    Making, Naming, begin_table, changes_names, finish_names, hold_names, place_added, place_found,
+    place_text,
 };
 use elf_types::{ElfError, List};
 use gelf_view::string_in;
-use image_ranges::ByteRange;
+use shared_strings::NOWHERE;
 use std::alloc::Global;
 use strip_contents::Arranged;
 
 /// Adds the name at a place of a table that is held to a table in the making, appends its place to
 /// the others, and answers whether the table is not too large. It refuses `Memory` alone.
-fn place_held(
+fn place_copied(
     alloc: Global,
     x: &Arranged,
-    table: ByteRange,
+    table: &OldTable<'_>,
     place: u32,
     making: &mut Making,
 ) -> Result<bool, ElfError>
     ensures placed { IfOk result (λ fits. IsAddedAt making.old.strings making.new.strings
         making.old.places making.new.places
-        (or_empty_name (string_front (drop place (held_in x.now table)))) fits) }
+        (or_empty_name (string_front (drop place (held_in x.now table.now.range)))) fits) }
     ensures err { IfErr result (λ e. e ≡ Memory) }
 {
-    match copy_string(alloc, x, table, place) {
-        Ok(bytes) => place_found(making, string_in(bytes.as_slice())),
+    match copy_string(alloc, x, table.range, place) {
+        Ok(bytes) => {
+            let near = name_near(x, table, place);
+            place_found(making, string_in(bytes.as_slice()), near)
+        }
+        Err(e) => Err(e),
+    }
+}
+
+/// The same, where the text of the old table is held once the new one is as long.
+fn place_held(
+    alloc: Global,
+    x: &Arranged,
+    table: &OldTable<'_>,
+    place: u32,
+    making: &mut Making,
+) -> Result<bool, ElfError>
+    ensures placed { IfOk result (λ fits. IsAddedAt making.old.strings making.new.strings
+        making.old.places making.new.places
+        (or_empty_name (string_front (drop place (held_in x.now table.now.range)))) fits) }
+    ensures err { IfErr result (λ e. e ≡ Memory) }
+{
+    match hold_names(making, table.text) {
+        Ok(()) => place_copied(alloc, x, table, place, making),
         Err(e) => Err(e),
     }
 }
@@ -51,7 +74,7 @@ fn place_held(
 fn place_section(
     alloc: Global,
     x: &Arranged,
-    table: ByteRange,
+    table: &OldTable<'_>,
     s: u32,
     marks: &List<u64>,
     changes: &Changes,
@@ -59,14 +82,14 @@ fn place_section(
 ) -> Result<bool, ElfError>
     requires { HasPlainNames changes.now }
     ensures placed { (o : Origin) (p : Object) → IsContents o p x.now
-        → HasNamesIn x.now (held_in x.now table) → s < length p.sections
+        → HasNamesIn x.now (held_in x.now table.now.range) → s < length p.sections
         → IfOk result (λ fits. IsAddedAt making.old.strings making.new.strings
         making.old.places making.new.places
         (or_empty_name (name_now p marks.now changes.now.rename s)) fits) }
     ensures err { IfErr result (λ e. e ≡ Memory) }
 {
     match new_name(&changes.rename, mark_of(marks, s)) {
-        Some(name) => place_text(making, name.as_slice()),
+        Some(name) => place_text(making, name.as_slice(), NOWHERE),
         None => place_held(alloc, x, table, header_of(x, s).name, making),
     }
 }
@@ -87,9 +110,9 @@ fn place_sections(
         making.new.strings making.new.places (length p.sections - 1)) }
     ensures err { IfErr result (λ e. e ≡ Memory) }
 {
-    let table = table_of(x);
+    let table = old_table(x);
     for s in 1..x.listed.header.shnum {
-        match place_section(alloc, x, table, s, marks, changes, making) {
+        match place_section(alloc, x, &table, s, marks, changes, making) {
             Ok(fits) => {
                 if !fits {
                     return Ok(false);

@@ -7,12 +7,13 @@ ghost use Rattle.copy_edits.specs.Steps.{IsThere};
 ghost use Rattle.copy_contents.specs.Edits.{HasBytesIf, IsNamedAs};
 ghost use Rattle.copy_contents.specs.Steps.{AltersContents, BecomesContents};
 
-use crate::edits::{put_bytes, set_header};
+use crate::edits::{put_shared, set_header};
 use crate::rows::header_of;
 use copy_changes::CopyFault;
 use copy_names::{Naming, NewNames, place_at};
 use elf_object::occupies_file;
 use elf_types::{ElfError, Shdr, Words};
+use shared_bytes::SharedBytes;
 use strip_contents::Arranged;
 
 /// Stores the place of the name of a section.
@@ -36,14 +37,14 @@ fn put_names(x: &mut Arranged, places: &Words)
 }
 
 /// Gives a section other bytes, where it has some in the file. It refuses `Memory` alone.
-fn put_table(x: &mut Arranged, s: u32, bytes: &[u8]) -> Result<(), ElfError>
+fn put_table(x: &mut Arranged, s: u32, bytes: &SharedBytes) -> Result<(), ElfError>
     ensures ok { OnOk result (HasBytesIf s bytes.now x.old x.new) }
     ensures err { IfErr result (λ e. e ≡ Memory) }
 {
     if !occupies_file(&header_of(x, s)) {
         return Ok(());
     }
-    put_bytes(x, s, bytes)
+    put_shared(x, s, bytes)
 }
 
 /// Stores a new table and the places of the names in it.
@@ -52,7 +53,7 @@ fn store_table(x: &mut Arranged, names: NewNames) -> Result<(), CopyFault>
         result x.old x.new }
 {
     put_names(x, &names.places);
-    match put_table(x, x.listed.header.shstrndx, names.table.as_slice()) {
+    match put_table(x, x.listed.header.shstrndx, &names.table) {
         Ok(()) => Ok(()),
         Err(e) => Err(CopyFault::Strip(e)),
     }

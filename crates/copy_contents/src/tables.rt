@@ -42,6 +42,36 @@ pub(crate) fn table_of(x: &Arranged) -> ByteRange
     range_of(x, x.listed.header.shstrndx)
 }
 
+/// The table of the names, where it is held, and the text in which it stands, of which nothing is
+/// stated.
+pub(crate) struct OldTable<'a> {
+    /// The range of its bytes.
+    pub range: ByteRange,
+    /// The place of the text.
+    pub text_at: u64,
+    /// The text.
+    pub text: &'a [u8],
+}
+
+/// That table, with its text.
+pub(crate) fn old_table(x: &Arranged) -> OldTable<'_>
+    ensures { HasNamesIn x.now (held_in x.now result.range) }
+{
+    let range = table_of(x);
+    let (text_at, text) = x.held.text_of(range.at, range.len);
+    OldTable {
+        range,
+        text_at,
+        text,
+    }
+}
+
+/// Where the name at a place of a table may stand in its text. Nothing but the memory depends on it.
+pub(crate) fn name_near(x: &Arranged, table: &OldTable<'_>, place: u32) -> u64 {
+    let at = table.range.at.saturating_add(u64::from(place));
+    x.held.text_place(at).saturating_sub(table.text_at)
+}
+
 /// How many bytes there are of so many and one more, where so many are left.
 fn front_len(count: u64, left: u64) -> u64
     ensures { result ≡ min (count + 1) left }

@@ -16,8 +16,8 @@ use copy_changes::{Changes, NameBytes};
 use elf_descriptor::Elf;
 use elf_outside::Source;
 use elf_types::{ElfError, List, ScnId};
+use shared_strings::{NOWHERE, SharedStrings};
 use std::alloc::Global;
-use strtab_build::Strings;
 
 /// Adds the names of the sections from 1 on, and answers whether the table is not too large.
 fn place_sections<S: Source>(
@@ -59,7 +59,7 @@ pub fn place_added(adds: &[NameBytes], making: &mut Making) -> Result<bool, ElfE
     ensures err { IfErr result (λ e. e ≡ Memory) }
 {
     for change in adds {
-        match place_text(making, change.name.as_slice()) {
+        match place_text(making, change.name.as_slice(), NOWHERE) {
             Ok(fits) => {
                 if !fits {
                     return Ok(false);
@@ -107,7 +107,7 @@ pub fn begin_table(alloc: Global) -> Result<Making, ElfError>
     let mut places = List::new(alloc);
     match places.push(0) {
         Ok(()) => Ok(Making {
-            strings: Strings::new(alloc),
+            strings: SharedStrings::new(alloc),
             places,
         }),
         Err(e) => Err(e),

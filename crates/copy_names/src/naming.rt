@@ -1,12 +1,13 @@
 //! What becomes of the names of sections.
 
-use elf_types::{Octets, Words};
+use elf_types::Words;
+use shared_bytes::SharedBytes;
 
 /// The table of the names of all sections.
 #[derive(Drop)]
 pub struct NewNames {
-    /// The table's bytes.
-    pub table: Octets,
+    /// The table's bytes: names that share one NUL in an older table are held once.
+    pub table: SharedBytes,
     /// For each section by its number the place of its name in the table, in bytes.
     pub places: Words,
 }

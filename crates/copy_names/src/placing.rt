@@ -15,13 +15,13 @@ use elf_descriptor::Elf;
 use elf_outside::Source;
 use elf_types::{ElfError, List, ScnId, Words};
 use gelf_view::section_name;
-use strtab_build::Strings;
+use shared_strings::{NOWHERE, SharedStrings};
 
 /// A table of names in the making.
 #[derive(Drop)]
 pub struct Making {
     /// The names.
-    pub strings: Strings,
+    pub strings: SharedStrings,
     /// The place of the name of each section so far, in bytes.
     pub places: Words,
 }
@@ -49,22 +49,33 @@ fn false_if_large(e: ElfError) -> Result<bool, ElfError>
     }
 }
 
-/// Adds a name to a table, appends its place to the others, and answers whether the table is not
-/// too large. It refuses `Memory` alone.
-pub fn place_text(making: &mut Making, name: &[u8]) -> Result<bool, ElfError>
+/// Holds the text of an older table, in which names stand, once the table is as long. It refuses
+/// `Memory` alone.
+pub fn hold_names(making: &mut Making, text: &[u8]) -> Result<(), ElfError>
+    ensures strings { making.new.strings ≡ making.old.strings }
+    ensures places { making.new.places ≡ making.old.places }
+    ensures err { IfErr result (λ e. e ≡ Memory) }
+{
+    making.strings.hold_late(text)
+}
+
+/// Adds a name to a table, which may stand at a place of the text that is held, appends its place in
+/// the table to the others, and answers whether the table is not too large. It refuses `Memory`
+/// alone.
+pub fn place_text(making: &mut Making, name: &[u8], near: u64) -> Result<bool, ElfError>
     requires { All (λ b. b ≢ 0) name.now }
     ensures placed { IfOk result (λ fits. IsAddedAt making.old.strings making.new.strings
         making.old.places making.new.places name.now fits) }
     ensures err { IfErr result (λ e. e ≡ Memory) }
 {
-    match making.strings.add(name) {
+    match making.strings.add(name, near) {
         Ok(place) => push_place(&mut making.places, place),
         Err(e) => false_if_large(e),
     }
 }
 
 /// The same of a name that was found, and of the empty one where there is none.
-pub fn place_found(making: &mut Making, name: Option<&[u8]>) -> Result<bool, ElfError>
+pub fn place_found(making: &mut Making, name: Option<&[u8]>, near: u64) -> Result<bool, ElfError>
     requires { All (λ b. b ≢ 0) (strings.or_empty_name (option_copied name)) }
     ensures placed { IfOk result (λ fits. IsAddedAt making.old.strings making.new.strings
         making.old.places making.new.places
@@ -72,8 +83,8 @@ pub fn place_found(making: &mut Making, name: Option<&[u8]>) -> Result<bool, Elf
     ensures err { IfErr result (λ e. e ≡ Memory) }
 {
     match name {
-        Some(name) => place_text(making, name),
-        None => place_text(making, &[]),
+        Some(name) => place_text(making, name, near),
+        None => place_text(making, &[], near),
     }
 }
 
@@ -91,7 +102,7 @@ fn place_stored<S: Source>(
     ensures reads { ReadsNames S.Source result elf.old elf.new }
 {
     match section_name(elf, s) {
-        Ok(name) => place_found(making, name),
+        Ok(name) => place_found(making, name, NOWHERE),
         Err(e) => Err(e),
     }
 }
@@ -113,7 +124,7 @@ pub(crate) fn place_section<S: Source>(
     ensures reads { ReadsNames S.Source result elf.old elf.new }
 {
     match new_name(&changes.rename, mark_of(marks, s.0)) {
-        Some(name) => place_text(making, name.as_slice()),
+        Some(name) => place_text(making, name.as_slice(), NOWHERE),
         None => place_stored(elf, s, making),
     }
 }

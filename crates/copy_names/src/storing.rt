@@ -1,6 +1,6 @@
 //! A new table of names, stored.
 
-ghost use Rattle.std.specs.Prelude.{◌≡◌, ◌<◌, length, slice_get, unwrap_or, Err};
+ghost use Rattle.std.specs.Prelude.{◌≡◌, ◌<◌, length, slice_get, unwrap_or, Ok, Err};
 ghost use Rattle.elf_xlate.specs.declared.content.Items.TheVariants as items;
 ghost use Rattle.elf_object.specs.Steps.{with_own};
 ghost use Rattle.elf_object.specs.Calls as calls;
@@ -67,21 +67,36 @@ fn put_table<S: Source>(elf: &mut Elf<S>, table: Octets)
     }
 }
 
-/// Stores a new table and the places of the names in it.
-fn store_table<S: Source>(elf: &mut Elf<S>, names: NewNames)
-    requires { IsThere elf.old.o elf.old.o.header.shstrndx }
-    ensures object { elf.new.o ≡ with_table elf.old.o names }
+/// Stores a new table, which was copied, and the places of the names in it.
+fn store_table<S: Source>(elf: &mut Elf<S>, names: &NewNames, table: Octets)
+    requires there { IsThere elf.old.o elf.old.o.header.shstrndx }
+    requires copied { table ≡ names.now.table }
+    ensures object { elf.new.o ≡ with_table elf.old.o names.now }
     ensures told { elf.new.told ≡ elf.old.told }
 {
-    let NewNames { table, places } = names;
-    put_names(elf, &places);
+    put_names(elf, &names.places);
     put_table(elf, table);
+}
+
+/// Copies a new table, and stores it.
+fn store_anew<S: Source>(elf: &mut Elf<S>, names: NewNames) -> Result<(), CopyFault>
+    requires { IsThere elf.old.o elf.old.o.header.shstrndx }
+    ensures { Alters (Ok (with_table elf.old.o names)) result elf.old elf.new }
+{
+    match names.table.to_octets(elf.alloc()) {
+        Ok(table) => {
+            store_table(elf, &names, table);
+            Ok(())
+        }
+        Err(e) => Err(CopyFault::Strip(e)),
+    }
 }
 
 /// Stores what becomes of the names: each section from 1 on gets the place of its name in the new
 /// table, by its number, and is marked, and the section of the names, which is there, gets the
 /// table. It refuses in this order: `NoTable` where names change and there is none for them;
-/// `TooLarge` where it would pass 2^32 - 1 bytes. It reads nothing and takes no memory.
+/// `TooLarge` where it would pass 2^32 - 1 bytes; and want of memory, before anything is stored. It
+/// reads nothing.
 ///
 /// Source: gABI chapter 4, "Section Header", sh_name; gelf_update_shdr of gelf(3E).
 pub fn store_names<S: Source>(elf: &mut Elf<S>, naming: Naming) -> Result<(), CopyFault>
@@ -92,9 +107,6 @@ pub fn store_names<S: Source>(elf: &mut Elf<S>, naming: Naming) -> Result<(), Co
         Naming::Stay => Ok(()),
         Naming::NoTable => Err(CopyFault::NoTable),
         Naming::TooLarge => Err(CopyFault::Strip(ElfError::TooLarge)),
-        Naming::Anew(names) => {
-            store_table(elf, names);
-            Ok(())
-        }
+        Naming::Anew(names) => store_anew(elf, names),
     }
 }

@@ -9,6 +9,7 @@ ghost use Rattle.shared_bytes.specs.Pieces.{IsPieceAt};
 use crate::parts::{Parts, clear_parts, count_bytes, make_room, no_parts, put_behind, put_items};
 use crate::pieces::piece_at;
 use crate::sharing::{hold_behind, parts_are_ranged, put_near, put_shared};
+use crate::texts::{text_of, text_place};
 use elf_types::{Class, ElfError, Order};
 use elf_xlate::Items;
 use std::alloc::Global;
@@ -64,6 +65,18 @@ impl SharedBytes {
         ensures { IsPieceAt at self.now result.now }
     {
         piece_at(&self.parts, at)
+    }
+
+    /// The text in which `len` bytes from a place on stand, from the first of them up to the last
+    /// one, and its place. Nothing is stated of it: it is held by others, so that the same bytes are
+    /// ranges of it there. It takes no memory, and looks at each range once.
+    pub fn text_of(&self, at: u64, len: u64) -> (u64, &[u8]) {
+        text_of(&self.parts, at, len)
+    }
+
+    /// The place in the text of the byte at a place. Nothing is stated of it. It takes no memory.
+    pub fn text_place(&self, at: u64) -> u64 {
+        text_place(&self.parts, at)
     }
 
     /// Appends bytes, which are held. It refuses `Memory` alone, which is also where they could not

@@ -10,5 +10,6 @@ mod parts;
 mod pieces;
 mod sharing;
 mod stretches;
+mod texts;
 
 pub use bytes::SharedBytes;

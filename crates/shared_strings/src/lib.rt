@@ -5,4 +5,4 @@
 mod entries;
 mod strings;
 
-pub use strings::SharedStrings;
+pub use strings::{NOWHERE, SharedStrings};

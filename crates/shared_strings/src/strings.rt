@@ -18,8 +18,8 @@ use std::marker::Model;
 /// and `st_name`).
 const LIMIT: u64 = u32::MAX as u64;
 
-/// The place of no text, behind all that can be held.
-const NOWHERE: u64 = u64::MAX;
+/// The place of no text, behind all that can be held: no name stands there.
+pub const NOWHERE: u64 = u64::MAX;
 
 /// The names of a string table in the making, which contracts see as their list: each name that is
 /// not empty once, in order of first use.
@@ -122,6 +122,26 @@ impl SharedStrings {
             }
             Err(e) => Err(e),
         }
+    }
+
+    /// Whether the text of an older table is held. It takes no memory.
+    fn holds_text(&self) -> bool {
+        self.text_at != NOWHERE
+    }
+
+    /// Holds the text of an older table once the table is as long, and never another one; until then
+    /// the names take less. It refuses `Memory` alone, and changes no name.
+    pub fn hold_late(&mut self, text: &[u8]) -> Result<(), ElfError>
+        ensures same { self.new ≡ self.old }
+        ensures err { IfErr result (λ e. e ≡ Memory) }
+    {
+        if self.holds_text() {
+            return Ok(());
+        }
+        if self.len() < text.len() as u64 {
+            return Ok(());
+        }
+        self.hold(text)
     }
 
     /// The offset of a name in the table. An equal name has one offset, the empty name has 0, and a

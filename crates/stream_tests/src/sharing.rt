@@ -4,44 +4,10 @@ use elf_types::ElfError;
 use shared_bytes::SharedBytes;
 use shared_strings::SharedStrings;
 use std::alloc::Global;
+use std::test::*;
 
 /// An older table, whose names end at one NUL.
 const OLD: &[u8] = b"\0aaab\0";
-
-/// A name, the place at which it is looked for in that table, and its place in the new one.
-type Row = (&'static [u8], u64, u32);
-
-/// The first three stand there, the others do not; one is there already, and one is empty.
-const NAMES: &[Row] = &[
-    (b"aaab", 1, 1),
-    (b"aab", 2, 6),
-    (b"ab", 3, 10),
-    (b"xy", 1, 13),
-    (b"ab", 900, 10),
-    (b"", 0, 0),
-    (b"b", 1, 16),
-];
-
-/// The new table.
-const NEW: &[u8] = b"\0aaab\0aab\0ab\0xy\0b\0";
-
-/// Whether each name gets its place.
-fn are_placed(strings: &mut SharedStrings) -> Result<bool, ElfError> {
-    let mut placed = true;
-    for (name, near, place) in NAMES {
-        placed &= strings.add(name, *near)? == *place;
-    }
-    Ok(placed)
-}
-
-/// Whether the new table is made of names in the old one.
-fn is_made(alloc: Global) -> Result<bool, ElfError> {
-    let mut strings = SharedStrings::new(alloc);
-    strings.hold(OLD)?;
-    let placed = are_placed(&mut strings)?;
-    let table = strings.finish()?;
-    Ok(placed && table.to_octets(alloc)?.as_slice() == NEW)
-}
 
 /// Bytes of ranges of a text: the ends of `abcd`, the longest first, and two that are held.
 fn ends(alloc: Global) -> Result<SharedBytes, ElfError> {
@@ -61,7 +27,8 @@ const ENDS: &[u8] = b"abcdbcd--cdd";
 /// Whether each range of them is copied and compared.
 fn is_each_copied(alloc: Global) -> Result<bool, ElfError> {
     let bytes = ends(alloc)?;
-    let mut same = bytes.len() == 12 && bytes.octets_at(alloc, 11, 9)?.as_slice() == b"d";
+    let mut same = bytes.len() == 12
+        && bytes.octets_at(alloc, 11, 9)?.as_slice() == b"d".as_slice();
     for at in 0..12 {
         let rest = &ENDS[at..];
         same &= bytes.octets_at(alloc, at as u64, 12)?.as_slice() == rest;
@@ -72,12 +39,58 @@ fn is_each_copied(alloc: Global) -> Result<bool, ElfError> {
     Ok(same)
 }
 
+/// Whether the text of some of them is told, and the place of one of them in the text.
+fn is_text_told(alloc: Global) -> Result<bool, ElfError> {
+    let bytes = ends(alloc)?;
+    let (at, text) = bytes.text_of(3, 5);
+    Ok(at == 1 && text == b"bcd-".as_slice() && bytes.text_place(10) == 3)
+}
+
+// The first three stand in the older table, the others do not; one is there already, and one is
+// empty. Each has the place at which it is looked for in the older table, and its place in the new
+// one.
 #[test]
-fn names_of_an_older_table_make_a_new_one(rt: HostRuntime) {
-    assert!(rt; is_made(rt.alloc()) == Ok(true));
+fn names_of_an_older_table_make_a_new_one(rt: HostRuntime) -> Result<(), Fail> {
+    let mut strings = SharedStrings::new(rt.alloc());
+    strings.hold(OLD)?;
+    let uses: [(&[u8], u64, u32); 7] = [
+        (b"aaab", 1, 1),
+        (b"aab", 2, 6),
+        (b"ab", 3, 10),
+        (b"xy", 1, 13),
+        (b"ab", 900, 10),
+        (b"", 0, 0),
+        (b"b", 1, 16),
+    ];
+    for (name, near, place) in uses {
+        assert_eq!(rt; strings.add(name, near), Ok(place));
+    }
+    let table = strings.finish()?.to_octets(rt.alloc())?;
+    assert!(rt; table.as_slice() == b"\0aaab\0aab\0ab\0xy\0b\0".as_slice());
+    Ok(())
+}
+
+// The older table is held behind the second of them, since the new one is then as long.
+#[test]
+fn an_older_table_is_held_late(rt: HostRuntime) -> Result<(), Fail> {
+    let mut strings = SharedStrings::new(rt.alloc());
+    let uses: [(&[u8], u64, u32); 4] = [
+        (b"aaab", 1, 1),
+        (b"aab", 2, 6),
+        (b"ab", 3, 10),
+        (b"b", 4, 13),
+    ];
+    for (name, near, place) in uses {
+        strings.hold_late(OLD)?;
+        assert_eq!(rt; strings.add(name, near), Ok(place));
+    }
+    let table = strings.finish()?.to_octets(rt.alloc())?;
+    assert!(rt; table.as_slice() == b"\0aaab\0aab\0ab\0b\0".as_slice());
+    Ok(())
 }
 
 #[test]
 fn shared_bytes_are_copied_from_each_place_on(rt: HostRuntime) {
     assert!(rt; is_each_copied(rt.alloc()) == Ok(true));
+    assert!(rt; is_text_told(rt.alloc()) == Ok(true));
 }

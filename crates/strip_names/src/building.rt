@@ -38,8 +38,6 @@ struct Making {
     places: Words,
     /// The name that is added, a copy.
     copy: Octets,
-    /// Whether `strings` holds the text of the old table.
-    begun: bool,
 }
 
 /// The bytes of the old table, where they are at hand. Nothing but the memory depends on them.
@@ -58,31 +56,14 @@ fn old_table<S: Source>(elf: &Elf<S>) -> Option<&[u8]> {
 
 /// Holds the text of the old table, in which the names stand, once the new one is as long. It
 /// refuses `Memory` alone.
-fn hold_text(making: &mut Making, text: &[u8]) -> Result<(), ElfError>
-    ensures strings { making.new.strings ≡ making.old.strings }
-    ensures places { making.new.places ≡ making.old.places }
-    ensures copy { making.new.copy ≡ making.old.copy }
-    ensures err { IfErr result (λ e. e ≡ Memory) }
-{
-    if making.strings.len() < text.len() as u64 {
-        return Ok(());
-    }
-    making.begun = true;
-    making.strings.hold(text)
-}
-
-/// The same where that was not done.
 fn begin_text<S: Source>(elf: &Elf<S>, making: &mut Making) -> Result<(), ElfError>
     ensures strings { making.new.strings ≡ making.old.strings }
     ensures places { making.new.places ≡ making.old.places }
     ensures copy { making.new.copy ≡ making.old.copy }
     ensures err { IfErr result (λ e. e ≡ Memory) }
 {
-    if making.begun {
-        return Ok(());
-    }
     match old_table(elf) {
-        Some(text) => hold_text(making, text),
+        Some(text) => making.strings.hold_late(text),
         None => Ok(()),
     }
 }
@@ -179,7 +160,6 @@ fn finish(making: Making) -> Result<NewNames, ElfError>
         strings,
         places,
         copy: _copy,
-        begun: _begun,
     } = making;
     match strings.finish() {
         Ok(table) => Ok(NewNames { table, places }),
@@ -218,7 +198,6 @@ pub fn build_names<S: Source>(
         strings: SharedStrings::new(alloc),
         places: List::new(alloc),
         copy: List::new(alloc),
-        begun: false,
     };
     match add_all(elf, removed, &mut making) {
         Ok(fits) => finish_if(making, fits),

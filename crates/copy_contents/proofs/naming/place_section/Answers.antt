@@ -22,7 +22,7 @@ returns-in-Some-clause-placed c = λ o p is has below.
 
 pub returns-in-None-clause-placed : goal.returns-in-None-clause-placed
 returns-in-None-clause-placed c = λ o p is has below.
-    let table : List ℕ = held_in c.args.x.now c.args.table in
+    let table : List ℕ = held_in c.args.x.now c.args.table.now.range in
     old_placed c.args.x.now c.args.marks.now c.args.changes.now.rename c.args.s
     c.args.making.now.strings c.place_held.new.making.strings c.args.making.now.places
     c.place_held.new.making.places c.place_held.result table

@@ -23,7 +23,7 @@ returns-then-not-fits-clause-added c = λ o p is.
     (subst (λ (b : Bool). IsAddedAt c.loop-s.making.strings c.place_section.new.making.strings
     c.loop-s.making.places c.place_section.new.making.places
     (or_empty_name (name_now p c.args.marks.now c.args.changes.now.rename c.loop-s.s)) b)
-    c.if-not-fits.true (c.in-Ok.ensures.placed o p is c.table_of-table.ensures below))
+    c.if-not-fits.true (c.in-Ok.ensures.placed o p is c.old_table-table.ensures below))
 
 pub loop-s-preserved : goal.loop-s-preserved
 loop-s-preserved c = λ o p is.
@@ -37,7 +37,7 @@ loop-s-preserved c = λ o p is.
     (subst (λ (b : Bool). IsAddedAt c.loop-s.making.strings c.place_section.new.making.strings
     c.loop-s.making.places c.place_section.new.making.places
     (or_empty_name (name_now p c.args.marks.now c.args.changes.now.rename c.loop-s.s)) b)
-    c.if-not-fits.false (c.in-Ok.ensures.placed o p is c.table_of-table.ensures below))
+    c.if-not-fits.false (c.in-Ok.ensures.placed o p is c.old_table-table.ensures below))
 
 pub returns-clause-added : goal.returns-clause-added
 returns-clause-added c = λ o p is.

@@ -5,7 +5,7 @@ use Rattle.copy_contents.proofs.storing.store_table.Goals as goal
 pub returns-in-Ok : goal.returns-in-Ok
 returns-in-Ok c =
     table_alters c.args.names c.args.x.now c.put_names.new.x c.put_table.new.x c.put_names.ensures
-    (rw c.as_slice.ensures at c.in-Ok.ensures.ok)
+    c.in-Ok.ensures.ok
 
 pub returns : goal.returns
 returns c =

@@ -2,11 +2,10 @@ use Rattle.std.proofs.Common.{refl}
 use Rattle.copy_changes.specs.declared.faults.CopyFault.TheVariants as faults
 use Rattle.elf_types.specs.declared.errors.ElfError.TheVariants.{TooLarge}
 use Rattle.copy_edits.proofs.StepLaws.{alter_none, alter_stop}
-use Rattle.copy_names.proofs.StoreLaws.{names_stored}
 use Rattle.copy_names.proofs.storing.store_names.Goals as goal
 
-pub store_table-requires : goal.store_table-requires
-store_table-requires g c = rw c.in-Anew.is at c.requires
+pub store_anew-requires : goal.store_anew-requires
+store_anew-requires g c = rw c.in-Anew.is at c.requires
 
 pub returns-in-Stay : goal.returns-in-Stay
 returns-in-Stay g c = rw c.in-Stay.is (alter_none c.args.elf.now)
@@ -22,5 +21,4 @@ returns-in-TooLarge g c =
 
 pub returns-in-Anew : goal.returns-in-Anew
 returns-in-Anew g c =
-    rw c.in-Anew.is (names_stored c.in-Anew.names c.args.elf.now c.store_table.new.elf
-    c.store_table.ensures.object c.store_table.ensures.told)
+    rw c.in-Anew.is c.store_anew.ensures
