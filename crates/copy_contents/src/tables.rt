@@ -44,6 +44,7 @@ pub(crate) fn table_of(x: &Arranged) -> ByteRange
 
 /// The table of the names, where it is held, and the text in which it stands, of which nothing is
 /// stated.
+#[derive(Drop)]
 pub(crate) struct OldTable<'a> {
     /// The range of its bytes.
     pub range: ByteRange,
