@@ -13,7 +13,7 @@ use Rattle.elf_ident.specs.Front.{zero_shdr}
 use Rattle.elf_object.specs.Object.{Object, Section, header_of, section_at, occupies_file}
 use Rattle.elf_object.specs.Refusal.{unfit_segment}
 use Rattle.elf_object.specs.Steps.{own_piece}
-use Rattle.elf_object.specs.Strings.{section_name}
+use Rattle.elf_object.specs.Strings.{section_name, or_empty_name}
 use Rattle.elf_object.specs.Valid.{IsObject}
 use Rattle.command_objects.specs.Words.{header_at}
 use Rattle.gelf_view.specs.Records.{string_front}
@@ -114,6 +114,10 @@ abbrev pub has_strings : Arranged → Bool
 has_strings x =
     not (x.listed.header.shstrndx == 0) && nat_lt x.listed.header.shstrndx x.listed.header.shnum
     && (header_in x x.listed.header.shstrndx).stype == SHT_STRTAB
+
+-- the name at a place of these bytes, and the empty one where no NUL ends it
+abbrev pub held_name : List ℕ → ℕ → List ℕ
+held_name table at = or_empty_name (string_front (drop at table))
 
 -- each section's name is the string at its place in these bytes, where a NUL ends it
 abbrev pub HasNamesIn : Arranged → List ℕ → Type 0

@@ -13,7 +13,6 @@ use copy_changes::{CopyFault, NameBytes};
 use copy_edits::added_header;
 use elf_types::constants::MAX_SECTIONS;
 use elf_types::{ElfError, NULL_SECTION};
-use std::alloc::Global;
 use strip_contents::Arranged;
 
 /// Adds section 0 where there is no section. It refuses `Memory` alone.

@@ -1,17 +1,17 @@
 //! What becomes of the names.
 
-ghost use Rattle.std.specs.Prelude.{◌≡◌, ◌<◌, ◌-◌, ◌∷◌, [], drop, length, IfOk, IfErr};
+ghost use Rattle.std.specs.Prelude.{◌≡◌, ◌<◌, ◌-◌, ◌∷◌, ℕ, [], true, None, length, IfOk, IfErr};
 ghost use Rattle.elf_types.specs.declared.errors.ElfError.TheVariants.{Memory};
 ghost use Rattle.elf_object.specs.Object.{Object};
 ghost use Rattle.elf_object.specs.Strings.{or_empty_name};
 ghost use Rattle.command_objects.specs.Copied.{changes_names};
-ghost use Rattle.gelf_view.specs.Records.{string_front};
+ghost use Rattle.strip_names.specs.Known.{known_at, NotesName, AreHeld};
 ghost use Rattle.strip_names.specs.Names.{IsAddedAt};
 ghost use Rattle.copy_changes.specs.Stated.{HasPlainNames, stated_changes};
 ghost use Rattle.copy_edits.specs.Names.{name_now};
 ghost use Rattle.copy_names.specs.Texts.{all_texts, AddsTo};
 ghost use Rattle.copy_names.specs.Stores.{IsBuilt, IsNaming};
-ghost use Rattle.copy_contents.specs.Rows.{Origin, IsContents, HasNamesIn, held_in};
+ghost use Rattle.copy_contents.specs.Rows.{Origin, IsContents, HasNamesIn, held_in, held_name};
 
 use crate::rows::header_of;
 use crate::tables::{OldTable, copy_string, name_near, old_table};
@@ -19,7 +19,7 @@ use copy_changes::Changes;
 use copy_edits::{mark_of, new_name};
 use copy_names::{
     Making, Naming, begin_table, changes_names, finish_names, hold_names, place_added, place_found,
-    place_text,
+    place_text, push_place,
 };
 use elf_types::{ElfError, List};
 use gelf_view::string_in;
@@ -28,29 +28,8 @@ use std::alloc::Global;
 use strip_contents::Arranged;
 
 /// Adds the name at a place of a table that is held to a table in the making, appends its place to
-/// the others, and answers whether the table is not too large. It refuses `Memory` alone.
-fn place_copied(
-    alloc: Global,
-    x: &Arranged,
-    table: &OldTable<'_>,
-    place: u32,
-    making: &mut Making,
-) -> Result<bool, ElfError>
-    ensures placed { IfOk result (λ fits. IsAddedAt making.old.strings making.new.strings
-        making.old.places making.new.places
-        (or_empty_name (string_front (drop place (held_in x.now table.now.range)))) fits) }
-    ensures err { IfErr result (λ e. e ≡ Memory) }
-{
-    match copy_string(alloc, x, table.range, place) {
-        Ok(bytes) => {
-            let near = name_near(x, table, place);
-            place_found(making, string_in(bytes.as_slice()), near)
-        }
-        Err(e) => Err(e),
-    }
-}
-
-/// The same, where the text of the old table is held once the new one is as long.
+/// the others, notes it under that place, and answers whether the table is not too large. The text
+/// of the old table is held once the new one is as long. It refuses `Memory` alone.
 fn place_held(
     alloc: Global,
     x: &Arranged,
@@ -60,12 +39,45 @@ fn place_held(
 ) -> Result<bool, ElfError>
     ensures placed { IfOk result (λ fits. IsAddedAt making.old.strings making.new.strings
         making.old.places making.new.places
-        (or_empty_name (string_front (drop place (held_in x.now table.now.range)))) fits) }
+        (held_name (held_in x.now table.now.range) place) fits) }
+    ensures noted { IfOk result (NotesName place
+        (held_name (held_in x.now table.now.range) place) making.new.strings
+        making.old.known making.new.known) }
     ensures err { IfErr result (λ e. e ≡ Memory) }
 {
-    match hold_names(making, table.text) {
-        Ok(()) => place_copied(alloc, x, table, place, making),
+    if let Err(e) = hold_names(making, table.text) {
+        return Err(e);
+    }
+    match copy_string(alloc, x, table.range, place) {
+        Ok(bytes) => {
+            let near = name_near(x, table, place);
+            place_found(making, place, string_in(bytes.as_slice()), near)
+        }
         Err(e) => Err(e),
+    }
+}
+
+/// The same, where a name that was added before, from the same place, is not looked at.
+fn place_old(
+    alloc: Global,
+    x: &Arranged,
+    table: &OldTable<'_>,
+    place: u32,
+    making: &mut Making,
+) -> Result<bool, ElfError>
+    requires { AreHeld (held_name (held_in x.now table.now.range)) making.old.known
+        making.old.strings }
+    ensures placed { IfOk result (λ fits. IsAddedAt making.old.strings making.new.strings
+        making.old.places making.new.places
+        (held_name (held_in x.now table.now.range) place) fits) }
+    ensures known { IfOk result (λ fits. fits ≡ true
+        → AreHeld (held_name (held_in x.now table.now.range)) making.new.known
+        making.new.strings) }
+    ensures err { IfErr result (λ e. e ≡ Memory) }
+{
+    match making.known.find(place) {
+        Some(noted) => push_place(&mut making.places, noted),
+        None => place_held(alloc, x, table, place, making),
     }
 }
 
@@ -80,17 +92,22 @@ fn place_section(
     changes: &Changes,
     making: &mut Making,
 ) -> Result<bool, ElfError>
-    requires { HasPlainNames changes.now }
+    requires plain { HasPlainNames changes.now }
+    requires known { AreHeld (held_name (held_in x.now table.now.range)) making.old.known
+        making.old.strings }
     ensures placed { (o : Origin) (p : Object) → IsContents o p x.now
         → HasNamesIn x.now (held_in x.now table.now.range) → s < length p.sections
         → IfOk result (λ fits. IsAddedAt making.old.strings making.new.strings
         making.old.places making.new.places
         (or_empty_name (name_now p marks.now changes.now.rename s)) fits) }
+    ensures known { IfOk result (λ fits. fits ≡ true
+        → AreHeld (held_name (held_in x.now table.now.range)) making.new.known
+        making.new.strings) }
     ensures err { IfErr result (λ e. e ≡ Memory) }
 {
     match new_name(&changes.rename, mark_of(marks, s)) {
         Some(name) => place_text(making, name.as_slice(), NOWHERE),
-        None => place_held(alloc, x, table, header_of(x, s).name, making),
+        None => place_old(alloc, x, table, header_of(x, s).name, making),
     }
 }
 
@@ -105,6 +122,7 @@ fn place_sections(
     requires plain { HasPlainNames changes.now }
     requires strings { making.old.strings ≡ [] }
     requires places { making.old.places ≡ 0 ∷ [] }
+    requires known { (at : ℕ) → known_at making.old.known at ≡ None }
     ensures added { (o : Origin) (p : Object) → IsContents o p x.now
         → IfOk result (AddsTo (all_texts p marks.now changes.now)
         making.new.strings making.new.places (length p.sections - 1)) }
@@ -135,6 +153,7 @@ fn place_all(
     requires plain { HasPlainNames changes.now }
     requires strings { making.old.strings ≡ [] }
     requires places { making.old.places ≡ 0 ∷ [] }
+    requires known { (at : ℕ) → known_at making.old.known at ≡ None }
     ensures added { (o : Origin) (p : Object) → IsContents o p x.now
         → IfOk result (AddsTo (all_texts p marks.now changes.now)
         making.new.strings making.new.places

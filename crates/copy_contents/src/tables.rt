@@ -67,7 +67,8 @@ pub(crate) fn old_table(x: &Arranged) -> OldTable<'_>
     }
 }
 
-/// Where the name at a place of a table may stand in its text. Nothing but the memory depends on it.
+/// Where the name at a place of a table may stand in its text. Nothing but the memory depends on
+/// it.
 pub(crate) fn name_near(x: &Arranged, table: &OldTable<'_>, place: u32) -> u64 {
     let at = table.range.at.saturating_add(u64::from(place));
     x.held.text_place(at).saturating_sub(table.text_at)
@@ -141,9 +142,9 @@ fn copy_ended(
     }
 }
 
-/// The bytes of a table from a place on, copied: at least those of the string with which they begin,
-/// and its NUL, where one ends it. It refuses `Memory` alone, and copies at most a few times as many
-/// bytes as that string has.
+/// The bytes of a table from a place on, copied: at least those of the string with which they
+/// begin, and its NUL, where one ends it. It refuses `Memory` alone, and copies at most a few times
+/// as many bytes as that string has.
 pub(crate) fn copy_string(
     alloc: Global,
     x: &Arranged,

@@ -10,6 +10,8 @@ use Rattle.strtab_build.specs.Table.{table, place_of, distinct}
 use Rattle.tool_text.specs.Reading.{is_section_name}
 use Rattle.elf_object.specs.Object.{Object}
 use Rattle.elf_object.specs.Strings.{section_name, or_empty_name}
+use Rattle.strip_names.specs.declared.known.KnownPlaces.{KnownPlaces}
+use Rattle.strip_names.specs.Known.{NotesName}
 use Rattle.strip_names.specs.Names.{is_too_large, IsAddedAt}
 use Rattle.strip_names.proofs.AddLaws.{fits_ok, err_added, err_memory, added_at}
 use Rattle.strip_names.proofs.CopyLaws.{plain_copied, name_plain}
@@ -45,6 +47,15 @@ pub text_memory : (e : ElfError) (r : Result Bool ElfError) → (e ≡ TooLarge)
     → IfErr r (λ other. (other ≡ e) × (is_too_large e ≡ false)) → IfErr r (λ d. d ≡ Memory)
 text_memory e (Ok fits) refusals is = tt
 text_memory e (Err d) refusals is = err_memory e (Err d) refusals is
+
+-- and none is noted
+pub text_unnoted : (e : ElfError) (r : Result Bool ElfError) (at : ℕ) (name : List ℕ)
+    (names : List (List ℕ)) (known next : KnownPlaces)
+    → IfOk r (λ fits. (fits ≡ false) × (is_too_large e ≡ true))
+    → IfOk r (NotesName at name names known next)
+text_unnoted e (Err d) at name names known next is = tt
+text_unnoted e (Ok fits) at name names known next is = λ yes.
+    absurd (let no : false ≡ true = sym is.0 ∙ yes in cc)
 
 -- ---- Names without NUL
 

@@ -1,11 +1,12 @@
 //! The new table of all names.
 
-ghost use Rattle.std.specs.Prelude.{◌≡◌, ◌==◌, ◌+◌, ◌-◌, ◌∷◌, ℕ, List as Seq, [], true, drop, length, map, IsTrue, IfOk, IfErr};
+ghost use Rattle.std.specs.Prelude.{◌≡◌, ◌==◌, ◌+◌, ◌-◌, ◌∷◌, ℕ, List as Seq, [], true, None, drop, length, map, IsTrue, IfOk, IfErr};
 ghost use Rattle.std.specs.List.{list_all};
 ghost use Rattle.elf_types.specs.declared.errors.ElfError.TheVariants.{Memory};
 ghost use Rattle.tool_text.specs.Reading.{is_section_name};
 ghost use Rattle.command_objects.specs.Copied.{changes_names};
 ghost use Rattle.strip_removed.specs.Calls.{ReadsNames};
+ghost use Rattle.strip_names.specs.Known.{known_at};
 ghost use Rattle.copy_changes.specs.Stated.{bytes_pair, HasPlainNames, stated_changes};
 ghost use Rattle.copy_names.specs.Texts.{all_texts, AreAdded, AddsTo};
 ghost use Rattle.copy_names.specs.Stores.{IsBuilt, IsNaming};
@@ -18,6 +19,7 @@ use elf_outside::Source;
 use elf_types::{ElfError, List, ScnId};
 use shared_strings::{NOWHERE, SharedStrings};
 use std::alloc::Global;
+use strip_names::KnownPlaces;
 
 /// Adds the names of the sections from 1 on, and answers whether the table is not too large.
 fn place_sections<S: Source>(
@@ -30,6 +32,7 @@ fn place_sections<S: Source>(
     requires plain { HasPlainNames changes.now }
     requires strings { making.old.strings ≡ [] }
     requires places { making.old.places ≡ 0 ∷ [] }
+    requires known { (at : ℕ) → known_at making.old.known at ≡ None }
     ensures added { IfOk result (AddsTo (all_texts elf.old.o marks.now changes.now)
         making.new.strings making.new.places (length elf.old.o.sections - 1)) }
     ensures reads { ReadsNames S.Source result elf.old elf.new }
@@ -82,6 +85,7 @@ fn place_all<S: Source>(
     requires plain { HasPlainNames changes.now }
     requires strings { making.old.strings ≡ [] }
     requires places { making.old.places ≡ 0 ∷ [] }
+    requires known { (at : ℕ) → known_at making.old.known at ≡ None }
     ensures added { IfOk result (AddsTo (all_texts elf.old.o marks.now changes.now)
         making.new.strings making.new.places
         (length (all_texts elf.old.o marks.now changes.now))) }
@@ -102,6 +106,7 @@ fn place_all<S: Source>(
 /// `Memory` alone.
 pub fn begin_table(alloc: Global) -> Result<Making, ElfError>
     ensures begun { IfOk result (λ making. (making.strings ≡ []) × (making.places ≡ 0 ∷ [])) }
+    ensures known { IfOk result (λ making. (at : ℕ) → known_at making.known at ≡ None) }
     ensures err { IfErr result (λ e. e ≡ Memory) }
 {
     let mut places = List::new(alloc);
@@ -109,6 +114,7 @@ pub fn begin_table(alloc: Global) -> Result<Making, ElfError>
         Ok(()) => Ok(Making {
             strings: SharedStrings::new(alloc),
             places,
+            known: KnownPlaces::new(alloc),
         }),
         Err(e) => Err(e),
     }
@@ -121,7 +127,11 @@ fn finish_table(making: Making) -> Result<Naming, ElfError>
         → IfOk result (IsBuilt texts) }
     ensures err { IfErr result (λ e. e ≡ Memory) }
 {
-    let Making { strings, places } = making;
+    let Making {
+        strings,
+        places,
+        known: _known,
+    } = making;
     match strings.finish() {
         Ok(table) => Ok(Naming::Anew(NewNames { table, places })),
         Err(e) => Err(e),

@@ -1,11 +1,12 @@
 //! Names that are added to a table in the making, with their places.
 
-ghost use Rattle.std.specs.Prelude.{◌≡◌, ◌≢◌, ◌<◌, ◌∷◌, ◌++◌, [], true, false, length, All, IsTrue, IfOk, IfErr};
+ghost use Rattle.std.specs.Prelude.{◌≡◌, ◌≢◌, ◌<◌, ◌∷◌, ◌++◌, [], true, false, length, All, IsTrue, IfOk, OnOk, IfErr};
 ghost use Rattle.std.specs.Option.{option_copied};
 ghost use Rattle.elf_types.specs.declared.errors.ElfError.TheVariants.{Memory};
 ghost use Rattle.elf_object.specs.Strings as strings;
 ghost use Rattle.strip_removed.specs.Calls.{ReadsNames};
-ghost use Rattle.strip_names.specs.Names.{is_too_large, IsAddedAt};
+ghost use Rattle.strip_names.specs.Known.{KnowsMore, NotesName, AreHeld};
+ghost use Rattle.strip_names.specs.Names.{is_too_large, old_name, IsAddedAt};
 ghost use Rattle.copy_changes.specs.Stated.{HasPlainNames};
 ghost use Rattle.copy_edits.specs.Names.{name_now};
 
@@ -16,6 +17,7 @@ use elf_outside::Source;
 use elf_types::{ElfError, List, ScnId, Words};
 use gelf_view::section_name;
 use shared_strings::{NOWHERE, SharedStrings};
+use strip_names::{KnownPlaces, name_field};
 
 /// A table of names in the making.
 #[derive(Drop)]
@@ -24,10 +26,12 @@ pub struct Making {
     pub strings: SharedStrings,
     /// The place of the name of each section so far, in bytes.
     pub places: Words,
+    /// The places of names that stand in an older table, by where they stand there.
+    pub known: KnownPlaces,
 }
 
 /// Appends a place. It refuses `Memory` alone.
-fn push_place(places: &mut Words, place: u32) -> Result<bool, ElfError>
+pub fn push_place(places: &mut Words, place: u32) -> Result<bool, ElfError>
     ensures pushed { IfOk result (λ fits.
         (fits ≡ true) × (places.new ≡ places.old ++ place ∷ [])) }
     ensures err { IfErr result (λ e. e ≡ Memory) }
@@ -54,18 +58,20 @@ fn false_if_large(e: ElfError) -> Result<bool, ElfError>
 pub fn hold_names(making: &mut Making, text: &[u8]) -> Result<(), ElfError>
     ensures strings { making.new.strings ≡ making.old.strings }
     ensures places { making.new.places ≡ making.old.places }
+    ensures known { making.new.known ≡ making.old.known }
     ensures err { IfErr result (λ e. e ≡ Memory) }
 {
     making.strings.hold_late(text)
 }
 
-/// Adds a name to a table, which may stand at a place of the text that is held, appends its place in
-/// the table to the others, and answers whether the table is not too large. It refuses `Memory`
+/// Adds a name to a table, which may stand at a place of the text that is held, appends its place
+/// in the table to the others, and answers whether the table is not too large. It refuses `Memory`
 /// alone.
 pub fn place_text(making: &mut Making, name: &[u8], near: u64) -> Result<bool, ElfError>
     requires { All (λ b. b ≢ 0) name.now }
     ensures placed { IfOk result (λ fits. IsAddedAt making.old.strings making.new.strings
         making.old.places making.new.places name.now fits) }
+    ensures known { making.new.known ≡ making.old.known }
     ensures err { IfErr result (λ e. e ≡ Memory) }
 {
     match making.strings.add(name, near) {
@@ -74,24 +80,66 @@ pub fn place_text(making: &mut Making, name: &[u8], near: u64) -> Result<bool, E
     }
 }
 
-/// The same of a name that was found, and of the empty one where there is none.
-pub fn place_found(making: &mut Making, name: Option<&[u8]>, near: u64) -> Result<bool, ElfError>
+/// Appends a place, and notes it under that at which the name stands in an older table. It refuses
+/// `Memory` alone.
+fn note_place(making: &mut Making, at: u32, place: u32) -> Result<bool, ElfError>
+    ensures strings { making.new.strings ≡ making.old.strings }
+    ensures pushed { IfOk result (λ fits.
+        (fits ≡ true) × (making.new.places ≡ making.old.places ++ place ∷ [])) }
+    ensures noted { OnOk result (KnowsMore making.old.known making.new.known at place) }
+    ensures err { IfErr result (λ e. e ≡ Memory) }
+{
+    match making.known.note(at, place) {
+        Ok(()) => push_place(&mut making.places, place),
+        Err(e) => Err(e),
+    }
+}
+
+/// Adds a name as `place_text` does, and notes its place under that at which it stands in an older
+/// table. It refuses `Memory` alone.
+fn place_noted(making: &mut Making, at: u32, name: &[u8], near: u64) -> Result<bool, ElfError>
+    requires { All (λ b. b ≢ 0) name.now }
+    ensures placed { IfOk result (λ fits. IsAddedAt making.old.strings making.new.strings
+        making.old.places making.new.places name.now fits) }
+    ensures noted { IfOk result (NotesName at name.now making.new.strings
+        making.old.known making.new.known) }
+    ensures err { IfErr result (λ e. e ≡ Memory) }
+{
+    match making.strings.add(name, near) {
+        Ok(place) => note_place(making, at, place),
+        Err(e) => false_if_large(e),
+    }
+}
+
+/// The same of a name that was found at a place of an older table, and of the empty one where there
+/// is none.
+pub fn place_found(
+    making: &mut Making,
+    at: u32,
+    name: Option<&[u8]>,
+    near: u64,
+) -> Result<bool, ElfError>
     requires { All (λ b. b ≢ 0) (strings.or_empty_name (option_copied name)) }
     ensures placed { IfOk result (λ fits. IsAddedAt making.old.strings making.new.strings
         making.old.places making.new.places
         (strings.or_empty_name (option_copied name.entry)) fits) }
+    ensures noted { IfOk result (NotesName at
+        (strings.or_empty_name (option_copied name.entry)) making.new.strings
+        making.old.known making.new.known) }
     ensures err { IfErr result (λ e. e ≡ Memory) }
 {
     match name {
-        Some(name) => place_text(making, name, near),
-        None => place_text(making, &[], near),
+        Some(name) => place_noted(making, at, name, near),
+        None => place_noted(making, at, &[], near),
     }
 }
 
-/// The same of the name of a section that is there, as it is stored.
-fn place_stored<S: Source>(
+/// The same of the name of a section that is there, as it is stored at a place of the table of the
+/// names.
+fn place_read<S: Source>(
     elf: &mut Elf<S>,
     s: ScnId,
+    at: u32,
     making: &mut Making,
 ) -> Result<bool, ElfError>
     requires there { s.0 < length elf.old.o.sections }
@@ -99,11 +147,37 @@ fn place_stored<S: Source>(
     ensures placed { IfOk result (λ fits. IsAddedAt making.old.strings making.new.strings
         making.old.places making.new.places
         (strings.or_empty_name (strings.section_name elf.old.o s.0)) fits) }
+    ensures noted { IfOk result (NotesName at
+        (strings.or_empty_name (strings.section_name elf.old.o s.0)) making.new.strings
+        making.old.known making.new.known) }
     ensures reads { ReadsNames S.Source result elf.old elf.new }
 {
     match section_name(elf, s) {
-        Ok(name) => place_found(making, name, NOWHERE),
+        Ok(name) => place_found(making, at, name, NOWHERE),
         Err(e) => Err(e),
+    }
+}
+
+/// The same, where a name that was added before, from the same place, is not looked at.
+fn place_stored<S: Source>(
+    elf: &mut Elf<S>,
+    s: ScnId,
+    making: &mut Making,
+) -> Result<bool, ElfError>
+    requires there { s.0 < length elf.old.o.sections }
+    requires told { IsTrue elf.old.told }
+    requires known { AreHeld (old_name elf.old.o) making.old.known making.old.strings }
+    ensures placed { IfOk result (λ fits. IsAddedAt making.old.strings making.new.strings
+        making.old.places making.new.places
+        (strings.or_empty_name (strings.section_name elf.old.o s.0)) fits) }
+    ensures known { IfOk result (λ fits. fits ≡ true
+        → AreHeld (old_name elf.old.o) making.new.known making.new.strings) }
+    ensures reads { ReadsNames S.Source result elf.old elf.new }
+{
+    let at = name_field(elf, s);
+    match making.known.find(at) {
+        Some(place) => push_place(&mut making.places, place),
+        None => place_read(elf, s, at, making),
     }
 }
 
@@ -118,9 +192,12 @@ pub(crate) fn place_section<S: Source>(
     requires there { s.0 < length elf.old.o.sections }
     requires told { IsTrue elf.old.told }
     requires plain { HasPlainNames changes.now }
+    requires known { AreHeld (old_name elf.old.o) making.old.known making.old.strings }
     ensures placed { IfOk result (λ fits. IsAddedAt making.old.strings making.new.strings
         making.old.places making.new.places
         (strings.or_empty_name (name_now elf.old.o marks.now changes.now.rename s.0)) fits) }
+    ensures known { IfOk result (λ fits. fits ≡ true
+        → AreHeld (old_name elf.old.o) making.new.known making.new.strings) }
     ensures reads { ReadsNames S.Source result elf.old elf.new }
 {
     match new_name(&changes.rename, mark_of(marks, s.0)) {

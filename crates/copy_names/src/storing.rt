@@ -1,6 +1,6 @@
 //! A new table of names, stored.
 
-ghost use Rattle.std.specs.Prelude.{◌≡◌, ◌<◌, length, slice_get, unwrap_or, Ok, Err};
+ghost use Rattle.std.specs.Prelude.{◌≡◌, ◌<◌, slice_get, unwrap_or, Ok, Err};
 ghost use Rattle.elf_xlate.specs.declared.content.Items.TheVariants as items;
 ghost use Rattle.elf_object.specs.Steps.{with_own};
 ghost use Rattle.elf_object.specs.Calls as calls;

@@ -10,7 +10,6 @@ ghost use Rattle.copy_tool.specs.Faults.{named_text, copy_fault_text, fault_stop
 use copy_changes::CopyFault;
 use elf_outside::Sink;
 use elf_types::{ElfError, Octets, put_bytes, put_error, put_text};
-use std::alloc::Global;
 use tool_output::{FileName, Line, Message, Outputs, Stop};
 
 /// Appends a name between two texts.

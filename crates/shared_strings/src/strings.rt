@@ -109,8 +109,8 @@ impl SharedStrings {
         self.bytes.len()
     }
 
-    /// Holds the text of an older table, in which names may stand; it is copied. It refuses `Memory`
-    /// alone, and changes no name.
+    /// Holds the text of an older table, in which names may stand; it is copied. It refuses
+    /// `Memory` alone, and changes no name.
     pub fn hold(&mut self, text: &[u8]) -> Result<(), ElfError>
         ensures same { self.new ≡ self.old }
         ensures err { IfErr result (λ e. e ≡ Memory) }
@@ -129,8 +129,8 @@ impl SharedStrings {
         self.text_at != NOWHERE
     }
 
-    /// Holds the text of an older table once the table is as long, and never another one; until then
-    /// the names take less. It refuses `Memory` alone, and changes no name.
+    /// Holds the text of an older table once the table is as long, and never another one; until
+    /// then the names take less. It refuses `Memory` alone, and changes no name.
     pub fn hold_late(&mut self, text: &[u8]) -> Result<(), ElfError>
         ensures same { self.new ≡ self.old }
         ensures err { IfErr result (λ e. e ≡ Memory) }

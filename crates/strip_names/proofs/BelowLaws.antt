@@ -3,7 +3,7 @@ use Rattle.std.proofs.Common.{◌≡◌, ◌==◌, ◌&&◌, ◌+◌, ◌-◌, �
 use Rattle.std.specs.Prelude.{filter, nat_lt, if◌then◌else◌}
 use Rattle.std.specs.List.{range_with_len, list_any}
 use Rattle.std.specs.Str.{bytes_eq}
-use Rattle.std.proofs.lemmas.Bool.{eq-eqb, ne_eqb, lt-ltb, cases_eq, and_from, and_parts, both_ways, not-true, or_left, or_right}
+use Rattle.std.proofs.lemmas.Bool.{eq-eqb, ne_eqb, lt-ltb, cases_eq, and_from, and_parts, both_ways, not-true}
 use Rattle.std.proofs.lemmas.Grind.{flat_map-append}
 use Rattle.std.proofs.lemmas.List.{map-append}
 use Rattle.std.proofs.lemmas.List.Elements.{filter-append}
@@ -21,6 +21,7 @@ use Rattle.strip_kept.specs.Kept.{is_left}
 use Rattle.strip_kept.proofs.KeptLaws.{kept_among}
 use Rattle.strip_names.specs.declared.building.Making.{Making}
 use Rattle.strip_names.specs.Names.{name_place, names_below, HasNames, AddsBy, AddsSection, AreAdded}
+use Rattle.strip_names.proofs.KnownLaws.{any_last}
 
 -- ---- Ranges
 
@@ -57,11 +58,6 @@ table_longer names more =
     ∙ length-append (strings (distinct names)) (strings behind.0) in
     let longer : suc (length (strings (distinct names)))
     ≤ suc (length (strings (distinct (names ++ more)))) = omega (arith, long) in longer
-
-any_last : (p : List ℕ → Bool) (l : List (List ℕ)) (x : List ℕ) → p x ≡ true
-    → list_any p (l ++ x ∷ []) ≡ true
-any_last p [] x is = or_left (p x) false is
-any_last p (y ∷ l) x is = or_right (p y) (list_any p (l ++ x ∷ [])) (any_last p l x is)
 
 abbrev name_of : Object → ℕ → List ℕ
 name_of o s = or_empty_name (section_name o s)

@@ -1,4 +1,5 @@
 pub mod CopyLaws
 pub mod AddLaws
+pub mod KnownLaws
 pub mod BelowLaws
 pub mod BuildLaws

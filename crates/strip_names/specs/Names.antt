@@ -7,10 +7,11 @@ use Rattle.elf_types.specs.declared.errors.ElfError.TheVariants.{TooLarge}
 use Rattle.strtab_build.specs.Table.{distinct, table, place_of}
 use Rattle.elf_object.specs.Object.{Object}
 use Rattle.elf_object.specs.Due.{all_sections}
-use Rattle.elf_object.specs.Strings.{section_name, or_empty_name}
+use Rattle.elf_object.specs.Strings.{section_name, or_empty_name, readable, string_answer}
 use Rattle.command_objects.specs.Words.{is_among}
 use Rattle.command_objects.specs.Followed.{kept_from_1}
 use Rattle.command_objects.specs.Rebuilt.{kept_names}
+use Rattle.strip_names.specs.Known.{AreHeld}
 use Rattle.strip_names.specs.declared.building.Making.{Making}
 use Rattle.strip_names.specs.declared.building.NewNames.{NewNames}
 
@@ -70,6 +71,16 @@ IsAddedAt old new places more name true =
 abbrev pub HasNames : Object → ℕ → Making → Making → Bool → Type 0
 HasNames o s old new fits =
     IsAddedAt old.strings new.strings old.places new.places (or_empty_name (section_name o s)) fits
+
+-- the name at a place of the old table, and the empty one where none can be read there
+unfoldable pub old_name : Object → ℕ → List ℕ
+old_name o at =
+    or_empty_name (if o.header.shstrndx == 0 then None
+    else readable (string_answer o o.header.shstrndx at))
+
+-- the places that are known are those of the old table's names
+abbrev pub KnowsNames : Object → Making → Type 0
+KnowsNames o making = AreHeld (old_name o) making.known making.strings
 
 -- of any section, which is kept or not
 abbrev pub AddsBy : Bool → Object → ℕ → Making → Making → Bool → Type 0

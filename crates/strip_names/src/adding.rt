@@ -1,8 +1,8 @@
-//! Names that are added to a table in the making.
+//! A name that is added to a table in the making, and its place.
 
 ghost use Rattle.std.specs.Prelude.{◌≡◌, ◌≢◌, ◌∷◌, ◌++◌, [], true, false, None, All, IfOk, IfErr};
 ghost use Rattle.elf_types.specs.declared.errors.ElfError.TheVariants.{Memory};
-ghost use Rattle.strip_names.specs.Names.{is_too_large, IsAdded, IsPlaced, IsAddedAt};
+ghost use Rattle.strip_names.specs.Names.{is_too_large, IsAdded};
 
 use elf_types::{ElfError, Words};
 use shared_strings::SharedStrings;
@@ -27,7 +27,11 @@ fn none_if_too_large(e: ElfError) -> Result<Option<u32>, ElfError>
 
 /// Adds a name to a table, which may stand at a place of the text that it holds, and answers its
 /// place in the table, or None where the table would be too large. It refuses `Memory` alone.
-fn add_name(strings: &mut SharedStrings, name: &[u8], near: u64) -> Result<Option<u32>, ElfError>
+pub(crate) fn add_name(
+    strings: &mut SharedStrings,
+    name: &[u8],
+    near: u64,
+) -> Result<Option<u32>, ElfError>
     requires { All (λ b. b ≢ 0) name.now }
     ensures added { IfOk result (IsAdded strings.old strings.new name.now) }
     ensures err { IfErr result (λ e. e ≡ Memory) }
@@ -39,44 +43,13 @@ fn add_name(strings: &mut SharedStrings, name: &[u8], near: u64) -> Result<Optio
 }
 
 /// Appends a place. It refuses `Memory` alone.
-fn push_some(places: &mut Words, place: u32) -> Result<bool, ElfError>
+pub(crate) fn push_some(places: &mut Words, place: u32) -> Result<bool, ElfError>
     ensures pushed { IfOk result (λ fits.
         (fits ≡ true) × (places.new ≡ places.old ++ place ∷ [])) }
     ensures err { IfErr result (λ e. e ≡ Memory) }
 {
     match places.push(place) {
         Ok(()) => Ok(true),
-        Err(e) => Err(e),
-    }
-}
-
-/// Appends a place, if there is one, and answers whether there is. It refuses `Memory` alone.
-fn push_place(places: &mut Words, place: Option<u32>) -> Result<bool, ElfError>
-    ensures pushed { IfOk result (IsPlaced places.old places.new place) }
-    ensures err { IfErr result (λ e. e ≡ Memory) }
-{
-    match place {
-        Some(place) => push_some(places, place),
-        None => Ok(false),
-    }
-}
-
-/// Adds a name to a table, which may stand at a place of the text that it holds, appends its place
-/// in the table to others, and answers whether the table is not too large. It refuses `Memory`
-/// alone.
-pub(crate) fn place_name(
-    strings: &mut SharedStrings,
-    places: &mut Words,
-    name: &[u8],
-    near: u64,
-) -> Result<bool, ElfError>
-    requires { All (λ b. b ≢ 0) name.now }
-    ensures placed { IfOk result (λ fits. IsAddedAt strings.old strings.new places.old places.new
-        name.now fits) }
-    ensures err { IfErr result (λ e. e ≡ Memory) }
-{
-    match add_name(strings, name, near) {
-        Ok(place) => push_place(places, place),
         Err(e) => Err(e),
     }
 }

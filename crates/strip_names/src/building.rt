@@ -1,15 +1,18 @@
 //! The table of the names, section by section.
 
-ghost use Rattle.std.specs.Prelude.{◌≡◌, ◌≢◌, ◌<◌, ◌⊎◌, [], true, false, length, All, IsTrue, IfOk, IfErr};
+ghost use Rattle.std.specs.Prelude.{◌≡◌, ◌≢◌, ◌<◌, ◌⊎◌, ℕ, [], true, false, None, Some, length, All, IsTrue, IfOk, OnOk, IfErr};
 ghost use Rattle.elf_types.specs.declared.errors.ElfError.TheVariants.{Memory, TooLarge};
+ghost use Rattle.elf_object.specs.Strings.{section_name, or_empty_name};
 ghost use Rattle.elf_object.specs.Words.{AnswersRead};
 ghost use Rattle.elf_descriptor.specs.Reads.{Queries, wanted};
 ghost use Rattle.strip_removed.specs.Calls.{ReadsNames};
-ghost use Rattle.strip_names.specs.Names.{AreNamed, AddsSection, HasNames, IsAddedAt, IsFinished};
+ghost use Rattle.strip_names.specs.Known.{known_at, KnowsMore, NotesIf, NotesName};
+ghost use Rattle.strip_names.specs.Names.{AreNamed, AddsSection, HasNames, IsAdded, IsPlaced, IsAddedAt, IsFinished, KnowsNames};
 ghost use Rattle.strip_names.specs.Calls as calls;
 
-use crate::adding::place_name;
+use crate::adding::{add_name, push_some};
 use crate::copying::copy_name;
+use crate::known::{KnownPlaces, name_field};
 use elf_descriptor::{Elf, Held};
 use elf_outside::Source;
 use elf_types::{DataId, ElfError, List, Octets, ScnId, Words};
@@ -36,6 +39,8 @@ struct Making {
     strings: SharedStrings,
     /// The place of the name of each section so far.
     places: Words,
+    /// The places of these names, by where they stand in the old table.
+    known: KnownPlaces,
     /// The name that is added, a copy.
     copy: Octets,
 }
@@ -59,6 +64,7 @@ fn old_table<S: Source>(elf: &Elf<S>) -> Option<&[u8]> {
 fn begin_text<S: Source>(elf: &Elf<S>, making: &mut Making) -> Result<(), ElfError>
     ensures strings { making.new.strings ≡ making.old.strings }
     ensures places { making.new.places ≡ making.old.places }
+    ensures known { making.new.known ≡ making.old.known }
     ensures copy { making.new.copy ≡ making.old.copy }
     ensures err { IfErr result (λ e. e ≡ Memory) }
 {
@@ -68,39 +74,107 @@ fn begin_text<S: Source>(elf: &Elf<S>, making: &mut Making) -> Result<(), ElfErr
     }
 }
 
-/// Adds the name that was copied of a section that is there, and answers whether the table is not
-/// too large. It refuses `Memory` alone.
-fn place_copied<S: Source>(elf: &Elf<S>, s: ScnId, making: &mut Making) -> Result<bool, ElfError>
-    requires there { s.0 < length elf.now.o.sections }
-    requires plain { All (λ b. b ≢ 0) making.old.copy }
-    ensures placed { IfOk result (λ fits. IsAddedAt making.old.strings making.new.strings
-        making.old.places making.new.places making.old.copy fits) }
+/// Adds the name that was copied, which stands at a place of the old table, and answers its place,
+/// or None where the table would be too large. It refuses `Memory` alone.
+fn add_copied<S: Source>(
+    elf: &Elf<S>,
+    at: u32,
+    making: &mut Making,
+) -> Result<Option<u32>, ElfError>
+    requires { All (λ b. b ≢ 0) making.old.copy }
+    ensures added { IfOk result
+        (IsAdded making.old.strings making.new.strings making.old.copy) }
+    ensures places { making.new.places ≡ making.old.places }
+    ensures known { making.new.known ≡ making.old.known }
     ensures err { IfErr result (λ e. e ≡ Memory) }
 {
-    let near = elf.section_header(s).name;
     match begin_text(elf, making) {
-        Ok(()) => place_name(
-            &mut making.strings,
-            &mut making.places,
-            making.copy.as_slice(),
-            u64::from(near),
-        ),
+        Ok(()) => add_name(&mut making.strings, making.copy.as_slice(), u64::from(at)),
+        Err(e) => Err(e),
+    }
+}
+
+/// Appends the place of a name that was added, and notes it under that at which the name stands in
+/// the old table. It refuses `Memory` alone.
+fn note_place(at: u32, place: u32, making: &mut Making) -> Result<bool, ElfError>
+    ensures strings { making.new.strings ≡ making.old.strings }
+    ensures pushed { IfOk result (IsPlaced making.old.places making.new.places (Some place)) }
+    ensures noted { OnOk result (KnowsMore making.old.known making.new.known at place) }
+    ensures err { IfErr result (λ e. e ≡ Memory) }
+{
+    match making.known.note(at, place) {
+        Ok(()) => push_some(&mut making.places, place),
+        Err(e) => Err(e),
+    }
+}
+
+/// The same, if there is a place, and answers whether there is.
+fn put_place(at: u32, place: Option<u32>, making: &mut Making) -> Result<bool, ElfError>
+    ensures strings { making.new.strings ≡ making.old.strings }
+    ensures pushed { IfOk result (IsPlaced making.old.places making.new.places place) }
+    ensures noted { OnOk result (NotesIf at place making.old.known making.new.known) }
+    ensures err { IfErr result (λ e. e ≡ Memory) }
+{
+    match place {
+        Some(place) => note_place(at, place, making),
+        None => Ok(false),
+    }
+}
+
+/// Adds the name that was copied, which stands at a place of the old table, notes its place, and
+/// answers whether the table is not too large. It refuses `Memory` alone.
+fn place_copied<S: Source>(elf: &Elf<S>, at: u32, making: &mut Making) -> Result<bool, ElfError>
+    requires { All (λ b. b ≢ 0) making.old.copy }
+    ensures placed { IfOk result (λ fits. IsAddedAt making.old.strings making.new.strings
+        making.old.places making.new.places making.old.copy fits) }
+    ensures noted { IfOk result (NotesName at making.old.copy making.new.strings
+        making.old.known making.new.known) }
+    ensures err { IfErr result (λ e. e ≡ Memory) }
+{
+    match add_copied(elf, at, making) {
+        Ok(place) => put_place(at, place, making),
+        Err(e) => Err(e),
+    }
+}
+
+/// Adds the name of a section that is there, as it is read at its place of the old table, notes its
+/// place, and answers whether the table is not too large.
+fn add_read<S: Source>(
+    elf: &mut Elf<S>,
+    s: ScnId,
+    at: u32,
+    making: &mut Making,
+) -> Result<bool, ElfError>
+    requires { s.0 < length elf.old.o.sections }
+    ensures told { IsTrue elf.old.told → IfOk result
+        (HasNames elf.old.o s.0 making.old making.new) }
+    ensures noted { IsTrue elf.old.told → IfOk result
+        (NotesName at (or_empty_name (section_name elf.old.o s.0)) making.new.strings
+        making.old.known making.new.known) }
+    ensures reads { ReadsNames S.Source result elf.old elf.new }
+{
+    making.copy.truncate(0);
+    match copy_name(elf, s, &mut making.copy) {
+        Ok(()) => place_copied(elf, at, making),
         Err(e) => Err(e),
     }
 }
 
 /// Adds the name of a section that is there and kept, and answers whether the table is not too
-/// large.
+/// large. A name that was added before, from the same place of the old table, is not looked at.
 fn add_kept<S: Source>(elf: &mut Elf<S>, s: ScnId, making: &mut Making) -> Result<bool, ElfError>
-    requires { s.0 < length elf.old.o.sections }
+    requires there { s.0 < length elf.old.o.sections }
+    requires known { IsTrue elf.old.told → KnowsNames elf.old.o making.old }
     ensures told { IsTrue elf.old.told → IfOk result
         (HasNames elf.old.o s.0 making.old making.new) }
+    ensures known { IsTrue elf.old.told → IfOk result
+        (λ fits. fits ≡ true → KnowsNames elf.old.o making.new) }
     ensures reads { ReadsNames S.Source result elf.old elf.new }
 {
-    making.copy.truncate(0);
-    match copy_name(elf, s, &mut making.copy) {
-        Ok(()) => place_copied(elf, s, making),
-        Err(e) => Err(e),
+    let at = name_field(elf, s);
+    match making.known.find(at) {
+        Some(place) => push_some(&mut making.places, place),
+        None => add_read(elf, s, at, making),
     }
 }
 
@@ -112,9 +186,12 @@ fn add_section<S: Source>(
     s: ScnId,
     making: &mut Making,
 ) -> Result<bool, ElfError>
-    requires { s.0 < length elf.old.o.sections }
+    requires there { s.0 < length elf.old.o.sections }
+    requires known { IsTrue elf.old.told → KnowsNames elf.old.o making.old }
     ensures told { IsTrue elf.old.told → IfOk result
         (AddsSection elf.old.o removed.now s.0 making.old making.new) }
+    ensures known { IsTrue elf.old.told → IfOk result
+        (λ fits. fits ≡ true → KnowsNames elf.old.o making.new) }
     ensures reads { ReadsNames S.Source result elf.old elf.new }
 {
     if is_kept(elf, removed, s.0) {
@@ -134,6 +211,7 @@ fn add_all<S: Source>(
 ) -> Result<bool, ElfError>
     requires strings { making.old.strings ≡ [] }
     requires places { making.old.places ≡ [] }
+    requires known { (at : ℕ) → known_at making.old.known at ≡ None }
     ensures told { IsTrue elf.old.told → IfOk result
         (AreNamed elf.old.o removed.now making.new) }
     ensures reads { ReadsNames S.Source result elf.old elf.new }
@@ -159,6 +237,7 @@ fn finish(making: Making) -> Result<NewNames, ElfError>
     let Making {
         strings,
         places,
+        known: _known,
         copy: _copy,
     } = making;
     match strings.finish() {
@@ -182,7 +261,7 @@ fn finish_if(making: Making, fits: bool) -> Result<NewNames, ElfError>
 /// use, where a name that can not be read counts as the empty one, and the places of the names. It
 /// refuses `TooLarge` where the table would pass 2^32 - 1 bytes, `Memory`, and `Read` where the
 /// names are not loaded. It reads the home of the names at the first use, looks at each section
-/// once, and marks nothing dirty.
+/// once, and at a name at one place of the old table once, and marks nothing dirty.
 ///
 /// Source: gABI chapter 4, "String Table", and "Section Header", sh_name.
 pub fn build_names<S: Source>(
@@ -197,6 +276,7 @@ pub fn build_names<S: Source>(
     let mut making = Making {
         strings: SharedStrings::new(alloc),
         places: List::new(alloc),
+        known: KnownPlaces::new(alloc),
         copy: List::new(alloc),
     };
     match add_all(elf, removed, &mut making) {

@@ -5,5 +5,7 @@
 mod adding;
 mod building;
 mod copying;
+mod known;
 
 pub use building::{NewNames, build_names};
+pub use known::{KnownPlaces, name_field};

@@ -3,7 +3,6 @@
 ghost use Rattle.std.specs.Prelude.{◌≡◌, ◌≤◌, ◌<◌, ◌-◌, [], length, map, All, None, OnOk, IfErr};
 ghost use Rattle.std.specs.List.{flat_map};
 ghost use Rattle.elf_types.specs.Answers.{first_refusal};
-ghost use Rattle.elf_types.specs.declared.constants.TheConstants.{MAX_SECTIONS};
 ghost use Rattle.elf_object.specs.Due.{homes_due};
 ghost use Rattle.command_objects.specs.Followed.{kept_from_1};
 ghost use Rattle.object_making.specs.Refused.{UnreadBy};

@@ -1,6 +1,6 @@
 //! What is worked out of an object before its sections are made anew.
 
-ghost use Rattle.std.specs.Prelude.{◌≡◌, ◌⊎◌, [], length, false, IfOk, IfErr};
+ghost use Rattle.std.specs.Prelude.{◌≡◌, ◌⊎◌, [], false, IfOk, IfErr};
 ghost use Rattle.elf_types.specs.declared.errors.ElfError.TheVariants.{Memory, Read};
 ghost use Rattle.elf_object.specs.Due.{homes_due};
 ghost use Rattle.command_objects.specs.Words.{is_among};

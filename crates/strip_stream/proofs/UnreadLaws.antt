@@ -1,5 +1,5 @@
 -- A step that reads nothing shows no failed read.
-use Rattle.std.proofs.Common.{◌≡◌, ℕ, Bool, List, Option, Result, Err, sym, subst}
+use Rattle.std.proofs.Common.{◌≡◌, ℕ, Bool, List, Option, Err, sym, subst}
 use Rattle.std.specs.Prelude.{IfSome}
 use Rattle.elf_types.specs.declared.records.Class.{Class}
 use Rattle.elf_types.specs.declared.errors.ElfError.{ElfError}

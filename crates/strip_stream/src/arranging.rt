@@ -1,6 +1,6 @@
 //! Listed headers with the places of what stands behind the base of a program.
 
-ghost use Rattle.std.specs.Prelude.{◌≡◌, ◌<◌, ◌≤◌, ◌⊎◌, ℕ, true, false, length, IfOk, IfErr};
+ghost use Rattle.std.specs.Prelude.{◌≡◌, ◌<◌, ◌⊎◌, length, IfOk, IfErr};
 ghost use Rattle.elf_types.specs.declared.errors.ElfError.TheVariants.{Memory, TooLarge};
 ghost use Rattle.elf_layout.specs.Layout.{limit_of};
 ghost use Rattle.elf_object.specs.Object.{Object};

@@ -1,8 +1,7 @@
 //! The places of what stands behind the base of a program, of which the headers are listed.
 
-ghost use Rattle.std.specs.Prelude.{◌≡◌, ◌<◌, ◌+◌, ◌≤◌, ◌&&◌, ◌⊎◌, ℕ, true, not, length, IfOk, IfErr, OnOk};
+ghost use Rattle.std.specs.Prelude.{◌≡◌, ◌<◌, ◌+◌, ◌&&◌, ℕ, true, not};
 ghost use Rattle.std.specs.Option.{SomeIff};
-ghost use Rattle.elf_types.specs.declared.errors.ElfError.TheVariants.{Memory};
 ghost use Rattle.elf_layout.specs.Layout.{place_of, end_after, limit_of};
 ghost use Rattle.elf_object.specs.Object.{Object, is_null};
 ghost use Rattle.elf_object.specs.Layout as stated;

@@ -6,7 +6,6 @@ ghost use Rattle.elf_outside.specs.Asks.{ReadRose};
 ghost use Rattle.elf_object.specs.Object.{Object};
 ghost use Rattle.update_plan.specs.Placing.{IsRefused};
 ghost use Rattle.elf_update.specs.Updates.{IsPlanned};
-ghost use Rattle.object_laws.specs.Laws.{PartsMayBeCapped};
 ghost use Rattle.strip_stream.specs.Planning.{IsLaidOut};
 
 use elf_layout::place;

@@ -98,9 +98,9 @@ pub struct Streamed {
 }
 
 /// Works out where the parts of an image stand of which the headers are listed, and holds its front
-/// behind what is held. It refuses as an update of an object does that has these headers: `Overlap`,
-/// `TooLarge`; and `Memory`. Headers that do not fit their class, which no object has, are `Unfit`.
-/// It reads nothing.
+/// behind what is held. It refuses as an update of an object does that has these headers:
+/// `Overlap`, `TooLarge`; and `Memory`. Headers that do not fit their class, which no object has,
+/// are `Unfit`. It reads nothing.
 ///
 /// Source: gABI chapter 4, "ELF Header" and "Section Header"; elf_update of elf(3E).
 pub fn stream_listed(

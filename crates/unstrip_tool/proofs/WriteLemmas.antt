@@ -16,7 +16,6 @@ use Rattle.elf_descriptor.specs.State.{State}
 use Rattle.elf_descriptor.specs.Reads.{Queries}
 use Rattle.command_objects.specs.Arranged.{Rebuilt}
 use Rattle.command_objects.specs.Files.{file_of}
-use Rattle.command_objects.specs.Removed.{removed_sections}
 use Rattle.command_objects.specs.Rebuilt.{rebuilt}
 use Rattle.command_objects.specs.Split.{debug_of, removed_allocated}
 use Rattle.command_outcomes.specs.Strip.{strip_split, allocated_text}
@@ -38,7 +37,6 @@ use Rattle.tool_output.specs.Statuses.{refused_status}
 use Rattle.tool_output.specs.Made.{Done, Complaint, made_file, complaint, of_file, outcome_with, written_outcome}
 use Rattle.tool_output.proofs.UnderWayLemmas.{shown_none}
 use Rattle.object_output.specs.Refusals.{Refuses}
-use Rattle.object_output.specs.Steps.{SourceRose}
 use Rattle.object_output.proofs.SourceSteps.{leaves_then}
 use Rattle.object_writing.specs.Writes.{WritesFile}
 use Rattle.object_writing.proofs.WriteLemmas.{DoesHere, outputs_leave, said_done, refused_writes, written_then}

@@ -6,7 +6,8 @@ use Rattle.copy_contents.proofs.indexing.fill_index.Goals as goal
 
 pub loop-s-init : goal.loop-s-init
 loop-s-init c =
-    indexed_none c.args.x.now (held_in c.args.x.now c.table_of-table.result) c.args.index.now c.requires.none
+    indexed_none c.args.x.now (held_in c.args.x.now c.table_of-table.result) c.args.index.now
+    c.requires.none
 
 pub index_section-requires : goal.index_section-requires
 index_section-requires c =

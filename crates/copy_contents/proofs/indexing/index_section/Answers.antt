@@ -1,4 +1,4 @@
-use Rattle.std.proofs.Common.{◌+◌, ℕ, List, drop, take, ap, ◌∙◌}
+use Rattle.std.proofs.Common.{◌+◌, drop, take, ap, ◌∙◌}
 use Rattle.elf_types.specs.declared.records.Shdr.{Shdr}
 use Rattle.copy_contents.specs.Rows.{header_in, held_in}
 use Rattle.copy_contents.proofs.IndexLaws.{section_put}

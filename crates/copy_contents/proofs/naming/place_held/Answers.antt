@@ -1,15 +1,40 @@
-use Rattle.std.proofs.Common.{ℕ, List, drop, refl}
+use Rattle.std.proofs.Common.{ℕ, List, Option, refl, ap, ◌∙◌, subst}
+use Rattle.std.specs.Prelude.{IfOk}
 use Rattle.elf_object.specs.Strings.{or_empty_name}
 use Rattle.gelf_view.specs.Records.{string_front}
+use Rattle.strip_names.specs.declared.known.KnownPlaces.{KnownPlaces}
+use Rattle.strip_names.specs.Known.{NotesName}
+use Rattle.strip_names.specs.Names.{IsAddedAt}
 use Rattle.strip_names.proofs.AddLaws.{placed_as}
-use Rattle.copy_contents.specs.Rows.{held_in}
+use Rattle.copy_contents.specs.Rows.{held_in, held_name}
+use Rattle.copy_contents.proofs.NamingLaws.{front_plain_as}
 use Rattle.copy_contents.proofs.naming.place_held.Goals as goal
+
+pub place_found-requires : goal.place_found-requires
+place_found-requires c = front_plain_as _ _ c.string_in.ensures
 
 pub returns-in-Ok-clause-placed : goal.returns-in-Ok-clause-placed
 returns-in-Ok-clause-placed c =
-    let name : List ℕ = or_empty_name
-    (string_front (drop c.args.place (held_in c.args.x.now c.args.table.now.range))) in
+    let name : List ℕ =
+    held_name (held_in c.args.x.now c.args.table.now.range) c.args.place in
     placed_as c.args.making.now.strings c.hold_names.new.making.strings
-    c.place_copied.new.making.strings c.args.making.now.places c.hold_names.new.making.places
-    c.place_copied.new.making.places name name c.place_copied.result c.in-Ok.ensures.strings
-    c.in-Ok.ensures.places refl c.place_copied.ensures.placed
+    c.place_found.new.making.strings c.args.making.now.places c.hold_names.new.making.places
+    c.place_found.new.making.places name name c.place_found.result c.hold_names.ensures.strings
+    c.hold_names.ensures.places refl
+    (subst (λ (found : Option (List ℕ)). IfOk c.place_found.result (λ fits.
+    IsAddedAt c.hold_names.new.making.strings c.place_found.new.making.strings
+    c.hold_names.new.making.places c.place_found.new.making.places (or_empty_name found) fits))
+    (c.string_in.ensures ∙ ap string_front c.as_slice.ensures ∙ c.in-Ok.ensures.ok)
+    c.place_found.ensures.placed)
+
+pub returns-in-Ok-clause-noted : goal.returns-in-Ok-clause-noted
+returns-in-Ok-clause-noted c =
+    subst (λ (m : KnownPlaces). IfOk c.place_found.result (NotesName c.args.place
+    (held_name (held_in c.args.x.now c.args.table.now.range) c.args.place)
+    c.place_found.new.making.strings m c.place_found.new.making.known))
+    c.hold_names.ensures.known
+    (subst (λ (found : Option (List ℕ)). IfOk c.place_found.result (NotesName c.args.place
+    (or_empty_name found) c.place_found.new.making.strings c.hold_names.new.making.known
+    c.place_found.new.making.known))
+    (c.string_in.ensures ∙ ap string_front c.as_slice.ensures ∙ c.in-Ok.ensures.ok)
+    c.place_found.ensures.noted)

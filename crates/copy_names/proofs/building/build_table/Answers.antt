@@ -8,6 +8,9 @@ place_all-requires-clause-strings g c = c.in-Ok.ensures.begun.0
 pub place_all-requires-clause-places : goal.place_all-requires-clause-places
 place_all-requires-clause-places g c = c.in-Ok.ensures.begun.1
 
+pub place_all-requires-clause-known : goal.place_all-requires-clause-known
+place_all-requires-clause-known g c = c.in-Ok.ensures.known
+
 pub returns-in-Err-clause-reads : goal.returns-in-Err-clause-reads
 returns-in-Err-clause-reads g c =
     names_memory g.S.Source (tt {0}) c.in-Err.e c.args.elf.now c.args.elf.now

@@ -2,7 +2,9 @@ use Rattle.std.proofs.Common.{◌≡◌, ◌-◌, ◌+◌, ◌<◌, ℕ, Bool, t
 use Rattle.std.specs.Prelude.{IsTrue}
 use Rattle.elf_object.specs.Object.{Object}
 use Rattle.elf_object.specs.Strings.{or_empty_name}
-use Rattle.strip_names.specs.Names.{IsAddedAt}
+use Rattle.strip_names.specs.Known.{AreHeld}
+use Rattle.strip_names.specs.Names.{old_name, IsAddedAt}
+use Rattle.strip_names.proofs.KnownLaws.{none_known}
 use Rattle.strip_removed.proofs.NameLaws.{ok_is, names_nothing, names_value, names_both}
 use Rattle.copy_edits.specs.Names.{name_now}
 use Rattle.copy_names.specs.Texts.{all_texts, AreAdded}
@@ -19,12 +21,20 @@ pub place_section-requires-clause-told : goal.place_section-requires-clause-told
 place_section-requires-clause-told g c =
     subst (λ (b : Bool). IsTrue b) (sym c.loop-s.invariant.reads.reads.told) c.requires.told
 
+pub place_section-requires-clause-known : goal.place_section-requires-clause-known
+place_section-requires-clause-known g c =
+    let inv = c.loop-s.invariant in
+    subst (λ (o : Object). AreHeld (old_name o) c.loop-s.making.known c.loop-s.making.strings)
+    (sym inv.reads.object) inv.known
+
 pub loop-s-init : goal.loop-s-init
 loop-s-init g c = record {
   reads = names_nothing g.S.Source (tt {0}) c.args.elf.now;
   within = omega arith;
   added = none_added (all_texts c.args.elf.now.o c.args.marks.now c.args.changes.now)
       c.args.making.now.strings c.args.making.now.places c.requires.strings c.requires.places;
+  known = none_known (old_name c.args.elf.now.o) c.args.making.now.known
+      c.args.making.now.strings c.requires.known;
 }
 
 pub returns-then-not-fits-clause-added : goal.returns-then-not-fits-clause-added
@@ -92,6 +102,9 @@ loop-s-preserved g c =
           c.place_section.new.making.places
           (or_empty_name (name_now q marks changes.rename c.loop-s.s)) c.in-Ok.fits)
           inv.reads.object c.in-Ok.ensures.placed)));
+      known = subst (λ (q : Object). AreHeld (old_name q) c.place_section.new.making.known
+          c.place_section.new.making.strings) inv.reads.object
+          (c.in-Ok.ensures.known c.if-not-fits.false);
     }
 
 pub returns-in-Err-clause-reads : goal.returns-in-Err-clause-reads

@@ -1,5 +1,7 @@
 use Rattle.std.proofs.Common.{◌≤◌, ◌-◌, length, Ok}
 use Rattle.strip_removed.specs.Calls.{ReadsNames}
+use Rattle.strip_names.specs.Known.{AreHeld}
+use Rattle.strip_names.specs.Names.{old_name}
 use Rattle.copy_names.specs.Texts.{all_texts, AreAdded}
 use Rattle.copy_names.proofs.building.place_sections.Given as goal
 
@@ -9,4 +11,5 @@ invariant-loop-s g l = record {
   within : l.s - 1 ≤ length l.initial.elf.o.sections - 1;
   added : AreAdded (all_texts l.initial.elf.o l.marks l.changes) l.making.strings
       l.making.places (l.s - 1);
+  known : AreHeld (old_name l.initial.elf.o) l.making.known l.making.strings;
 }

@@ -1,6 +1,9 @@
-use Rattle.std.proofs.Common.{◌≢◌, ℕ, List, All, sym, ap, ◌∙◌, subst}
+use Rattle.std.proofs.Common.{◌≡◌, ◌≢◌, ℕ, true, List, All, sym, ap, ◌∙◌, subst}
 use Rattle.std.specs.Prelude.{IfOk}
-use Rattle.strip_names.specs.Names.{IsAddedAt}
+use Rattle.strip_names.specs.declared.known.KnownPlaces.{KnownPlaces}
+use Rattle.strip_names.specs.Known.{AreHeld}
+use Rattle.strip_names.specs.Names.{old_name, IsAddedAt}
+use Rattle.strip_names.proofs.KnownLaws.{known_more}
 use Rattle.strip_removed.proofs.NameLaws.{names_nothing, names_push}
 use Rattle.copy_edits.specs.Names.{new_name}
 use Rattle.copy_names.proofs.PlaceLaws.{plain_new, name_new, name_stored}
@@ -23,6 +26,16 @@ returns-in-Some-clause-placed g c =
     (c.in-Some.ensures ∙ ap (new_name c.args.changes.now.rename) c.mark_of.ensures))
     c.place_text.ensures.placed
 
+pub returns-in-Some-clause-known : goal.returns-in-Some-clause-known
+returns-in-Some-clause-known g c =
+    let o = c.args.elf.now.o in
+    subst (λ (m : KnownPlaces). IfOk c.place_text.result (λ fits. fits ≡ true
+    → AreHeld (old_name o) m c.place_text.new.making.strings))
+    (sym c.place_text.ensures.known)
+    (known_more (old_name o) c.args.making.now.known c.args.making.now.strings
+    c.place_text.new.making.strings c.args.making.now.places c.place_text.new.making.places
+    c.as_slice.result.now c.place_text.result c.requires.known c.place_text.ensures.placed)
+
 pub returns-in-Some-clause-reads : goal.returns-in-Some-clause-reads
 returns-in-Some-clause-reads g c =
     names_push g.S.Source (tt {0}) c.place_text.result c.args.elf.now c.args.elf.now
@@ -36,3 +49,6 @@ returns-in-None-clause-placed g c =
     (name_stored c.args.elf.now.o c.args.marks.now c.args.changes.now.rename c.args.s.0
     (c.in-None.ensures ∙ ap (new_name c.args.changes.now.rename) c.mark_of.ensures))
     c.place_stored.ensures.placed
+
+pub returns-in-None-clause-known : goal.returns-in-None-clause-known
+returns-in-None-clause-known g c = c.place_stored.ensures.known

@@ -1,34 +1,40 @@
-use Rattle.std.proofs.Common.{ℕ, List, Option, sym, subst}
-use Rattle.std.specs.Prelude.{IfOk}
-use Rattle.std.specs.Option.{option_copied}
+use Rattle.std.proofs.Common.{ℕ, List, subst}
 use Rattle.elf_object.specs.Strings.{section_name, or_empty_name}
-use Rattle.strip_names.specs.Names.{IsAddedAt}
-use Rattle.strip_removed.proofs.NameLaws.{ok_is, name_value, name_ends, name_end, names_push}
-use Rattle.copy_names.proofs.PlaceLaws.{plain_stored}
+use Rattle.strtab_build.specs.Names.{IsHeld}
+use Rattle.strip_names.specs.Names.{old_name}
+use Rattle.strip_removed.proofs.NameLaws.{names_nothing, names_push}
+use Rattle.strip_names.proofs.KnownLaws.{held_placed, known_held, known_after, still_ok, old_name_is}
 use Rattle.copy_names.proofs.placing.place_stored.Goals as goal
 
-pub place_found-requires : goal.place_found-requires
-place_found-requires g c =
-    plain_stored c.args.elf.now.o c.args.s.0 (option_copied c.in-Ok.name)
-    (ok_is _ _ (c.in-Ok.ensures.answer.1 c.requires.told))
+pub returns-in-Some-clause-placed : goal.returns-in-Some-clause-placed
+returns-in-Some-clause-placed g c =
+    let o = c.args.elf.now.o in
+    let names = c.args.making.now.strings in
+    held_placed names (or_empty_name (section_name o c.args.s.0)) c.args.making.now.places
+    c.push_place.new.places c.in-Some.place c.push_place.result
+    (subst (λ (l : List ℕ). IsHeld l names c.in-Some.place)
+    (old_name_is o c.args.s.0 c.name_field-at.result c.name_field-at.ensures)
+    (known_held (old_name o) c.args.making.now.known names c.name_field-at.result
+    c.in-Some.place c.requires.known c.in-Some.ensures))
+    c.push_place.ensures.pushed
 
-pub returns-in-Ok-clause-placed : goal.returns-in-Ok-clause-placed
-returns-in-Ok-clause-placed g c =
-    subst (λ (n : Option (List ℕ)). IfOk c.place_found.result (λ fits.
-    IsAddedAt c.args.making.now.strings c.place_found.new.making.strings
-    c.args.making.now.places c.place_found.new.making.places (or_empty_name n) fits))
-    (sym (ok_is _ _ (c.in-Ok.ensures.answer.1 c.requires.told))) c.place_found.ensures.placed
+pub returns-in-Some-clause-known : goal.returns-in-Some-clause-known
+returns-in-Some-clause-known g c = still_ok c.push_place.result c.requires.known
 
-pub returns-in-Ok-clause-reads : goal.returns-in-Ok-clause-reads
-returns-in-Ok-clause-reads g c =
-    names_push g.S.Source (tt {0}) c.place_found.result c.args.elf.now _
-    c.place_found.ensures.err
-    (name_value g.S.Source c.in-Ok.name (tt {0}) c.args.elf.now _ c.args.s.0
-    (rw c.in-Ok.is at c.section_name.follows.holds-at-none))
+pub returns-in-Some-clause-reads : goal.returns-in-Some-clause-reads
+returns-in-Some-clause-reads g c =
+    names_push g.S.Source (tt {0}) c.push_place.result c.args.elf.now c.args.elf.now
+    c.push_place.ensures.err (names_nothing g.S.Source (tt {0}) c.args.elf.now)
 
-pub returns-in-Err-clause-reads : goal.returns-in-Err-clause-reads
-returns-in-Err-clause-reads g c =
-    name_end g.S.Source c.in-Err.e c.args.elf.now _ c.args.s.0
-    (name_ends g.S.Source c.args.elf.now c.args.s.0 c.args.elf.now.told c.in-Err.e
-    (section_name c.args.elf.now.o c.args.s.0) c.in-Err.ensures.answer)
-    (rw c.in-Err.is at c.section_name.follows.holds-at-none)
+pub returns-in-None-clause-placed : goal.returns-in-None-clause-placed
+returns-in-None-clause-placed g c = c.place_read.ensures.placed
+
+pub returns-in-None-clause-known : goal.returns-in-None-clause-known
+returns-in-None-clause-known g c =
+    let o = c.args.elf.now.o in
+    known_after (old_name o) c.args.making.now.known c.place_read.new.making.known
+    c.args.making.now.strings c.place_read.new.making.strings c.args.making.now.places
+    c.place_read.new.making.places (or_empty_name (section_name o c.args.s.0))
+    c.name_field-at.result c.place_read.result
+    (old_name_is o c.args.s.0 c.name_field-at.result c.name_field-at.ensures)
+    c.requires.known c.place_read.ensures.placed c.place_read.ensures.noted

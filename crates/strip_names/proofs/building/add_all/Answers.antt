@@ -2,22 +2,31 @@ use Rattle.std.proofs.Common.{◌≡◌, ◌<◌, ℕ, Bool, true, false, length
 use Rattle.std.specs.Prelude.{IsTrue}
 use Rattle.elf_object.specs.Object.{Object}
 use Rattle.strip_removed.specs.Calls.{ReadsNames}
-use Rattle.strip_names.specs.Names.{AddsSection, AreAdded}
+use Rattle.strip_names.specs.Names.{AddsSection, AreAdded, KnowsNames, old_name}
 use Rattle.strip_removed.proofs.NameLaws.{ok_is, names_nothing, names_value, names_both}
+use Rattle.strip_names.proofs.KnownLaws.{none_known}
 use Rattle.strip_names.proofs.BelowLaws.{added_none, added_more, too_large}
 use Rattle.strip_names.proofs.building.add_all.Goals as goal
 
-pub add_section-requires : goal.add_section-requires
-add_section-requires g c =
+pub add_section-requires-clause-there : goal.add_section-requires-clause-there
+add_section-requires-clause-there g c =
     let count = ok_is _ _ c.shnum-s-end.ensures in
     subst (λ (o : Object). c.loop-s.s < length o.sections)
     (sym c.loop-s.invariant.reads.object) (omega (arith, count, c.loop-s-test.true))
+
+pub add_section-requires-clause-known : goal.add_section-requires-clause-known
+add_section-requires-clause-known g c = λ told.
+    let inv = c.loop-s.invariant in
+    subst (λ (o : Object). KnowsNames o c.loop-s.making) (sym inv.reads.object)
+    (inv.known (subst (λ (b : Bool). IsTrue b) inv.reads.reads.told told))
 
 pub loop-s-init : goal.loop-s-init
 loop-s-init g c = record {
   reads = names_nothing g.S.Source (tt {0}) c.args.elf.now;
   told = λ told. added_none c.args.elf.now.o c.args.removed.now c.args.making.now
       c.requires.strings c.requires.places;
+  known = λ told. none_known (old_name c.args.elf.now.o) c.args.making.now.known
+      c.args.making.now.strings c.requires.known;
 }
 
 pub returns-then-not-fits-clause-told : goal.returns-then-not-fits-clause-told
@@ -58,6 +67,10 @@ loop-s-preserved g c =
           (inv.told told)
           (subst (λ (o : Object). AddsSection o c.args.removed.now c.loop-s.s c.loop-s.making
           c.add_section.new.making true) inv.reads.object adds);
+      known = λ told.
+          subst (λ (o : Object). KnowsNames o c.add_section.new.making) inv.reads.object
+          (c.in-Ok.ensures.known (subst (λ (b : Bool). IsTrue b) (sym inv.reads.reads.told) told)
+          c.if-not-fits.false);
     }
 
 pub returns-in-Err-clause-reads : goal.returns-in-Err-clause-reads

@@ -1,30 +1,41 @@
-use Rattle.std.proofs.Common.{◌<◌, ℕ, List, length, sym, subst}
-use Rattle.std.specs.Prelude.{IfOk}
-use Rattle.elf_object.specs.Object.{Object}
-use Rattle.strip_names.specs.Names.{IsAddedAt}
-use Rattle.strip_removed.proofs.NameLaws.{names_push, names_end}
+use Rattle.std.proofs.Common.{ℕ, List, subst}
+use Rattle.elf_object.specs.Strings.{section_name, or_empty_name}
+use Rattle.strtab_build.specs.Names.{IsHeld}
+use Rattle.strip_names.specs.Names.{old_name}
+use Rattle.strip_removed.proofs.NameLaws.{names_nothing, names_push}
+use Rattle.strip_names.proofs.KnownLaws.{held_placed, known_held, known_after, still_ok, old_name_is}
 use Rattle.strip_names.proofs.building.add_kept.Goals as goal
 
-pub place_copied-requires-clause-there : goal.place_copied-requires-clause-there
-place_copied-requires-clause-there g c =
-    subst (λ (o : Object). c.args.s.0 < length o.sections) (sym c.in-Ok.ensures.reads.object)
-    c.requires
+pub returns-in-Some-clause-told : goal.returns-in-Some-clause-told
+returns-in-Some-clause-told g c = λ told.
+    let o = c.args.elf.now.o in
+    let names = c.args.making.now.strings in
+    held_placed names (or_empty_name (section_name o c.args.s.0)) c.args.making.now.places
+    c.push_some.new.places c.in-Some.place c.push_some.result
+    (subst (λ (l : List ℕ). IsHeld l names c.in-Some.place)
+    (old_name_is o c.args.s.0 c.name_field-at.result c.name_field-at.ensures)
+    (known_held (old_name o) c.args.making.now.known names c.name_field-at.result
+    c.in-Some.place (c.requires.known told) c.in-Some.ensures))
+    c.push_some.ensures.pushed
 
-pub place_copied-requires-clause-plain : goal.place_copied-requires-clause-plain
-place_copied-requires-clause-plain g c = c.in-Ok.ensures.plain
+pub returns-in-Some-clause-known : goal.returns-in-Some-clause-known
+returns-in-Some-clause-known g c = λ told.
+    still_ok c.push_some.result (c.requires.known told)
 
-pub returns-in-Ok-clause-told : goal.returns-in-Ok-clause-told
-returns-in-Ok-clause-told g c = λ told.
-    subst (λ (l : List ℕ). IfOk c.place_copied.result (λ fits.
-    IsAddedAt c.args.making.now.strings c.place_copied.new.making.strings
-    c.args.making.now.places c.place_copied.new.making.places l fits))
-    (c.in-Ok.ensures.told told) c.place_copied.ensures.placed
+pub returns-in-Some-clause-reads : goal.returns-in-Some-clause-reads
+returns-in-Some-clause-reads g c =
+    names_push g.S.Source (tt {0}) c.push_some.result c.args.elf.now c.args.elf.now
+    c.push_some.ensures.err (names_nothing g.S.Source (tt {0}) c.args.elf.now)
 
-pub returns-in-Ok-clause-reads : goal.returns-in-Ok-clause-reads
-returns-in-Ok-clause-reads g c =
-    names_push g.S.Source (tt {0}) c.place_copied.result c.args.elf.now c.copy_name.new.elf
-    c.place_copied.ensures.err c.in-Ok.ensures.reads
+pub returns-in-None-clause-told : goal.returns-in-None-clause-told
+returns-in-None-clause-told g c = c.add_read.ensures.told
 
-pub returns-in-Err-clause-reads : goal.returns-in-Err-clause-reads
-returns-in-Err-clause-reads g c =
-    names_end g.S.Source c.in-Err.e c.args.elf.now c.copy_name.new.elf c.in-Err.ensures.reads
+pub returns-in-None-clause-known : goal.returns-in-None-clause-known
+returns-in-None-clause-known g c = λ told.
+    let o = c.args.elf.now.o in
+    known_after (old_name o) c.args.making.now.known c.add_read.new.making.known
+    c.args.making.now.strings c.add_read.new.making.strings c.args.making.now.places
+    c.add_read.new.making.places (or_empty_name (section_name o c.args.s.0))
+    c.name_field-at.result c.add_read.result
+    (old_name_is o c.args.s.0 c.name_field-at.result c.name_field-at.ensures)
+    (c.requires.known told) (c.add_read.ensures.told told) (c.add_read.ensures.noted told)

@@ -16,6 +16,9 @@ returns-in-Ok-clause-told g c = λ told.
     (record c.args.making.now { places = c.push.new.self }) true)
     (sym (sym c.is_kept.ensures ∙ c.if-is_kept.false)) (refl, refl, c.in-Ok.ensures.ok)
 
+pub returns-in-Ok-clause-known : goal.returns-in-Ok-clause-known
+returns-in-Ok-clause-known g c = λ told fits. c.requires.known told
+
 pub returns-in-Ok-clause-reads : goal.returns-in-Ok-clause-reads
 returns-in-Ok-clause-reads g c = names_nothing g.S.Source true c.args.elf.now
 

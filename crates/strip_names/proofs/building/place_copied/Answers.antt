@@ -1,16 +1,32 @@
-use Rattle.std.proofs.Common.{◌≢◌, ℕ, List, All, sym, ◌∙◌, subst}
-use Rattle.strip_names.proofs.AddLaws.{placed_as}
+use Rattle.std.proofs.Common.{ℕ, List, sym, subst}
+use Rattle.std.specs.Prelude.{IfOk, OnOk}
+use Rattle.strip_names.specs.declared.known.KnownPlaces.{KnownPlaces}
+use Rattle.strip_names.specs.Known.{NotesIf}
+use Rattle.strip_names.specs.Names.{IsAdded, IsPlaced}
+use Rattle.strip_names.proofs.AddLaws.{added_at}
+use Rattle.strip_names.proofs.KnownLaws.{noted_name}
 use Rattle.strip_names.proofs.building.place_copied.Goals as goal
-
-pub place_name-requires : goal.place_name-requires
-place_name-requires g c =
-    subst (λ (l : List ℕ). All (λ b. b ≢ 0) l) (sym (c.as_slice.ensures ∙ c.in-Ok.ensures.copy))
-    c.requires.plain
 
 pub returns-in-Ok-clause-placed : goal.returns-in-Ok-clause-placed
 returns-in-Ok-clause-placed g c =
-    placed_as c.args.making.now.strings c.begin_text.new.making.strings c.place_name.new.strings
-    c.args.making.now.places c.begin_text.new.making.places c.place_name.new.places
-    c.args.making.now.copy c.as_slice.result.now c.place_name.result c.in-Ok.ensures.strings
-    c.in-Ok.ensures.places (c.as_slice.ensures ∙ c.in-Ok.ensures.copy)
-    c.place_name.ensures.placed
+    added_at c.args.making.now.strings c.put_place.new.making.strings c.args.making.now.copy
+    c.args.making.now.places c.put_place.new.making.places c.in-Ok.place c.put_place.result
+    (subst (λ (l : List (List ℕ)). IsAdded c.args.making.now.strings l
+    c.args.making.now.copy c.in-Ok.place) (sym c.put_place.ensures.strings)
+    c.in-Ok.ensures.added)
+    (subst (λ (l : List ℕ). IfOk c.put_place.result
+    (IsPlaced l c.put_place.new.making.places c.in-Ok.place)) c.in-Ok.ensures.places
+    c.put_place.ensures.pushed)
+
+pub returns-in-Ok-clause-noted : goal.returns-in-Ok-clause-noted
+returns-in-Ok-clause-noted g c =
+    noted_name c.args.at c.args.making.now.copy c.add_copied.new.making.places
+    c.put_place.new.making.places c.args.making.now.strings c.put_place.new.making.strings
+    c.args.making.now.known c.put_place.new.making.known c.in-Ok.place c.put_place.result
+    (subst (λ (l : List (List ℕ)). IsAdded c.args.making.now.strings l
+    c.args.making.now.copy c.in-Ok.place) (sym c.put_place.ensures.strings)
+    c.in-Ok.ensures.added)
+    c.put_place.ensures.pushed
+    (subst (λ (m : KnownPlaces). OnOk c.put_place.result
+    (NotesIf c.args.at c.in-Ok.place m c.put_place.new.making.known)) c.in-Ok.ensures.known
+    c.put_place.ensures.noted)

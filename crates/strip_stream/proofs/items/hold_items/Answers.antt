@@ -4,11 +4,12 @@ use Rattle.strip_stream.proofs.items.hold_items.Goals as goal
 
 pub range_behind-requires : goal.range_behind-requires
 range_behind-requires c =
-    behind (encoded c.args.class c.args.order c.args.items.now) c.args.held.now c.append_items.new.self
-    c.len-at.result c.in-Ok.ensures.ok c.len-at.ensures
+    behind (encoded c.args.class c.args.order c.args.items.now) c.args.held.now
+    c.append_items.new.self c.len-at.result c.in-Ok.ensures.ok c.len-at.ensures
 
 pub returns-in-Ok-clause-ok : goal.returns-in-Ok-clause-ok
 returns-in-Ok-clause-ok c =
     appended (encoded c.args.class c.args.order c.args.items.now) c.args.held.now
-    c.append_items.new.self c.len-at.result c.range_behind.result c.in-Ok.ensures.ok c.len-at.ensures
-    c.range_behind.ensures.held c.range_behind.ensures.at c.range_behind.ensures.len
+    c.append_items.new.self c.len-at.result c.range_behind.result c.in-Ok.ensures.ok
+    c.len-at.ensures c.range_behind.ensures.held c.range_behind.ensures.at
+    c.range_behind.ensures.len
