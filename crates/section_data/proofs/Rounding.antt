@@ -30,7 +30,7 @@ apart m n y first second below = by_test (nat_lt (n - m) y) refl
     by_test false e = let far = ltb-false (n - m) y e in omega (arith, far, below)
 
 -- a multiple of a multiple
-divided : (m big small : ℕ) → m % big ≡ 0 → big % small ≡ 0 → m % small ≡ 0
+pub divided : (m big small : ℕ) → m % big ≡ 0 → big % small ≡ 0 → m % small ≡ 0
 divided m big small whole divides =
     ap (λ (n : ℕ). n % small) parted
     ∙ sym (mul-mod_first big (m / big) small)

@@ -1,9 +1,11 @@
 -- Runs of pieces with bytes of their own, and what is noted of blocks of them.
-use Rattle.std.proofs.Common.{◌≡◌, ◌≢◌, ◌⊎◌, inl, inr, ℕ, ◌+◌, ◌-◌, ◌*◌, ◌/◌, ◌<◌, ◌≤◌, Bool, true, false, List, [], ◌∷◌, ◌++◌, length, take, drop, get_or, set, Option, Some, None, Result, Ok, Err, refl, sym, ap, ◌∙◌, subst, arith, length-append}
+use Rattle.std.proofs.Common.{◌≡◌, ◌≢◌, ◌⊎◌, inl, inr, ℕ, ◌+◌, ◌-◌, ◌*◌, ◌/◌, ◌%◌, ◌<◌, ◌≤◌, Bool, true, false, List, [], ◌∷◌, ◌++◌, length, take, drop, get_or, set, Option, Some, None, Result, Ok, Err, refl, sym, ap, ◌∙◌, subst, add-one, arith, length-append}
 use Rattle.std.specs.Prelude.{◌==◌, nat_lt, is_ok, if◌then◌else◌}
 use Rattle.std.specs.List.{list_all}
+use Rattle.std.proofs.Math.Nat.{div-add-mod, mod-lt, mul-mod_right, mul-le-mul_left}
+use Rattle.std.proofs.Math.Seq.{drop-cons}
 use Rattle.std.proofs.lemmas.Bool.{and_from, eqb-true, eq-eqb, ltb-true, ltb-false, cases_lt}
-use Rattle.std.proofs.lemmas.List.{take_more, take-take, take-append-drop, drop-take, take-append-le, drop-append-le, length-drop, length-set, drop-set-lt, drop-set-add, take-set-le, get_or-set_same, get_or-set_other, get_or_past, get_or_append_left, get_or_push, length_push}
+use Rattle.std.proofs.lemmas.List.{take_more, take-take, take-append-drop, drop-drop, drop-take, take-append-le, drop-append-le, length-drop, length-set, drop-set-lt, drop-set-add, take-set-le, get_or-set_same, get_or-set_other, get_or_past, get_or_append_left, get_or_push, length_push}
 use Rattle.std.proofs.lemmas.List.Folds.{list_all-append, list_all_more}
 use Rattle.elf_types.specs.declared.records.Class.{Class}
 use Rattle.elf_types.specs.declared.records.Kind.{Kind}
@@ -15,7 +17,7 @@ use Rattle.elf_object.specs.Object.{Piece, home_piece}
 use Rattle.elf_object.specs.Answers.{same_kind}
 use Rattle.section_data.specs.declared.spans.Span.{Span}
 use Rattle.section_data.specs.Sizes.{piece_size, piece_end, stacked_end}
-use Rattle.section_data.specs.Spans.{owns_bytes, OwnsBytes, IsRun, IsSpan, IsNoted, AreNoted, span_end}
+use Rattle.section_data.specs.Spans.{owns_bytes, OwnsBytes, IsRun, IsSpan, IsNoted, AreNoted, AreAllNoted, span_end}
 
 -- ---- Lists
 
@@ -118,77 +120,111 @@ all_so_far s pieces i so_far all = record {
 -- ---- Blocks
 
 -- the pieces of a block, as they are cut out
-pub block_is : (pieces : List Piece) (block from to : ℕ) (s : Span) (cut : List Piece)
-    → from ≡ 256 * block → to ≡ from + 256 → to ≤ length pieces
-    → cut ≡ take (to - from) (drop from pieces) → IsSpan s cut → IsNoted block s pieces
-block_is pieces block from to s cut first last there is span = record {
+pub block_is : (size : ℕ) (pieces : List Piece) (block from to : ℕ) (s : Span) (cut : List Piece)
+    → from ≡ size * block → to ≡ from + size → to ≤ length pieces
+    → cut ≡ take (to - from) (drop from pieces) → IsSpan s cut → IsNoted size block s pieces
+block_is size pieces block from to s cut first last there is span = record {
   there = omega (arith, first, last, there);
   span =
-      let count : to - from ≡ 256 = omega (arith, last) in
+      let count : to - from ≡ size = omega (arith, last) in
       subst (λ (l : List Piece). IsSpan s l)
       (is
       ∙ ap (λ (n : ℕ). take n (drop from pieces)) count
-      ∙ ap (λ (n : ℕ). take 256 (drop n pieces)) first) span;
+      ∙ ap (λ (n : ℕ). take size (drop n pieces)) first) span;
 }
 
-pub none_noted : (spans : List (Option Span)) (pieces : List Piece) → spans ≡ []
-    → AreNoted spans pieces
-none_noted spans pieces none i s found =
+pub none_noted : (size : ℕ) (spans : List (Option Span)) (pieces : List Piece) → spans ≡ []
+    → AreNoted size spans pieces
+none_noted size spans pieces none i s found =
     let same = sym (ap (λ (l : List (Option Span)). get_or l i None) none) ∙ found in
     cc
 
 -- what is noted stays so behind which pieces are added
-pub noted_pushed : (spans : List (Option Span)) (pieces : List Piece) (p : Piece)
-    → AreNoted spans pieces → AreNoted spans (pieces ++ p ∷ [])
-noted_pushed spans pieces p noted i s found =
+pub noted_pushed : (size : ℕ) (spans : List (Option Span)) (pieces : List Piece) (p : Piece)
+    → AreNoted size spans pieces → AreNoted size spans (pieces ++ p ∷ [])
+noted_pushed size spans pieces p noted i s found =
     let was = noted i s found in
     let there = was.there in
     let longer = length-append pieces (p ∷ []) in
-    let rest = length-drop (256 * i) pieces in
+    let rest = length-drop (size * i) pieces in
     record {
       there = omega (arith, there, longer);
       span = subst (λ (l : List Piece). IsSpan s l)
-          (sym (ap (take 256) (drop-append-le (256 * i) pieces (p ∷ []) (omega (arith, there)))
-          ∙ take-append-le 256 (drop (256 * i) pieces) (p ∷ []) (omega (arith, there, rest))))
+          (sym (ap (take size) (drop-append-le (size * i) pieces (p ∷ []) (omega (arith, there)))
+          ∙ take-append-le size (drop (size * i) pieces) (p ∷ []) (omega (arith, there, rest))))
           was.span;
     }
 
 -- the same where there may be no memory for it
-pub noted_pushed_if : {T E : Type 0} (r : Result T E) (spans : List (Option Span))
-    (pieces after : List Piece) (p : Piece) → AreNoted spans pieces
-    → after ≡ (if is_ok r then pieces ++ p ∷ [] else pieces) → AreNoted spans after
-noted_pushed_if (Ok x) spans pieces after p noted is =
-    subst (λ (l : List Piece). AreNoted spans l) (sym is) (noted_pushed spans pieces p noted)
-noted_pushed_if (Err e) spans pieces after p noted is =
-    subst (λ (l : List Piece). AreNoted spans l) (sym is) noted
+noted_pushed_if : {T E : Type 0} (r : Result T E) (size : ℕ) (spans : List (Option Span))
+    (pieces after : List Piece) (p : Piece) → AreNoted size spans pieces
+    → after ≡ (if is_ok r then pieces ++ p ∷ [] else pieces) → AreNoted size spans after
+noted_pushed_if (Ok x) size spans pieces after p noted is =
+    subst (λ (l : List Piece). AreNoted size spans l) (sym is)
+    (noted_pushed size spans pieces p noted)
+noted_pushed_if (Err e) size spans pieces after p noted is =
+    subst (λ (l : List Piece). AreNoted size spans l) (sym is) noted
+
+pub all_pushed : {T E : Type 0} (r : Result T E) (short middle long : List (Option Span))
+    (pieces after : List Piece) (p : Piece) → AreAllNoted short middle long pieces
+    → after ≡ (if is_ok r then pieces ++ p ∷ [] else pieces)
+    → AreAllNoted short middle long after
+all_pushed r short middle long pieces after p noted is = record {
+  shorts = noted_pushed_if r 16 short pieces after p noted.shorts is;
+  middles = noted_pushed_if r 512 middle pieces after p noted.middles is;
+  longs = noted_pushed_if r 16384 long pieces after p noted.longs is;
+}
+
+-- a block is behind another one
+behind : (size a b : ℕ) → a < b → size * a + size ≤ size * b
+behind size a b less =
+    let more : a + 1 ≤ b = omega (arith, less) in
+    let scaled = mul-le-mul_left {m = a + 1} {n = b} size more in
+    omega (arith, scaled)
+
+-- the block of a place
+block_of : (size p i q r : ℕ) → size * q + r ≡ p → r < size → size * i ≤ p → p < size * i + size
+    → i ≡ q
+block_of size p i q r parts rest from below = by_low (cases_lt i q)
+  where
+    by_high : q ≤ i → (q < i) ⊎ (i ≤ q) → i ≡ q
+    by_high low (inl past) =
+        let far = behind size q i past in absurd (omega (arith, far, parts, rest, from))
+    by_high low (inr high) = omega (arith, low, high)
+
+    by_low : (i < q) ⊎ (q ≤ i) → i ≡ q
+    by_low (inl less) =
+        let far = behind size i q less in absurd (omega (arith, far, parts, below))
+    by_low (inr low) = by_high low (cases_lt q i)
 
 -- a block without a piece stays where that is written
-other_block : (pieces : List Piece) (p i : ℕ) (left : Piece) → i ≢ p / 256
-    → take 256 (drop (256 * i) (set pieces p left)) ≡ take 256 (drop (256 * i) pieces)
-other_block pieces p i left other = by_place (cases_lt p (256 * i))
+other_block : (size : ℕ) (pieces : List Piece) (p i : ℕ) (left : Piece) → 0 < size → i ≢ p / size
+    → take size (drop (size * i) (set pieces p left)) ≡ take size (drop (size * i) pieces)
+other_block size pieces p i left some other = by_place (cases_lt p (size * i))
   where
-    past : 256 * i ≤ p → (p - 256 * i < 256) ⊎ (256 ≤ p - 256 * i) → 256 ≤ p - 256 * i
+    past : size * i ≤ p → (p - size * i < size) ⊎ (size ≤ p - size * i) → size ≤ p - size * i
     past from (inl within) =
-        let same : i ≡ p / 256 = omega (arith, from, within) in
-        absurd (other same)
-    past from (inr behind) = behind
+        let below : p < size * i + size = omega (arith, from, within) in
+        absurd (other (block_of size p i (p / size) (p % size) (div-add-mod p size)
+        (mod-lt p some) from below))
+    past from (inr later) = later
 
-    by_place : (p < 256 * i) ⊎ (256 * i ≤ p)
-        → take 256 (drop (256 * i) (set pieces p left)) ≡ take 256 (drop (256 * i) pieces)
-    by_place (inl before) = ap (take 256) (drop-set-lt (256 * i) pieces p left before)
+    by_place : (p < size * i) ⊎ (size * i ≤ p)
+        → take size (drop (size * i) (set pieces p left)) ≡ take size (drop (size * i) pieces)
+    by_place (inl before) = ap (take size) (drop-set-lt (size * i) pieces p left before)
     by_place (inr from) =
-        let place : 256 * i + (p - 256 * i) ≡ p = omega (arith, from) in
-        let behind = past from (cases_lt (p - 256 * i) 256) in
-        ap (λ (n : ℕ). take 256 (drop (256 * i) (set pieces n left))) (sym place)
-        ∙ ap (take 256) (drop-set-add (256 * i) pieces (p - 256 * i) left)
-        ∙ take-set-le 256 (drop (256 * i) pieces) (p - 256 * i) left behind
+        let place : size * i + (p - size * i) ≡ p = omega (arith, from) in
+        let later = past from (cases_lt (p - size * i) size) in
+        ap (λ (n : ℕ). take size (drop (size * i) (set pieces n left))) (sym place)
+        ∙ ap (take size) (drop-set-add (size * i) pieces (p - size * i) left)
+        ∙ take-set-le size (drop (size * i) pieces) (p - size * i) left later
 
-pub noted_lent : (spans after : List (Option Span)) (pieces : List Piece) (p : ℕ) (left : Piece)
-    → AreNoted spans pieces
+pub noted_lent : (size : ℕ) (spans after : List (Option Span)) (pieces : List Piece) (p : ℕ)
+    (left : Piece) → 0 < size → AreNoted size spans pieces
     → ((i : ℕ) (s : Span) → get_or after i None ≡ Some s
-    → (get_or spans i None ≡ Some s) × (i ≢ p / 256))
-    → AreNoted after (set pieces p left)
-noted_lent spans after pieces p left noted forgets i s found =
+    → (get_or spans i None ≡ Some s) × (i ≢ p / size))
+    → AreNoted size after (set pieces p left)
+noted_lent size spans after pieces p left some noted forgets i s found =
     let known = forgets i s found in
     let was = noted i s known.0 in
     let there = was.there in
@@ -196,8 +232,8 @@ noted_lent spans after pieces p left noted forgets i s found =
     record {
       there = omega (arith, there, same);
       span =
-          subst (λ (l : List Piece). IsSpan s l) (sym (other_block pieces p i left known.1))
-          was.span;
+          subst (λ (l : List Piece). IsSpan s l)
+          (sym (other_block size pieces p i left some known.1)) was.span;
     }
 
 -- ---- What is noted, in its list
@@ -282,18 +318,93 @@ noted_tried (Err e) spans after block i span s last is found =
     inl (ap (λ (l : List (Option Span)). get_or l i None) (sym is) ∙ found)
 
 -- after one is noted more
-pub noted_more : (spans after : List (Option Span)) (pieces : List Piece) (block : ℕ) (span : Span)
-    → AreNoted spans pieces → IsNoted block span pieces
+pub noted_more : (size : ℕ) (spans after : List (Option Span)) (pieces : List Piece) (block : ℕ)
+    (span : Span) → AreNoted size spans pieces → IsNoted size block span pieces
     → ((i : ℕ) (s : Span) → get_or after i None ≡ Some s
     → (get_or spans i None ≡ Some s) ⊎ ((i ≡ block) × (s ≡ span)))
-    → AreNoted after pieces
-noted_more spans after pieces block span noted is notes i s found = by_case (notes i s found)
+    → AreNoted size after pieces
+noted_more size spans after pieces block span noted is notes i s found =
+    by_case (notes i s found)
   where
-    by_case : (get_or spans i None ≡ Some s) ⊎ ((i ≡ block) × (s ≡ span)) → IsNoted i s pieces
+    by_case : (get_or spans i None ≡ Some s) ⊎ ((i ≡ block) × (s ≡ span))
+        → IsNoted size i s pieces
     by_case (inl was) = noted i s was
     by_case (inr new) =
-        subst (λ (n : ℕ). IsNoted n s pieces) (sym new.0)
-        (subst (λ (t : Span). IsNoted block t pieces) (sym new.1) is)
+        subst (λ (n : ℕ). IsNoted size n s pieces) (sym new.0)
+        (subst (λ (t : Span). IsNoted size block t pieces) (sym new.1) is)
+
+-- ---- Blocks of blocks
+
+-- pieces behind others
+span_both : (s next both : Span) (a b : List Piece) → IsSpan s a → IsSpan next b
+    → ((end : ℕ) → span_end both end ≡ span_end next (span_end s end)) → IsSpan both (a ++ b)
+span_both s next both a b first second ends = record {
+  bytes =
+      list_all-append owns_bytes a b
+      ∙ and_from (list_all owns_bytes a) (list_all owns_bytes b) first.bytes second.bytes;
+  ends = λ class home_len end.
+      stacked_end_append class home_len end a b
+      ∙ ap (λ (n : ℕ). stacked_end class home_len n b) (first.ends class home_len end)
+      ∙ second.ends class home_len (span_end s end)
+      ∙ sym (ends end);
+}
+
+-- what so many blocks from one on do to the end before them
+pub record IsJoined (size from part : ℕ) (s : Span) (pieces : List Piece) : Type 0 where
+  pub there : 0 < part → size * from + size * part ≤ length pieces
+  pub span : IsSpan s (take (size * part) (drop (size * from) pieces))
+
+pub none_joined : (size from : ℕ) (s : Span) (pieces : List Piece)
+    → ((end : ℕ) → span_end s end ≡ end) → IsJoined size from 0 s pieces
+none_joined size from s pieces same = record {
+  there = λ some. omega (arith, some);
+  span =
+      let none : size * 0 ≡ 0 = omega arith in
+      subst (λ (n : ℕ). IsSpan s (take n (drop (size * from) pieces))) (sym none)
+      (record {
+        bytes = refl;
+        ends = λ class home_len end. stacked_end_none class home_len end ∙ sym (same end);
+      });
+}
+
+pub joined_more : (size from part : ℕ) (s next both : Span) (pieces : List Piece)
+    → IsJoined size from part s pieces → IsNoted size (from + part) next pieces
+    → ((end : ℕ) → span_end both end ≡ span_end next (span_end s end))
+    → IsJoined size from (part + 1) both pieces
+joined_more size from part s next both pieces joined noted ends =
+    let there = noted.there in
+    let count : size * (part + 1) ≡ size * part + size = omega arith in
+    let place : size * from + size * part ≡ size * (from + part) = omega arith in
+    record {
+      there = λ some. omega (arith, there);
+      span =
+          subst (λ (l : List Piece). IsSpan both l)
+          (sym (ap (λ (n : ℕ). take n (drop (size * from) pieces)) count
+          ∙ take_both (size * part) size (drop (size * from) pieces)
+          ∙ ap (λ (l : List Piece). take (size * part) (drop (size * from) pieces) ++ take size l)
+          (drop-drop (size * part) (size * from) pieces
+          ∙ ap (λ (n : ℕ). drop n pieces) place)))
+          (span_both s next both (take (size * part) (drop (size * from) pieces))
+          (take size (drop (size * (from + part)) pieces)) joined.span noted.span ends);
+    }
+
+-- all that there are in a block
+pub all_joined : (size block from part : ℕ) (s : Span) (pieces : List Piece) → from ≡ block * 32
+    → part ≡ 32 → IsJoined size from part s pieces → IsNoted (size * 32) block s pieces
+all_joined size block from part s pieces first all joined =
+    let there = joined.there (omega (arith, all)) in
+    let front : size * from ≡ size * 32 * block =
+    ap (λ (n : ℕ). size * n) first ∙ regrouped in
+    let count : size * part ≡ size * 32 = ap (λ (n : ℕ). size * n) all in
+    record {
+      there = omega (arith, there, front, count);
+      span =
+          subst (λ (n : ℕ). IsSpan s (take n (drop (size * 32 * block) pieces))) count
+          (subst (λ (n : ℕ). IsSpan s (take (size * part) (drop n pieces))) front joined.span);
+    }
+  where
+    regrouped : size * (block * 32) ≡ size * 32 * block
+    regrouped = omega arith
 
 -- ---- A run block by block
 
@@ -304,30 +415,69 @@ run_none before pieces = record {
   ends = λ class home_len. stacked_end_none class home_len before;
 }
 
-pub run_more : (before : ℕ) (pieces : List Piece) (block end next : ℕ) (s : Span)
-    → IsRun before pieces (block * 256) end → IsNoted block s pieces → next ≡ span_end s end
-    → IsRun before pieces ((block + 1) * 256) next
-run_more before pieces block end next s run noted is =
-    let there = noted.there in
-    let count : (block + 1) * 256 ≡ block * 256 + 256 = omega arith in
-    let from : 256 * block ≡ block * 256 = omega arith in
-    let cut = take_both (block * 256) 256 pieces in
-    let span = subst (λ (n : ℕ). IsSpan s (take 256 (drop n pieces))) from noted.span in
-    subst (λ (n : ℕ). IsRun before pieces n next) (sym count)
-    (record {
-      few = omega (arith, there);
+-- with pieces behind it
+run_more : (before : ℕ) (pieces : List Piece) (count more end next : ℕ) (s : Span)
+    → IsRun before pieces count end → count + more ≤ length pieces
+    → IsSpan s (take more (drop count pieces)) → next ≡ span_end s end
+    → IsRun before pieces (count + more) next
+run_more before pieces count more end next s run there span is =
+    let cut = take_both count more pieces in
+    record {
+      few = there;
       bytes =
           ap (list_all owns_bytes) cut
-          ∙ list_all-append owns_bytes (take (block * 256) pieces)
-          (take 256 (drop (block * 256) pieces))
-          ∙ and_from (list_all owns_bytes (take (block * 256) pieces))
-          (list_all owns_bytes (take 256 (drop (block * 256) pieces))) run.bytes span.bytes;
+          ∙ list_all-append owns_bytes (take count pieces) (take more (drop count pieces))
+          ∙ and_from (list_all owns_bytes (take count pieces))
+          (list_all owns_bytes (take more (drop count pieces))) run.bytes span.bytes;
       ends = λ class home_len.
           ap (stacked_end class home_len before) cut
-          ∙ stacked_end_append class home_len before (take (block * 256) pieces)
-          (take 256 (drop (block * 256) pieces))
-          ∙ ap (λ (n : ℕ). stacked_end class home_len n (take 256 (drop (block * 256) pieces)))
+          ∙ stacked_end_append class home_len before (take count pieces)
+          (take more (drop count pieces))
+          ∙ ap (λ (n : ℕ). stacked_end class home_len n (take more (drop count pieces)))
           (run.ends class home_len)
           ∙ span.ends class home_len end
           ∙ sym is;
-    })
+    }
+
+pub run_block : (size before : ℕ) (pieces : List Piece) (block count end next : ℕ) (s : Span)
+    → IsRun before pieces count end → count ≡ size * block → IsNoted size block s pieces
+    → next ≡ span_end s end → IsRun before pieces (count + size) next
+run_block size before pieces block count end next s run at noted is =
+    let there = noted.there in
+    run_more before pieces count size end next s run (omega (arith, there, at))
+    (subst (λ (n : ℕ). IsSpan s (take size (drop n pieces))) (sym at) noted.span) is
+
+-- the place where the blocks of a length go on
+pub first_block : (size count : ℕ) → count % size ≡ 0 → count ≡ size * (count / size)
+first_block size count whole =
+    let parts = div-add-mod count size in omega (arith, parts, whole)
+
+pub next_whole : (size count block : ℕ) → count ≡ size * block → (count + size) % size ≡ 0
+next_whole size count block at =
+    let next : count + size ≡ size * (block + 1) = omega (arith, at) in
+    ap (λ (n : ℕ). n % size) next ∙ mul-mod_right size (block + 1)
+
+-- ---- A run piece by piece
+
+pub one_span : (s : Span) (p : Piece) (n : ℕ) → OwnsBytes p n → s.before ≡ 0 → s.align ≡ p.align
+    → s.len ≡ n → IsSpan s (p ∷ [])
+one_span s p n owns none aligned long = record {
+  bytes = and_from (owns_bytes p) true (own_bytes p n owns) refl;
+  ends = λ class home_len end.
+      let start : end + s.before ≡ end = omega (arith, none) in
+      stacked_end_one class home_len end p
+      ∙ ap (λ (m : ℕ). rounded_up end p.align + m)
+      (own_size class home_len p n owns ∙ sym long)
+      ∙ ap (λ (a : ℕ). rounded_up end a + s.len) (sym aligned)
+      ∙ ap (λ (m : ℕ). rounded_up m s.align + s.len) (sym start);
+}
+
+pub run_piece : (before : ℕ) (pieces : List Piece) (i end next : ℕ) (s : Span) (p : Piece)
+    → IsRun before pieces i end → i < length pieces → p ≡ get_or pieces i home_piece
+    → IsSpan s (p ∷ []) → next ≡ span_end s end → IsRun before pieces (i + 1) next
+run_piece before pieces i end next s p run there is span ends =
+    let read : drop i pieces ≡ get_or pieces i home_piece ∷ drop (i + 1) pieces =
+    rw add-one (drop-cons pieces i home_piece there) in
+    let first = read ∙ ap (λ (q : Piece). q ∷ drop (i + 1) pieces) (sym is) in
+    run_more before pieces i 1 end next s run (omega (arith, there))
+    (subst (λ (l : List Piece). IsSpan s (take 1 l)) (sym first) span) ends

@@ -61,12 +61,18 @@ pub record IsSpan (s : Span) (pieces : List Piece) : Type 0 where
   pub ends : (class : Class) (home_len end : ℕ)
       → stacked_end class home_len end pieces ≡ span_end s end
 
--- what is noted of a block of 256 pieces
-pub record IsNoted (block : ℕ) (s : Span) (pieces : List Piece) : Type 0 where
-  pub there : 256 * block + 256 ≤ length pieces
-  pub span : IsSpan s (take 256 (drop (256 * block) pieces))
+-- what is noted of a block of so many pieces
+pub record IsNoted (size block : ℕ) (s : Span) (pieces : List Piece) : Type 0 where
+  pub there : size * block + size ≤ length pieces
+  pub span : IsSpan s (take size (drop (size * block) pieces))
 
 -- of some of the blocks
-abbrev pub AreNoted : List (Option Span) → List Piece → Type 0
-AreNoted spans pieces =
-    (i : ℕ) (s : Span) → slice_index_or spans i None ≡ Some s → IsNoted i s pieces
+abbrev pub AreNoted : ℕ → List (Option Span) → List Piece → Type 0
+AreNoted size spans pieces =
+    (i : ℕ) (s : Span) → slice_index_or spans i None ≡ Some s → IsNoted size i s pieces
+
+-- of blocks of three lengths
+pub record AreAllNoted (short middle long : List (Option Span)) (pieces : List Piece) : Type 0 where
+  pub shorts : AreNoted 16 short pieces
+  pub middles : AreNoted 512 middle pieces
+  pub longs : AreNoted 16384 long pieces

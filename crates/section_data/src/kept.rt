@@ -292,8 +292,8 @@ impl Kept {
         }
     }
 
-    /// The first pieces, each of which holds bytes, as far as it is noted where they end and the
-    /// last of them ends at a limit at the latest.
+    /// The first pieces, as far as they hold bytes and the last of them ends at a limit at the
+    /// latest. It takes few steps where it is noted where they end.
     #[inline(always)]
     pub(crate) fn first_pieces(&self, limit: u64) -> FirstPieces
         ensures first { AreFirstIn self.now result.count result.end }

@@ -7,6 +7,7 @@
 //! the clean home piece is what the home holds.
 #![tactic(auto)]
 
+mod blocks;
 mod cell;
 mod first;
 mod held;

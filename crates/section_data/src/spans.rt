@@ -1,6 +1,6 @@
 //! What a run of pieces does to the end before it.
 
-ghost use Rattle.std.specs.Prelude.{◌≡◌, ◌+◌, ◌%◌, ◌<◌, ◌≤◌, ℕ, length, IfSome};
+ghost use Rattle.std.specs.Prelude.{◌≡◌, ◌+◌, ◌%◌, ◌<◌, ◌≤◌, ◌∷◌, [], ℕ, length, IfSome};
 ghost use Rattle.std.specs.Option.{SomeIff};
 ghost use Rattle.elf_layout.specs.Layout.{rounded_up};
 ghost use Rattle.section_data.specs.Spans.{OwnsBytes, IsSpan, span_end};
@@ -23,7 +23,7 @@ pub(crate) struct Span {
 impl Span {
     /// That of no pieces.
     #[tactic(auto, using(crate::proofs::Rounding::rounded_to_one))]
-    fn none() -> Span
+    pub(crate) fn none() -> Span
         ensures end { (end : ℕ) → span_end result end ≡ end }
         ensures some { 0 < result.align }
     {
@@ -111,6 +111,24 @@ impl Span {
         }
         None
     }
+
+    /// The run with another one behind it. It is None only where `followed` is.
+    pub(crate) fn joined(&self, next: Span) -> Option<Span>
+        requires { 0 < self.now.align }
+        ensures some { IfSome result (λ s. 0 < s.align) }
+        ensures end { IfSome result (λ s. (end : ℕ)
+            → span_end s end ≡ span_end next (span_end self.now end)) }
+    {
+        let Some(len) = self.len.checked_add(next.before) else {
+            return None;
+        };
+        let longer = Span {
+            before: self.before,
+            align: self.align,
+            len,
+        };
+        longer.followed(next.align, next.len)
+    }
 }
 
 /// The number of the bytes of a piece that has bytes of its own.
@@ -125,6 +143,20 @@ pub(crate) fn own_len(piece: &Piece) -> Option<u64>
         return None;
     }
     Some(items.count())
+}
+
+/// What a piece does to the end before it, where it has bytes of its own.
+pub(crate) fn piece_span(piece: &Piece) -> Option<Span>
+    ensures { IfSome result (λ s. IsSpan s (piece.now ∷ [])) }
+{
+    let Some(len) = own_len(piece) else {
+        return None;
+    };
+    Some(Span {
+        before: 0,
+        align: piece.align(),
+        len,
+    })
 }
 
 /// What pieces do to the end before them, where each of them has bytes of its own.

@@ -60,8 +60,9 @@ impl Cell {
         self.kept.note_pieces();
     }
 
-    /// The first pieces of the section, each of which holds bytes, as far as it is noted where they
-    /// end and the last of them ends at a limit at the latest. It takes no memory.
+    /// The first pieces of the section, each of which holds bytes, as far as the last of them ends
+    /// at a limit at the latest. It takes few steps where it is noted where they end, and no
+    /// memory.
     ///
     /// Source: gABI chapter 4, "Sections", and elf_newdata of elf(3E).
     #[inline(always)]

@@ -1,6 +1,6 @@
 use Rattle.std.proofs.Common.{inl, arith}
 use Rattle.section_data.proofs.Runs.{noted_set, noted_tried}
-use Rattle.section_data.proofs.others.note.Goals as goal
+use Rattle.section_data.proofs.blocks.note.Goals as goal
 
 pub returns-then-block-len : goal.returns-then-block-len
 returns-then-block-len c = λ i s found.

@@ -1,6 +1,6 @@
 use Rattle.std.proofs.Common.{arith}
 use Rattle.section_data.proofs.Runs.{forgotten, untouched}
-use Rattle.section_data.proofs.others.forget.Goals as goal
+use Rattle.section_data.proofs.blocks.forget.Goals as goal
 
 pub returns-then-len-block : goal.returns-then-len-block
 returns-then-len-block c = λ i s found.
