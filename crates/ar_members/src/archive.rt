@@ -200,6 +200,17 @@ impl<S: Source> Ar<S> {
         }
     }
 
+    /// A source over the body of a member whose header is known, as `next` gives it: the range that
+    /// the header tells, which lies in the archive. Nothing is read, and it takes no memory. The
+    /// walk stands where it stood.
+    pub fn body(self, header: &ArHdr) -> Window<Ar<S>>
+        requires { header.now.body + header.now.size ≤ S.size self.source }
+        ensures inner { result.inner ≡ self }
+        ensures range { (result.at ≡ header.now.body) × (result.len ≡ header.now.size) }
+    {
+        Window::new(self, header.body, header.size)
+    }
+
     /// The source. It takes no memory.
     pub fn end(self) -> S
         ensures { result ≡ self.source }

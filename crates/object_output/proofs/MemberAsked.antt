@@ -1,11 +1,10 @@
 -- How many bytes are asked for while the members of an archive are reported on one after another.
-use Rattle.std.proofs.Common.{◌≡◌, ◌+◌, ◌≤◌, ℕ, Bool, true, false, cond, leb, List, [], ◌∷◌, take, drop, Option, Some, None, Result, Ok, Err, IfSome, OnOk, refl, sym, ap, ◌∙◌, arith}
+use Rattle.std.proofs.Common.{◌≡◌, ◌+◌, ◌≤◌, ℕ, Bool, true, false, cond, List, [], ◌∷◌, take, drop, Option, Some, None, Result, Ok, Err, IfSome, OnOk, refl, ap, ◌∙◌, arith}
 use Rattle.std.specs.List.{sum_by}
 use Rattle.std.proofs.lemmas.List.Sums.{sum_by-cons}
 use Rattle.elf_types.specs.declared.errors.ElfError.{ElfError}
 use Rattle.elf_outside.specs.Windows.{range_of}
 use Rattle.ar_members.specs.declared.headers.ArHdr.{ArHdr}
-use Rattle.ar_members.specs.Headers.{header_asks, member_at, HasBody}
 use Rattle.ar_members.specs.Members.{Members, next_among, next_of}
 use Rattle.ar_members.specs.Archives.{Walk, first_walk, members_left, next_due, left_due}
 use Rattle.ar_members.proofs.EntryLemmas.{due_begins}
@@ -13,53 +12,21 @@ use Rattle.ar_members.proofs.Told.{told_by, told_then, told_both, told_as}
 use Rattle.tool_output.specs.declared.stops.Stop.{Stop}
 use Rattle.object_output.specs.Looks.{Looks}
 use Rattle.object_output.specs.Images.{image_asks}
-use Rattle.object_output.specs.Archives.{member_bytes, member_asks, left_asks, archive_asks}
+use Rattle.object_output.specs.Archives.{member_asks, left_asks, archive_asks}
 use Rattle.object_output.proofs.MemberLemmas.{of_range}
 
 -- ---- A member
 
-header_most : (len at : ℕ) → header_asks len at ≤ 60
-header_most len at = by_test (leb (at + 60) len)
-  where
-    by_test : (b : Bool) → cond b 60 0 ≤ 60
-    by_test true = omega arith
-    by_test false = omega arith
-
--- what a call of the archive answered of the member at a place
-abbrev asks_at : Looks → List ℕ → Result (ℕ × ℕ) ElfError → ℕ
-asks_at looks bytes (Ok place) = image_asks looks (take place.1 (drop place.0 bytes))
-asks_at looks bytes (Err e) = 0
-
-module _ (looks : Looks) (header : ArHdr) (holds : Option (List ℕ)) (size a b : ℕ)
-    (look : b ≤ a + header_asks size header.at) where
-  behind : (n c m : ℕ) → m ≡ n → c ≤ b + n → c ≤ a + (60 + m)
-  behind n c m same h = let most = header_most size header.at in omega (arith, look, most, same, h)
-
-  -- its header is read once more, and then what is asked for of its body
-  pub member_within : (r : Result Bool Stop) (now : Option (List ℕ)) (at len c : ℕ) → now ≡ holds
-      → IfSome holds (λ bytes. HasBody bytes header)
-      → IfSome holds (λ bytes. member_at bytes header.at ≡ Ok (at, len))
-      → OnOk r (IfSome (range_of at len now) (λ image. c ≤ b + image_asks looks image))
-      → OnOk r (IfSome holds (λ bytes. c ≤ a + member_asks looks bytes header))
-  member_within (Err stop) now at len c same there given asked = tt
-  member_within (Ok x) now at len c same there given asked =
-      told_both (λ bytes. image_asks looks (member_bytes bytes header)
-      ≡ image_asks looks (take len (drop at bytes)))
-      (λ bytes. c ≤ b + image_asks looks (take len (drop at bytes))) holds
-      (told_both (λ bytes. HasBody bytes header) (λ bytes. member_at bytes header.at ≡ Ok (at, len))
-      holds there given (λ bytes body is. ap (asks_at looks bytes) (sym body ∙ is)))
-      (told_as (λ bytes. c ≤ b + image_asks looks (take len (drop at bytes))) holds now same
-      (of_range (λ image. c ≤ b + image_asks looks image) at len now asked))
-      (λ bytes is within. behind (image_asks looks (take len (drop at bytes))) c
-      (image_asks looks (member_bytes bytes header)) is within)
-
-  -- or that was all
-  pub member_unread : (r : Result Bool Stop)
-      → OnOk r (IfSome holds (λ bytes. b ≤ a + member_asks looks bytes header))
-  member_unread (Err stop) = tt
-  member_unread (Ok x) = told_by holds
-      (λ bytes there. behind (image_asks looks (member_bytes bytes header)) b
-      (image_asks looks (member_bytes bytes header)) refl (omega arith))
+-- what is asked for of the range that its header tells
+pub member_within : (looks : Looks) (header : ArHdr) (holds now : Option (List ℕ))
+    (b c at len : ℕ) (r : Result Bool Stop) → now ≡ holds → at ≡ header.body
+    → len ≡ header.size
+    → OnOk r (IfSome (range_of at len now) (λ image. c ≤ b + image_asks looks image))
+    → OnOk r (IfSome holds (λ bytes. c ≤ b + member_asks looks bytes header))
+member_within looks header holds now b c at len (Err stop) same from long asked = tt
+member_within looks header holds now b c at len (Ok x) same from long asked =
+    rw (from, long) at (told_as (λ bytes. c ≤ b + image_asks looks (take len (drop at bytes)))
+    holds now same (of_range (λ image. c ≤ b + image_asks looks image) at len now asked))
 
 -- ---- What is left of the members
 

@@ -1,8 +1,8 @@
 -- The members of an archive, as a tool reports on them one after another.
-use Rattle.std.proofs.Common.{◌≡◌, ◌≤◌, ℕ, Bool, List, [], ◌∷◌, take, drop, Option, Some, None, Result, Ok, Err, IfSome, refl, sym, ap, ◌∙◌, subst}
+use Rattle.std.proofs.Common.{◌≡◌, ◌≤◌, ℕ, Bool, List, [], ◌∷◌, take, drop, Option, Some, None, Result, Ok, Err, IfSome, ap, ◌∙◌}
 use Rattle.elf_types.specs.declared.errors.ElfError.{ElfError}
 use Rattle.elf_types.specs.declared.errors.ElfError.TheVariants.{BadMember}
-use Rattle.elf_types.specs.Answers.{answered, stated_refusal, FollowsBy}
+use Rattle.elf_types.specs.Answers.{answered, stated_refusal}
 use Rattle.elf_types.specs.Text.{error_text}
 use Rattle.elf_outside.specs.Counts.{Rose}
 use Rattle.elf_outside.specs.Windows.{range_of, window_rest}
@@ -10,11 +10,10 @@ use Rattle.elf_outside.specs.declared.sources.Source.{Ghosts as SourceGhosts}
 use Rattle.elf_outside.specs.declared.sinks.Sink.{Ghosts as SinkGhosts}
 use Rattle.ar_members.specs.declared.headers.ArHdr.{ArHdr}
 use Rattle.ar_members.specs.Magic.{archive_refusal}
-use Rattle.ar_members.specs.Headers.{member_at, HasBody}
 use Rattle.ar_members.specs.Members.{Members, members, next_among, next_of}
 use Rattle.ar_members.specs.Archives.{Walk, Archive, first_walk, begun_walk, archive_rest, members_left}
 use Rattle.ar_members.proofs.RestLemmas.{archive_window_same}
-use Rattle.ar_members.proofs.Told.{told_then, told_both}
+use Rattle.ar_members.proofs.Told.{told_then}
 use Rattle.elf_object.specs.Object.{Object}
 use Rattle.tool_output.specs.declared.stops.Stop.{Stop}
 use Rattle.tool_output.specs.declared.outputs.Outputs.{Outputs}
@@ -29,30 +28,6 @@ use Rattle.object_output.specs.Images.{image_report}
 use Rattle.object_output.specs.Archives.{member_report, end_report, members_report, walk_report, archive_report}
 
 -- ---- A member
-
--- what a call of the archive answered of the member at a place
-abbrev told_place : (ℕ → ℕ → Report) → Result (ℕ × ℕ) ElfError → Report
-told_place report (Ok place) = report place.0 place.1
-told_place report (Err e) = no_report
-
-module _ (report : Name → List ℕ → Report) (file : List ℕ) (header : ArHdr) (holds : Option (List ℕ)) (there : IfSome holds (λ bytes. HasBody bytes header)) where
-  -- the body that was given is that of the header
-  pub body_is : (at len : ℕ) → IfSome holds (λ bytes. member_at bytes header.at ≡ Ok (at, len))
-      → IfSome holds (λ bytes. member_report report file bytes header ≡ report (member_name file header.name) (take len (drop at bytes)))
-  unfolding member_report
-  body_is at len given =
-      told_both (λ bytes. HasBody bytes header) (λ bytes. member_at bytes header.at ≡ Ok (at, len)) holds there given
-      (λ bytes body is. ap (told_place (λ at len. report (member_name file header.name) (take len (drop at bytes)))) (sym body ∙ is))
-
-  -- so none is refused
-  pub body_is_there : (whole : List ℕ → Report) (refused : Report) (d : ElfError) → IfSome holds (λ bytes. IfSome (stated_refusal d) (λ d. member_at bytes header.at ≡ Err d))
-      → IfSome holds (λ bytes. stop_of d ≡ None → whole bytes ≡ refused)
-  body_is_there whole refused d given =
-      told_both (λ bytes. HasBody bytes header) (λ bytes. IfSome (stated_refusal d) (λ d. member_at bytes header.at ≡ Err d)) holds there given
-      (λ bytes body is none. absurd (never (sym body ∙ stated_error d (member_at bytes header.at) is none)))
-    where
-      never : {x : ℕ × ℕ} → ◌≡◌ {A = Result (ℕ × ℕ) ElfError} (Ok x) (Err d) → ⊥
-      never h = cc
 
 -- what is said of a range of bytes is said of the bytes
 pub of_range : (P : List ℕ → Type 0) (at len : ℕ) (holds : Option (List ℕ))
@@ -78,6 +53,17 @@ module _ {S O E : Type 0} (s : SourceGhosts S) (o : SinkGhosts O) (e : SinkGhost
   -- and the walk stands where it stood
   pub window_walk : b.walk ≡ a.walk
   window_walk = (archive_window_same at' at _ _ _ _ b.walk a.walk _ _ rest).3
+
+module _ {S O E : Type 0} (s : SourceGhosts S) (o : SinkGhosts O) (e : SinkGhosts E)
+    (report : Name → List ℕ → Report) (file : List ℕ) (header : ArHdr) where
+  -- a report on the range that its header tells is one on a member
+  pub member_reports : (at len : ℕ) (r : Result Bool Stop) (a b : S) (t u : Outputs O E)
+      → at ≡ header.body → len ≡ header.size
+      → ReportsOn s o e
+      (λ bytes. report (member_name file header.name) (take len (drop at bytes))) r a b t u
+      → ReportsOn s o e (λ bytes. member_report report file bytes header) r a b t u
+  unfolding member_report
+  member_reports at len r a b t u from long h = rw (from, long) at h
 
 -- ---- What is left of the members
 

@@ -55,7 +55,7 @@ once_name s o =
 
 -- ---- All homes
 
-in_range : (a n x : ℕ) → a ≤ x → x < a + n → has (range_with_len a n) x ≡ true
+pub in_range : (a n x : ℕ) → a ≤ x → x < a + n → has (range_with_len a n) x ≡ true
 in_range a zero x from below = absurd (omega arith)
 in_range a (suc n) x from below =
     by_test (a == x) refl (λ behind. in_range (a + 1) n x behind (omega arith))

@@ -7,7 +7,7 @@ use Rattle.elf_types.specs.declared.errors.ElfError.TheVariants.{BadMember}
 use Rattle.elf_types.specs.Answers.{answered}
 use Rattle.elf_types.specs.Text.{error_text}
 use Rattle.ar_members.specs.declared.headers.ArHdr.{ArHdr}
-use Rattle.ar_members.specs.declared.headers.TheConstants.{HEADER_LEN, FIRST}
+use Rattle.ar_members.specs.declared.headers.TheConstants.{FIRST}
 use Rattle.ar_members.specs.Archives.{Walk, first_walk, members_left, left_due}
 use Rattle.ar_members.specs.Magic.{archive_refusal}
 use Rattle.ar_members.specs.Members.{Members, members}
@@ -57,9 +57,9 @@ archive_report command report name archive =
 
 -- ---- How many bytes are asked for at most
 
--- for a member: its header once more, and then what is asked for of an image, which it need not be
+-- for a member: what is asked for of an image, which it need not be
 abbrev pub member_asks : Looks → List ℕ → ArHdr → ℕ
-member_asks looks archive header = HEADER_LEN + image_asks looks (member_bytes archive header)
+member_asks looks archive header = image_asks looks (member_bytes archive header)
 
 -- for what is left of an archive: what the walk over it asks for, each header and the tables of
 -- long names, and what is asked for its members

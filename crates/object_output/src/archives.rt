@@ -2,7 +2,6 @@
 
 ghost use Rattle.std.specs.Prelude.{◌≡◌, ◌≤◌, ◌+◌, IfSome, OnOk};
 ghost use Rattle.ar_members.specs.Archives.{members_left};
-ghost use Rattle.ar_members.specs.Headers.{HasBody};
 ghost use Rattle.tool_output.specs.Names.{file_name};
 ghost use Rattle.tool_output.specs.Sources.{ReportsOn};
 ghost use Rattle.object_output.specs.Images.{image_report};
@@ -16,8 +15,7 @@ use std::alloc::Global;
 use tool_output::{FileName, Outputs, Stop};
 
 /// Gives a tool's report on a member of an archive, under `LIB[MEMBER]`, and hands the archive back
-/// with its walk as it stood. It reads the header once more, and of the member's body no more than
-/// the tool asks for.
+/// with its walk as it stood. Of the member's body it reads no more than the tool asks for.
 fn show_member<T: ObjectTool, S: Source, O: Sink, E: Sink>(
     alloc: Global,
     tool: &T,
@@ -26,7 +24,7 @@ fn show_member<T: ObjectTool, S: Source, O: Sink, E: Sink>(
     header: &ArHdr,
     outputs: &mut Outputs<'_, O, E>,
 ) -> (Ar<S>, Result<bool, Stop>)
-    requires { IfSome (S.holds archive.source) (λ bytes. HasBody bytes header.now) }
+    requires { header.now.body + header.now.size ≤ S.size archive.source }
     ensures reports { ReportsOn S.Source O.Sink E.Sink
         (λ bytes. member_report (image_report (T.command tool.now) (T.report tool.now))
         file.now bytes header.now)
@@ -37,16 +35,9 @@ fn show_member<T: ObjectTool, S: Source, O: Sink, E: Sink>(
         ≤ S.taken archive.source + member_asks (T.looks tool.now) bytes header.now)) }
 {
     let name = FileName::of_member(file, header.name.as_slice());
-    match archive.member(header.at) {
-        Ok(body) => {
-            let (body, shown) = tool.show_source(alloc, body, &name, outputs);
-            (body.into_inner(), shown)
-        }
-        Err((archive, e)) => {
-            let refused = refuse(tool.command(), &name, e, outputs);
-            (archive, refused)
-        }
-    }
+    let window = archive.body(header);
+    let (body, shown) = tool.show_source(alloc, window, &name, outputs);
+    (body.into_inner(), shown)
 }
 
 /// Gives a tool's report on each member that is left of an archive, in their order, and the message
@@ -90,9 +81,8 @@ fn show_members<T: ObjectTool, S: Source, O: Sink, E: Sink>(
 /// Gives a tool's report on what an archive holds, and hands the source back. Each member has the
 /// report on an image under `LIB[MEMBER]`, or the message that says why it is none, and the walk
 /// goes on; a bad header ends it, with its message. One member is held at a time. No more is asked
-/// for than the first line, each header and the tables of long names, and for each member its
-/// header once more and what is asked for of an image. It stops by `Read` only where a read of the
-/// source failed.
+/// for than the first line, each header and the tables of long names, and for each member what is
+/// asked for of an image. It stops by `Read` only where a read of the source failed.
 ///
 /// Source: ar.h, and the archive format of System V and GNU; gABI chapter 7, "Archive File".
 pub fn show_archive<T: ObjectTool, S: Source, O: Sink, E: Sink>(

@@ -1,4 +1,4 @@
-use Rattle.std.proofs.Common.{refl}
+use Rattle.std.proofs.Common.{refl, arith}
 use Rattle.tool_output.proofs.SourceLemmas.{refuses_after}
 use Rattle.object_output.specs.Images.{image_report}
 use Rattle.object_output.specs.Archives.{member_report}
@@ -38,6 +38,14 @@ loop-header-preserved g c =
           _ next.asks.leaves.same_bytes
           (rw c.in-Ok-Some.field-0-is at next.members) next.left (rw c.in-Ok.is at member.asks);
     })
+
+pub show_member-after-requires : goal.show_member-after-requires
+show_member-after-requires g c =
+    let next = c.in-Ok-Some.ensures in
+    let lies = rw c.in-Ok-Some.field-0-is at next.lies in
+    let within = lies.within in
+    let same = next.asks.leaves.same_len in
+    omega (arith, within, same)
 
 pub returns-in-Err-shown-clause-reports : goal.returns-in-Err-shown-clause-reports
 returns-in-Err-shown-clause-reports g c =
