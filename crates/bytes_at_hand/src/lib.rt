@@ -12,4 +12,4 @@ pub mod strings;
 pub use held::{held_bytes, load};
 pub use items::{ItemBytes, Span, item_bytes, item_of, items_at_hand, most_items};
 pub use scans::{ItemTest, next_found};
-pub use strings::{is_past, string_bytes, string_from, strings_end};
+pub use strings::{is_past, string_bytes, string_from, strings_end, up_to_last_nul};

@@ -83,8 +83,11 @@ fn first_bytes(bytes: &[u8], n: usize) -> &[u8]
     &bytes[..n]
 }
 
-/// Bytes up to their last NUL: the same strings begin in them.
-fn up_to_last_nul(bytes: &[u8]) -> &[u8]
+/// Bytes up to their last NUL: the same strings begin in them, and one begins at each place of
+/// them.
+///
+/// Source: gABI chapter 4, "String Table".
+pub fn up_to_last_nul(bytes: &[u8]) -> &[u8]
     ensures same { (at : ℕ) → string_front (drop at result.now) ≡ string_front (drop at bytes.now) }
     ensures ended { AreEnded result.now }
 {

@@ -1,5 +1,5 @@
 -- The rows of kept symbols that are told from bytes are those that are stated.
-use Rattle.std.proofs.Common.{◌≡◌, ℕ, Bool, List, map, Option, Some, None, IsTrue, refl, sym, ap, ◌∙◌}
+use Rattle.std.proofs.Common.{◌≡◌, ℕ, Bool, List, map, Option, Some, None, refl, sym, ap, ◌∙◌}
 use Rattle.std.specs.Prelude.{slice_get}
 use Rattle.std.proofs.lemmas.Simd.{map-map}
 use Rattle.elf_types.specs.declared.records.Kind.TheVariants as kinds
@@ -7,7 +7,6 @@ use Rattle.elf_types.specs.declared.records.Sym.{Sym}
 use Rattle.elf_object.specs.Object.{Object}
 use Rattle.elf_object.specs.Answers.{syms_of}
 use Rattle.elf_object.specs.SymbolSections.{shndx_table}
-use Rattle.elf_descriptor.specs.State.{State}
 use Rattle.gelf_view.specs.declared.symbols.SymPlace.{SymPlace}
 use Rattle.tool_text.specs.declared.options.NmOptions.{NmOptions}
 use Rattle.tool_output.specs.Names.{Name}
@@ -15,34 +14,31 @@ use Rattle.tool_output.specs.Reports.{no_report, shown, all_joined, reports_of}
 use Rattle.object_output.specs.Symbols.{symbol_place}
 use Rattle.bytes_at_hand.specs.Items.{held_items}
 use Rattle.nm_tool.specs.declared.kept.Kept.{Kept}
-use Rattle.nm_tool.specs.declared.symbols.Tables.{Tables}
 use Rattle.nm_tool.specs.declared.symbols.TableBytes.{TableBytes}
 use Rattle.nm_tool.specs.Order.{Entry, in_order}
 use Rattle.nm_tool.specs.Listed.{symbols}
-use Rattle.nm_tool.specs.Tables.{AreTables, HoldsTable}
+use Rattle.nm_tool.specs.Tables.{ArePlain}
 use Rattle.nm_tool.specs.Tool.{placed_row, symbol_row, symbol_report, entry_report, entries_report}
 use Rattle.nm_tool.specs.Kept.{shown_in, shown_name, ranked_entry, kept_entries, held_report}
-use Rattle.nm_tool.proofs.PlaceLemmas.{plain_told}
-use Rattle.nm_tool.proofs.KeptLemmas.{entries_same, names_held}
+use Rattle.nm_tool.proofs.KeptLemmas.{entries_same}
 
-module _ {S : Type 0} (options : NmOptions) (file : Name) (state : State S) (t : Tables)
-    (b : TableBytes) (tables : AreTables state.o t) (holds : HoldsTable state t b)
-    (told : IsTrue state.told) where
+module _ (options : NmOptions) (file : Name) (o : Object) (s : ℕ) (b : TableBytes)
+    (plain : ArePlain o s b.symbols)
+    (names : (at : ℕ) → shown_in b.strings.now at ≡ shown_name o s at) where
   abbrev held : List Sym
   held = held_items kinds.Sym syms_of b.symbols
 
   there : (k : Kept) (i : ℕ) → i ≡ k.index
-      → slice_get (symbols state.o t.symbols.0) k.index ≡ slice_get held i
+      → slice_get (symbols o s) k.index ≡ slice_get held i
   there k i is =
-      let plain = plain_told state t b.symbols tables holds.table told in
       ap (λ (l : List Sym). slice_get l k.index) plain.held ∙ ap (slice_get held) (sym is)
 
   report_at : (k : Kept) (i : ℕ) (g : Option Sym) → i ≡ k.index → g ≡ slice_get held i
-      → held_report options file state.o t.symbols.0 b.strings.now k
-      ≡ symbol_report options file state.o t.symbols.0 k.index (shown_in b.strings.now k.name) g
+      → held_report options file o s b.strings.now k
+      ≡ symbol_report options file o s k.index (shown_in b.strings.now k.name) g
   unfolding entry_report held_report
   report_at k i g is here =
-      ap (symbol_report options file state.o t.symbols.0 k.index (shown_in b.strings.now k.name))
+      ap (symbol_report options file o s k.index (shown_in b.strings.now k.name))
       (there k i is ∙ sym here)
 
   -- that of a symbol which is there
@@ -51,38 +47,34 @@ module _ {S : Type 0} (options : NmOptions) (file : Name) (state : State S) (t :
       → ((o : Object) (s n : ℕ) (y : Sym) → None ≡ shndx_table o s → y.shndx ≡ x.shndx
       → symbol_place o s n y ≡ place)
       → name ≡ shown_in b.strings.now k.name
-      → held_report options file state.o t.symbols.0 b.strings.now k
-      ≡ shown (placed_row options file state.o x place name)
+      → held_report options file o s b.strings.now k
+      ≡ shown (placed_row options file o x place name)
   unfolding symbol_row
   row_held k i x place name is here placed named =
-      let s = t.symbols.0 in
-      let plain = plain_told state t b.symbols tables holds.table told in
       report_at k i (Some x) is here
       ∙ ap (λ (p : Option SymPlace).
-      shown (placed_row options file state.o x p (shown_in b.strings.now k.name)))
-      (placed state.o s k.index x plain.plain refl)
-      ∙ ap (λ (n : List ℕ). shown (placed_row options file state.o x place n)) (sym named)
+      shown (placed_row options file o x p (shown_in b.strings.now k.name)))
+      (placed o s k.index x plain.plain refl)
+      ∙ ap (λ (n : List ℕ). shown (placed_row options file o x place n)) (sym named)
 
   -- and there is none of another
   pub none_held : (k : Kept) (i : ℕ) → i ≡ k.index → None ≡ slice_get held i
-      → held_report options file state.o t.symbols.0 b.strings.now k ≡ no_report
+      → held_report options file o s b.strings.now k ≡ no_report
   none_held k i is here = report_at k i None is here
 
   -- those of all, in their order
   pub order_held : (v : Bool) (list order rows : List Kept)
       → map (ranked_entry v (shown_in b.strings.now)) order
       ≡ in_order (kept_entries v (shown_in b.strings.now) list) → rows ≡ order
-      → entries_report options file state.o t.symbols.0
-      (kept_entries v (shown_name state.o t.symbols.0) list)
-      ≡ reports_of (held_report options file state.o t.symbols.0 b.strings.now) rows
+      → entries_report options file o s
+      (kept_entries v (shown_name o s) list)
+      ≡ reports_of (held_report options file o s b.strings.now) rows
   unfolding entries_report reports_of held_report
   order_held v list order rows is same =
-      let s = t.symbols.0 in
-      let line = λ (e : Entry). entry_report options file state.o s e.index e.name in
-      let names = names_held state s t.names.0 b.strings.now tables.names holds.names told in
+      let line = λ (e : Entry). entry_report options file o s e.index e.name in
       ap (λ (es : List Entry). all_joined (map line (in_order es)))
-      (sym (entries_same v (shown_in b.strings.now) (shown_name state.o s) names list))
+      (sym (entries_same v (shown_in b.strings.now) (shown_name o s) names list))
       ∙ ap (λ (es : List Entry). all_joined (map line es)) (sym is)
       ∙ ap all_joined (map-map line (ranked_entry v (shown_in b.strings.now)) order)
       ∙ ap (λ (l : List Kept).
-      all_joined (map (held_report options file state.o s b.strings.now) l)) (sym same)
+      all_joined (map (held_report options file o s b.strings.now) l)) (sym same)

@@ -10,4 +10,7 @@ mod Ranking
 mod PlaceLemmas
 mod PlainLemmas
 mod HeldLemmas
+mod HeaderLemmas
+pub mod FrontLemmas
+pub mod FrontSteps
 mod Runs

@@ -8,13 +8,11 @@ use Rattle.elf_types.specs.declared.records.ScnId.{ScnId}
 use Rattle.elf_types.specs.declared.records.Sym.{Sym}
 use Rattle.elf_types.specs.declared.errors.ElfError.{ElfError}
 use Rattle.elf_types.specs.Text.{error_text}
-use Rattle.elf_xlate.specs.declared.content.Items.{Items}
-use Rattle.elf_xlate.specs.declared.content.Items.TheVariants as items
-use Rattle.elf_xlate.specs.Translation.{items_kind, items_count}
+use Rattle.elf_xlate.specs.Translation.{items_count}
 use Rattle.elf_outside.specs.declared.sources.Source.{Ghosts as SourceGhosts}
 use Rattle.elf_outside.specs.declared.sinks.Sink.{Ghosts as SinkGhosts}
 use Rattle.elf_object.specs.Object.{Object, section_at}
-use Rattle.elf_object.specs.Answers.{count_at, items_at, syms_of, lend_refusal}
+use Rattle.elf_object.specs.Answers.{count_at, items_at, lend_refusal}
 use Rattle.elf_descriptor.specs.State.{State}
 use Rattle.gelf_view.specs.Calls.{IsTable}
 use Rattle.gelf_view.specs.declared.symbols.SymPlace.{SymPlace}
@@ -100,10 +98,6 @@ module _ (options : NmOptions) (file : Name) (o : Object) where
   table_absent is = ap (object_report options file o) (sym is)
 
 -- ---- Symbols
-
-pub syms_counted : (items : Items) → items_kind items ≡ kinds.Sym → length (syms_of items) ≡ items_count items
-syms_counted (items.Sym l) is = refl
-syms_counted items is = cc
 
 pub count_is : (o : Object) (s p : ℕ) → count_at o s p ≡ items_count (items_at o s p)
 unfolding count_at

@@ -1,7 +1,9 @@
 -- The symbols that are wanted whatever their names, and the order of their rows by names that stand
 -- in one list of strings.
-use Rattle.std.specs.Prelude.{◌++◌, ◌+◌, ℕ, zero, suc, Bool, List, [], ◌∷◌, drop, map, slice_get, Option, Some, None, if◌then◌else◌}
+use Rattle.std.specs.Prelude.{◌≡◌, ◌++◌, ◌+◌, ℕ, zero, suc, Bool, List, [], ◌∷◌, drop, map, slice_get, Option, Some, None, if◌then◌else◌}
 use Rattle.std.specs.List.{flat_map}
+use Rattle.elf_types.specs.declared.records.Class.{Class}
+use Rattle.elf_types.specs.declared.records.Shdr.{Shdr}
 use Rattle.elf_types.specs.declared.records.Sym.{Sym}
 use Rattle.elf_object.specs.Object.{Object, section_at}
 use Rattle.elf_object.specs.Strings.{string_answer, readable}
@@ -10,9 +12,12 @@ use Rattle.tool_text.specs.declared.options.NmOptions.{NmOptions}
 use Rattle.tool_output.specs.Names.{Name}
 use Rattle.tool_output.specs.Reports.{Report, no_report, shown}
 use Rattle.nm_tool.specs.declared.kept.Kept.{Kept}
+use Rattle.nm_tool.specs.declared.symbols.TableBytes.{TableBytes}
+use Rattle.nm_tool.specs.Letters.{HasHeaders}
 use Rattle.nm_tool.specs.Order.{Entry, in_order}
 use Rattle.nm_tool.specs.Listed.{symbols, is_empty, listed_name, name_or_none}
 use Rattle.nm_tool.specs.Pools.{wanted_at}
+use Rattle.nm_tool.specs.Tables.{ArePlain}
 use Rattle.nm_tool.specs.Tool.{symbol_row, entry_report}
 
 -- ---- Kept symbols
@@ -73,6 +78,14 @@ index_report options file o s i = row_if options file o s i (slice_get (symbols 
 
 unfoldable pub kept_report : NmOptions → Name → Object → ℕ → Kept → Report
 kept_report options file o s k = index_report options file o s k.index
+
+-- bytes hold the symbols of a section of an object and their names, and these are its class and its
+-- headers: what its rows rest on
+pub record TellsRows (o : Object) (s : ℕ) (c : Class) (listed : List Shdr) (b : TableBytes)
+    : Type 0 where
+  pub headers : HasHeaders o c listed
+  pub symbols : ArePlain o s b.symbols
+  pub names : (at : ℕ) → shown_in b.strings.now at ≡ shown_name o s at
 
 -- by its name in bytes
 unfoldable pub held_report : NmOptions → Name → Object → ℕ → List ℕ → Kept → Report

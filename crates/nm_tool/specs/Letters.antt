@@ -1,7 +1,8 @@
 -- The letter of a symbol: what it is, and where it is defined (POSIX nm, STDOUT; gABI chapter 4,
 -- "Symbol Table", st_info and st_shndx; the letters i, u, v and V are GNU's).
-use Rattle.std.specs.Prelude.{ℕ, ◌+◌, ◌==◌, ◌&&◌, nat_lt, Bool, true, false, List, [], ◌∷◌, length, Option, Some, None, if◌then◌else◌}
+use Rattle.std.specs.Prelude.{◌≡◌, ℕ, ◌+◌, ◌==◌, ◌&&◌, nat_lt, Bool, true, false, List, [], ◌∷◌, length, map, Option, Some, None, if◌then◌else◌}
 use Rattle.std.specs.Str.{byte}
+use Rattle.elf_types.specs.declared.records.Class.{Class}
 use Rattle.elf_types.specs.declared.records.Shdr.{Shdr}
 use Rattle.elf_types.specs.declared.records.Sym.{Sym}
 use Rattle.elf_types.specs.Kinds.{has_flag}
@@ -53,9 +54,9 @@ cased local letter = if local && not_asked letter then letter + 32 else letter
     not_asked : ℕ → Bool
     not_asked c = if c == byte "?" then false else true
 
--- of a symbol whose place is this
-unfoldable pub symbol_letter : Object → Sym → Option SymPlace → ℕ
-symbol_letter o x place =
+-- of a symbol whose place is this, by the letter of that
+unfoldable pub letter_by : Sym → Option SymPlace → ℕ → ℕ
+letter_by x place letter =
     let undefined = is_undefined place in
     let weak = has_bind STB_WEAK x in
     let object = has_type STT_OBJECT x in
@@ -68,4 +69,14 @@ symbol_letter o x place =
     ∷ (weak && object, byte "V")
     ∷ (weak, byte "W")
     ∷ [])
-    (cased (is_local x) (place_letter o place))
+    (cased (is_local x) letter)
+
+unfoldable pub symbol_letter : Object → Sym → Option SymPlace → ℕ
+symbol_letter o x place = letter_by x place (place_letter o place)
+
+-- ---- What the rows want of an object besides its symbols
+
+-- it has this class, and its sections have these headers
+pub record HasHeaders (o : Object) (c : Class) (listed : List Shdr) : Type 0 where
+  pub class : o.header.class ≡ c
+  pub headers : map (λ s. s.header) o.sections ≡ listed

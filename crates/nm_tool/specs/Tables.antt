@@ -1,7 +1,9 @@
 -- The tables of the symbols of a section, and the bytes of those of which each symbol can be told
 -- from bytes alone.
-use Rattle.std.specs.Prelude.{◌≡◌, ℕ, None}
+use Rattle.std.specs.Prelude.{◌≡◌, ℕ, Some, None}
+use Rattle.std.specs.List.{position}
 use Rattle.elf_types.specs.declared.records.Kind.TheVariants as kinds
+use Rattle.elf_ident.specs.declared.fronts.Front.{Front}
 use Rattle.elf_object.specs.Object.{Object, section_at}
 use Rattle.elf_object.specs.Answers.{lend_refusal, syms_of}
 use Rattle.elf_object.specs.SymbolSections.{shndx_table}
@@ -10,6 +12,8 @@ use Rattle.gelf_view.specs.Calls.{IsTable}
 use Rattle.bytes_at_hand.specs.declared.items.ItemBytes.{ItemBytes}
 use Rattle.bytes_at_hand.specs.Items.{AreItems, held_items}
 use Rattle.bytes_at_hand.specs.Strings.{HoldsStrings}
+use Rattle.front_symbols.specs.declared.tables.PlainTable.{PlainTable}
+use Rattle.front_symbols.specs.Tables.{is_symbols}
 use Rattle.nm_tool.specs.declared.symbols.Tables.{Tables}
 use Rattle.nm_tool.specs.declared.symbols.TableBytes.{TableBytes}
 use Rattle.nm_tool.specs.Listed.{symbols}
@@ -36,3 +40,14 @@ pub record HoldsSymbols {S : Type 0} (state : State S) (t : Tables) (b : ItemByt
 pub record HoldsTable {S : Type 0} (state : State S) (t : Tables) (b : TableBytes) : Type 0 where
   pub table : HoldsSymbols state t b.symbols
   pub names : HoldsStrings state t.names.0 b.strings.now
+
+-- ---- Without a descriptor
+
+-- a table is the first one by the headers of a front
+abbrev pub AreFirst : Front → PlainTable → Type 0
+AreFirst f t = position is_symbols f.shdrs ≡ Some t.section
+
+-- bytes have the class and the byte order of a front
+pub record AreOfFront (f : Front) (b : ItemBytes) : Type 0 where
+  pub class : b.class ≡ f.ehdr.class
+  pub order : b.order ≡ f.ehdr.order

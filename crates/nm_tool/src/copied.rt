@@ -33,7 +33,7 @@ fn show_placed<S: Source, O: Sink, E: Sink>(
         result elf.old elf.new outputs.old outputs.new }
 {
     match place_at(elf, t, row.index, symbol) {
-        Ok(place) => show_symbol(elf, form, symbol, place, row.name, outputs),
+        Ok(place) => show_symbol(&*elf, form, symbol, place, row.name, outputs),
         Err(stop) => Err(stop),
     }
 }

@@ -1,14 +1,17 @@
 //! What a row shows besides its symbol, and the row of a symbol whose place and name are known.
 
+ghost use Rattle.elf_object.specs.Object.{Object};
 ghost use Rattle.tool_output.specs.Reports.{Reports, shown};
 ghost use Rattle.tool_output.specs.Steps.{LeavesOutputs};
+ghost use Rattle.nm_tool.specs.Letters.{HasHeaders};
+ghost use Rattle.nm_tool.specs.Rows.{row_text};
 ghost use Rattle.nm_tool.specs.Tool.{placed_row};
 
+use crate::headers::ObjectHeaders;
 use crate::letters::{is_undefined, symbol_letter};
 use crate::rows::SymbolRow;
-use elf_descriptor::Elf;
-use elf_outside::{Sink, Source};
-use elf_types::Sym;
+use elf_outside::Sink;
+use elf_types::{Class, Sym};
 use gelf_view::SymPlace;
 use tool_output::{FileName, Outputs, Stop};
 use tool_text::NmOptions;
@@ -22,28 +25,48 @@ pub struct Form<'a> {
     pub file: &'a FileName<'a>,
 }
 
-/// Shows the row of a symbol whose place is known.
-#[tactic(auto, unfolding(crate::specs::Tool::placed_row, elf_object::specs::Object::header_of))]
-pub fn show_symbol<S: Source, O: Sink, E: Sink>(
-    elf: &Elf<S>,
+/// Shows the row of a symbol whose letter is known.
+pub fn show_lettered<O: Sink, E: Sink>(
+    form: Form<'_>,
+    class: Class,
+    undefined: bool,
+    symbol: Sym,
+    letter: u8,
+    name: &[u8],
+    outputs: &mut Outputs<'_, O, E>,
+) -> Result<bool, Stop>
+    ensures reports { Reports O.Sink E.Sink result outputs.old outputs.new
+        (shown (row_text form.entry.options.now class form.entry.file.now undefined symbol letter
+        name.now)) }
+    ensures leaves { LeavesOutputs O.Sink E.Sink ⊥ result outputs.old outputs.new }
+{
+    outputs.show(&SymbolRow {
+        options: form.options,
+        class,
+        file: form.file,
+        undefined,
+        symbol,
+        letter,
+        name,
+    })
+}
+
+/// Shows the row of a symbol whose place is known, of an object that has these headers.
+pub fn show_symbol<H: ObjectHeaders, O: Sink, E: Sink>(
+    headers: &H,
     form: Form<'_>,
     symbol: Sym,
     place: Option<SymPlace>,
     name: &[u8],
     outputs: &mut Outputs<'_, O, E>,
 ) -> Result<bool, Stop>
-    ensures reports { Reports O.Sink E.Sink result outputs.old outputs.new
-        (shown (placed_row form.entry.options.now form.entry.file.now elf.now.o symbol place
-        name.now)) }
+    ensures reports { (o : Object) → HasHeaders o (H.class headers.now) (H.headers headers.now)
+        → Reports O.Sink E.Sink result outputs.old outputs.new
+        (shown (placed_row form.entry.options.now form.entry.file.now o symbol place name.now)) }
     ensures leaves { LeavesOutputs O.Sink E.Sink ⊥ result outputs.old outputs.new }
 {
-    outputs.show(&SymbolRow {
-        options: form.options,
-        class: elf.ehdr().class,
-        file: form.file,
-        undefined: is_undefined(place),
-        symbol,
-        letter: symbol_letter(elf, &symbol, place),
-        name,
-    })
+    let class = headers.class();
+    let undefined = is_undefined(place);
+    let letter = symbol_letter(headers, &symbol, place);
+    show_lettered(form, class, undefined, symbol, letter, name, outputs)
 }

@@ -167,7 +167,7 @@ fn kept_in(
 }
 
 /// The same; it stops where there is no memory.
-fn kept_at_hand(
+pub fn kept_at_hand(
     alloc: Global,
     symbols: ItemBytes<'_>,
     options: &NmOptions,

@@ -1,16 +1,15 @@
 //! The letter of a symbol. Nothing here takes memory.
 
 ghost use Rattle.std.specs.Prelude.{◌≡◌, ◌<◌, Some};
-ghost use Rattle.elf_object.specs.Object.{section_at};
-ghost use Rattle.nm_tool.specs.Letters.{is_undefined, section_letter, special_letter, place_letter, cased, symbol_letter};
+ghost use Rattle.elf_object.specs.Object.{Object};
+ghost use Rattle.nm_tool.specs.Letters.{is_undefined, section_letter, special_letter, place_letter, cased, letter_by, symbol_letter, HasHeaders};
 
-use elf_descriptor::Elf;
-use elf_outside::Source;
+use crate::headers::ObjectHeaders;
 use elf_types::constants::{
     SHF_ALLOC, SHF_EXECINSTR, SHF_WRITE, SHN_ABS, SHN_COMMON, SHN_UNDEF, SHT_NOBITS,
     STB_GNU_UNIQUE, STB_WEAK, STT_GNU_IFUNC, STT_OBJECT,
 };
-use elf_types::{ScnId, Shdr, Sym, has_bind, has_flag, has_type, is_local};
+use elf_types::{Shdr, Sym, has_bind, has_flag, has_type, is_local};
 use gelf_view::SymPlace;
 
 /// Whether a symbol whose place this is is undefined.
@@ -62,27 +61,28 @@ fn special_letter(n: u32) -> u8
 }
 
 /// The letter of a section by its number, or a question mark where there is none.
-#[tactic(auto, unfolding(crate::specs::Letters::place_letter, elf_object::specs::Calls::shdr_answer))]
-fn numbered_letter<S: Source>(elf: &Elf<S>, n: u32) -> u8
-    ensures letter { result ≡ place_letter elf.now.o (Some (SymPlace.Section n)) }
+fn numbered_letter<H: ObjectHeaders>(headers: &H, n: u32) -> u8
+    ensures letter { (o : Object) → HasHeaders o (H.class headers.now) (H.headers headers.now)
+        → result ≡ place_letter o (Some (SymPlace.Section n)) }
     ensures small { result < 128 }
 {
-    match elf.shdr(ScnId(n)) {
-        Ok(header) => section_letter(&header),
-        Err(_) => b'?',
+    match headers.header(n) {
+        Some(header) => section_letter(&header),
+        None => b'?',
     }
 }
 
 /// The letter of the place of a symbol.
 #[tactic(auto, unfolding(crate::specs::Letters::place_letter))]
-fn place_letter<S: Source>(elf: &Elf<S>, place: Option<SymPlace>) -> u8
-    ensures letter { result ≡ place_letter elf.now.o place }
+fn place_letter<H: ObjectHeaders>(headers: &H, place: Option<SymPlace>) -> u8
+    ensures letter { (o : Object) → HasHeaders o (H.class headers.now) (H.headers headers.now)
+        → result ≡ place_letter o place }
     ensures small { result < 128 }
 {
     match place {
         None => b'?',
         Some(SymPlace::Special(n)) => special_letter(u32::from(n)),
-        Some(SymPlace::Section(n)) => numbered_letter(elf, n),
+        Some(SymPlace::Section(n)) => numbered_letter(headers, n),
     }
 }
 
@@ -99,10 +99,12 @@ fn cased(local: bool, letter: u8) -> u8
     }
 }
 
-/// The letter of a symbol whose place this is: the first of its tests that holds tells it.
-#[tactic(auto, unfolding(crate::specs::Letters::symbol_letter))]
-pub fn symbol_letter<S: Source>(elf: &Elf<S>, x: &Sym, place: Option<SymPlace>) -> u8
-    ensures { result ≡ symbol_letter elf.now.o x.now place }
+/// The letter of a symbol whose place this is, and of its place: the first of its tests that holds
+/// tells it.
+#[tactic(auto, unfolding(crate::specs::Letters::letter_by))]
+fn letter_by(x: &Sym, place: Option<SymPlace>, letter: u8) -> u8
+    requires { letter < 128 }
+    ensures { result ≡ letter_by x.now place letter }
 {
     let undefined = is_undefined(place);
     let weak = has_bind(x, STB_WEAK);
@@ -128,5 +130,14 @@ pub fn symbol_letter<S: Source>(elf: &Elf<S>, x: &Sym, place: Option<SymPlace>) 
     if weak {
         return b'W';
     }
-    cased(is_local(x), place_letter(elf, place))
+    cased(is_local(x), letter)
+}
+
+/// The letter of a symbol whose place this is, of an object that has these headers.
+pub fn symbol_letter<H: ObjectHeaders>(headers: &H, x: &Sym, place: Option<SymPlace>) -> u8
+    ensures { (o : Object) → HasHeaders o (H.class headers.now) (H.headers headers.now)
+        → result ≡ symbol_letter o x.now place }
+{
+    let letter = place_letter(headers, place);
+    letter_by(x, place, letter)
 }

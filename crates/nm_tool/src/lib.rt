@@ -4,6 +4,8 @@
 mod at_hand;
 mod copied;
 mod form;
+mod front;
+mod headers;
 mod kept;
 mod laws;
 mod letters;

@@ -1,64 +1,27 @@
 //! The rows of symbols whose order is known: each name is read where it stands, and none is copied.
 
 ghost use Rattle.std.specs.Prelude.{◌≡◌, IfSome, IsTrue};
-ghost use Rattle.std.specs.Option.{option_copied};
 ghost use Rattle.elf_object.specs.Strings as strings;
-ghost use Rattle.tool_output.specs.Reports.{Reports, shown, reports_of};
-ghost use Rattle.tool_output.specs.Steps.{LeavesOutputs};
+ghost use Rattle.tool_output.specs.Reports.{shown, reports_of};
 ghost use Rattle.object_output.specs.Steps.{ReportsElf};
 ghost use Rattle.bytes_at_hand.specs.Strings.{EndsAt};
 ghost use Rattle.nm_tool.specs.Tables.{AreTables};
 ghost use Rattle.nm_tool.specs.Listed.{name_or_none};
-ghost use Rattle.nm_tool.specs.Rows.{row_text};
 ghost use Rattle.nm_tool.specs.Tool.{placed_row};
 ghost use Rattle.nm_tool.specs.Kept.{index_report, kept_report, shown_row};
 
-use crate::form::{Form, show_symbol};
+use crate::form::{Form, show_lettered, show_symbol};
+use crate::headers::ObjectHeaders;
 use crate::kept::{Kept, name_or_none};
 use crate::letters::{is_undefined, symbol_letter};
-use crate::rows::SymbolRow;
 use crate::symbols::{Tables, place_at, symbol_at};
 use bytes_at_hand::is_past;
 use elf_descriptor::Elf;
 use elf_outside::{Sink, Source};
-use elf_types::{Class, ScnId, Sym};
+use elf_types::{ScnId, Sym};
 use gelf_view::SymPlace;
 use object_output::string_at;
 use tool_output::{Outputs, Stop};
-
-/// Shows the row of a symbol whose letter and name are known.
-fn show_lettered<O: Sink, E: Sink>(
-    form: Form<'_>,
-    class: Class,
-    undefined: bool,
-    symbol: Sym,
-    letter: u8,
-    name: Option<&[u8]>,
-    outputs: &mut Outputs<'_, O, E>,
-) -> Result<bool, Stop>
-    ensures reports { Reports O.Sink E.Sink result outputs.old outputs.new
-        (shown (row_text form.entry.options.now class form.entry.file.now undefined symbol letter
-        (name_or_none (option_copied name.entry)))) }
-    ensures leaves { LeavesOutputs O.Sink E.Sink ⊥ result outputs.old outputs.new }
-{
-    outputs.show(&SymbolRow {
-        options: form.options,
-        class,
-        file: form.file,
-        undefined,
-        symbol,
-        letter,
-        name: name_or_none(name),
-    })
-}
-
-/// The class of an object.
-#[tactic(auto, unfolding(elf_object::specs::Object::header_of))]
-fn class_of<S: Source>(elf: &Elf<S>) -> Class
-    ensures { result ≡ elf.now.o.header.class }
-{
-    elf.ehdr().class
-}
 
 /// Shows the row of a symbol whose place is known, and whose name stands in a section, whose
 /// strings end there where that is known.
@@ -79,13 +42,16 @@ fn show_named<S: Source, O: Sink, E: Sink>(
 {
     let at = u64::from(symbol.name);
     if is_past(end, at) {
-        return show_symbol(elf, form, symbol, place, b"<none>", outputs);
+        return show_symbol(&*elf, form, symbol, place, b"<none>", outputs);
     }
-    let class = class_of(elf);
+    let class = elf.class();
     let undefined = is_undefined(place);
-    let letter = symbol_letter(elf, &symbol, place);
+    let letter = symbol_letter(&*elf, &symbol, place);
     match string_at(elf, names, at) {
-        Ok(name) => show_lettered(form, class, undefined, symbol, letter, name, outputs),
+        Ok(name) => {
+            let shown = name_or_none(name);
+            show_lettered(form, class, undefined, symbol, letter, shown, outputs)
+        }
         Err(stop) => Err(stop),
     }
 }

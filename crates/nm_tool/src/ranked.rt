@@ -7,6 +7,7 @@
 ghost use Rattle.std.specs.Prelude.{◌≡◌, ◌+◌, ◌<◌, ◌≤◌, ◌^◌, ◌%◌, ◌==◌, ◌||◌, ℕ, List, All, true, false, drop, filter, get_or, length, map, nat_lt, slice_index_or, take, IfSome, IsTrue};
 ghost use Rattle.std.specs.Int.{from_be_bytes, w64};
 ghost use Rattle.std.specs.Ordering.{ordering_then, nat_cmp};
+ghost use Rattle.std.specs.List.{list_all};
 ghost use Rattle.std.specs.List.Sorted.{IsNonDecreasingBy};
 ghost use Rattle.std.specs.Cmp.Lexicographic.{slice_cmp};
 ghost use Rattle.elf_types.specs.Lists.{AreBytes};
@@ -272,6 +273,21 @@ fn are_compared(count: usize, key: u64) -> bool
 /// are compared.
 const LEVELS: u32 = 16;
 
+/// Whether the names of symbols stand at one place.
+fn are_at(rows: &[Kept], place: u32) -> bool
+    ensures { result ≡ list_all (λ k. k.name == place) rows.now }
+{
+    rows.iter().all(|k| k.name == place)
+}
+
+/// Whether all names stand at one place: then none of them needs to be looked at.
+fn stand_together(rows: &[Kept]) -> bool {
+    match rows.first() {
+        Some(k) => are_at(rows, k.name),
+        None => true,
+    }
+}
+
 /// Puts symbols in the order of their rows by name: by keys, and those of one key in the same way,
 /// at most so many levels deep.
 fn sort_named(strings: &[u8], rows: &mut [Kept], levels: u32)
@@ -280,6 +296,10 @@ fn sort_named(strings: &[u8], rows: &mut [Kept], levels: u32)
         ≡ in_order (map (ranked_entry false (shown_in strings.now)) rows.old) }
 {
     if levels == 0 {
+        sort_by_names(strings, rows);
+        return;
+    }
+    if stand_together(rows) {
         sort_by_names(strings, rows);
         return;
     }

@@ -1,13 +1,20 @@
 //! The tool of the command nm.
 
-ghost use Rattle.std.specs.Prelude.{◌≡◌, ◌-◌, ◌<◌, None, length, IfSome, IsTrue, codes};
+ghost use Rattle.std.specs.Prelude.{◌≡◌, ◌+◌, ◌-◌, ◌<◌, ◌≤◌, None, Ok, length, IfSome, OnOk, IsTrue, codes};
 ghost use Rattle.std.specs.Option.{option_map};
 ghost use Rattle.elf_types.specs.declared.records.Kind.TheVariants as kinds;
+ghost use Rattle.elf_types.specs.declared.constants.TheConstants.{MAX_IMAGE};
+ghost use Rattle.elf_ident.specs.Reading.{IsFittingFront, IsCounted};
 ghost use Rattle.elf_object.specs.Object.{section_at};
+ghost use Rattle.elf_object.specs.Open.{begun, opened};
 ghost use Rattle.elf_object.specs.Answers.{lend_refusal};
 ghost use Rattle.tool_output.specs.Names.{file_name};
+ghost use Rattle.tool_output.specs.Reports.{Reports, noted};
+ghost use Rattle.tool_output.specs.Sources.{ReportsOn};
+ghost use Rattle.tool_output.specs.Steps.{LeavesOutputs};
+ghost use Rattle.object_output.specs.Images.{image_report};
 ghost use Rattle.object_output.specs.Looks.{looks_over};
-ghost use Rattle.object_output.specs.Steps.{ReportsElf};
+ghost use Rattle.object_output.specs.Steps.{ReportsElf, homes_total};
 ghost use Rattle.bytes_at_hand.specs.Strings.{EndsAt};
 ghost use Rattle.object_output.specs.Shows.{ShowsElf};
 ghost use Rattle.nm_tool.specs.Tables.{AreTables};
@@ -18,17 +25,20 @@ ghost use Rattle.nm_tool.specs.Kept.{kept_of as stated_kept};
 use crate::at_hand::show_at_hand;
 use crate::copied::show_copied;
 use crate::form::Form;
+use crate::front::show_plain;
 use crate::kept::{Kept, kept_of};
 use crate::ordered::show_order;
 use crate::ranked::order_at_hand;
 use crate::symbols::{Tables, table_bytes, tables_of};
 use bytes_at_hand::{load, strings_end};
 use elf_descriptor::Elf;
+use elf_ident::{Front, read_front};
 use elf_outside::{Sink, Source};
 use elf_types::constants::SHT_SYMTAB;
 use elf_types::{DataId, List, ScnId, Sym, is_compressed};
+use front_symbols::{FrontSymbols, front_symbols};
 use gelf_view::item_count;
-use object_output::{ObjectTool, section_header, show_object};
+use object_output::{ObjectTool, refuse, section_header, show_object};
 use std::alloc::Global;
 use tool_output::{FileName, Message, Outputs, Stop};
 use tool_text::NmOptions;
@@ -105,7 +115,7 @@ fn show_loaded<S: Source, O: Sink, E: Sink>(
         result elf.old elf.new outputs.old outputs.new }
 {
     match table_bytes(elf, t) {
-        Some(bytes) => show_at_hand(elf, t, bytes, list, form, outputs),
+        Some(bytes) => show_at_hand(&*elf, bytes, list, form, outputs),
         None => show_by_calls(elf, t, list, count, form, outputs),
     }
 }
@@ -228,6 +238,22 @@ fn symbol_table<S: Source>(elf: &Elf<S>) -> Option<ScnId>
     None
 }
 
+/// Says that an object has no symbols, which refuses nothing.
+fn note_none<O: Sink, E: Sink>(
+    form: Form<'_>,
+    outputs: &mut Outputs<'_, O, E>,
+) -> Result<bool, Stop>
+    ensures reports { Reports O.Sink E.Sink result outputs.old outputs.new
+        (noted (codes "nm") form.entry.file.now (codes "no symbols")) }
+    ensures leaves { LeavesOutputs O.Sink E.Sink ⊥ result outputs.old outputs.new }
+{
+    outputs.note(&Message {
+        command: "nm",
+        name: form.file,
+        text: "no symbols",
+    })
+}
+
 /// Shows the symbols of an object, or says that it has none, which refuses nothing.
 fn show_symbols<S: Source, O: Sink, E: Sink>(
     elf: &mut Elf<S>,
@@ -240,19 +266,111 @@ fn show_symbols<S: Source, O: Sink, E: Sink>(
 {
     match symbol_table(elf) {
         Some(s) => show_table(elf, s, form, outputs),
-        None => outputs.note(&Message {
-            command: "nm",
-            name: form.file,
-            text: "no symbols",
-        }),
+        None => note_none(form, outputs),
     }
 }
 
-/// The tool of the command nm.
+/// Shows the symbols of the image that a source holds, over which a descriptor begins with its
+/// front, and hands the source back.
+fn show_begun<S: Source, O: Sink, E: Sink>(
+    alloc: Global,
+    src: S,
+    front: Front,
+    form: Form<'_>,
+    outputs: &mut Outputs<'_, O, E>,
+) -> (S, Result<bool, Stop>)
+    requires fitting { IsFittingFront front }
+    requires counted { IsCounted front }
+    requires small { S.size src ≤ MAX_IMAGE }
+    requires told { IfSome (S.holds src) (λ image. opened image ≡ Ok (begun front image)) }
+    ensures reports { ReportsOn S.Source O.Sink E.Sink
+        (image_report (codes "nm") (nm_report form.entry.options.now) form.entry.file.now)
+        result.1 src result.0 outputs.old outputs.new }
+    ensures asked { OnOk result.1 (IfSome (S.holds src) (λ image.
+        S.taken result.0 ≤ S.taken src + homes_total (begun front image))) }
+{
+    match Elf::begin_with(alloc, src, front) {
+        Ok(mut elf) => {
+            let shown = show_symbols(&mut elf, form, outputs);
+            (elf.end(), shown)
+        }
+        Err((src, e)) => {
+            let refused = refuse("nm", form.file, e, outputs);
+            (src, refused)
+        }
+    }
+}
+
+/// Shows the symbols of the image that a source holds and whose front was read, and hands the
+/// source back. A descriptor is begun only where the front does not tell where they and their names
+/// stand.
+fn show_front<S: Source, O: Sink, E: Sink>(
+    alloc: Global,
+    mut src: S,
+    front: Front,
+    form: Form<'_>,
+    outputs: &mut Outputs<'_, O, E>,
+) -> (S, Result<bool, Stop>)
+    requires fitting { IsFittingFront front }
+    requires counted { IsCounted front }
+    requires small { S.size src ≤ MAX_IMAGE }
+    requires told { IfSome (S.holds src) (λ image. opened image ≡ Ok (begun front image)) }
+    ensures reports { ReportsOn S.Source O.Sink E.Sink
+        (image_report (codes "nm") (nm_report form.entry.options.now) form.entry.file.now)
+        result.1 src result.0 outputs.old outputs.new }
+    ensures asked { OnOk result.1 (IfSome (S.holds src) (λ image.
+        S.taken result.0 ≤ S.taken src + homes_total (begun front image))) }
+{
+    match front_symbols(&front, src.len()) {
+        FrontSymbols::Missing => {
+            let noted = note_none(form, outputs);
+            (src, noted)
+        }
+        FrontSymbols::Plain(table) => {
+            let shown = show_plain(alloc, &mut src, &front, table, form, outputs);
+            (src, shown)
+        }
+        FrontSymbols::Other => show_begun(alloc, src, front, form, outputs),
+    }
+}
+
+/// The tool of the command nm. Of an image whose symbols and their names can be told from two
+/// ranges of its bytes it begins no descriptor.
 #[derive(Clone, Copy)]
 pub struct NmTool<'a> {
     /// The options.
     pub options: &'a NmOptions,
+}
+
+impl NmTool<'_> {
+    /// Gives the report on the image that a source holds and whose front was read by `read_front`
+    /// of elf_ident, under a name, and hands the source back. Of each home that lies in the file no
+    /// more than its bytes are asked for. It stops by `Read` where a read of the source failed, by
+    /// `Write` where a put failed, and by `Memory`.
+    pub fn show_front<S: Source, O: Sink, E: Sink>(
+        &self,
+        alloc: Global,
+        src: S,
+        front: Front,
+        name: &FileName<'_>,
+        outputs: &mut Outputs<'_, O, E>,
+    ) -> (S, Result<bool, Stop>)
+        requires fitting { IsFittingFront front }
+        requires counted { IsCounted front }
+        requires small { S.size src ≤ MAX_IMAGE }
+        requires told { IfSome (S.holds src) (λ image. opened image ≡ Ok (begun front image)) }
+        ensures reports { ReportsOn S.Source O.Sink E.Sink
+            (image_report (codes "nm") (nm_report self.now.options.now) name.now)
+            result.1 src result.0 outputs.old outputs.new }
+        ensures asked { OnOk result.1 (IfSome (S.holds src) (λ image.
+            S.taken result.0 ≤ S.taken src + homes_total (begun front image))) }
+    {
+        let form = Form {
+            options: self.options,
+            file: name,
+        };
+        show_front(alloc, src, front, form, outputs)
+    }
 }
 
 impl ObjectTool for NmTool<'_> {
@@ -277,6 +395,23 @@ impl ObjectTool for NmTool<'_> {
             file: name,
         };
         show_symbols(elf, form, outputs)
+    }
+
+    /// The same report as of a descriptor over the source, which is begun only where it is needed.
+    fn show_source<S: Source, O: Sink, E: Sink>(
+        &self,
+        alloc: Global,
+        mut src: S,
+        name: &FileName<'_>,
+        outputs: &mut Outputs<'_, O, E>,
+    ) -> (S, Result<bool, Stop>) {
+        match read_front(alloc, &mut src) {
+            Ok(front) => self.show_front(alloc, src, front, name, outputs),
+            Err(e) => {
+                let refused = refuse(self.command(), name, e, outputs);
+                (src, refused)
+            }
+        }
     }
 }
 

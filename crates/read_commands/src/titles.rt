@@ -68,7 +68,7 @@ impl Line for NameTitle<'_> {
 
 /// Shows the title of an image, where it has one.
 #[tactic(auto, unfolding(crate::specs::Titles::title_report))]
-fn show_title<O: Sink, E: Sink>(
+pub fn show_title<O: Sink, E: Sink>(
     title: Title,
     name: &FileName<'_>,
     outputs: &mut Outputs<'_, O, E>,

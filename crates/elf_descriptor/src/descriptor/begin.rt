@@ -32,9 +32,12 @@ fn begun_is_sound()
 impl<S: Source> Elf<S> {
     ghost use Rattle.elf_descriptor.specs.Begun.{IsBegun, begun_answer, begun_state, source_after};
 
-    /// The descriptor over a source that a front begins. It refuses `Memory` alone, and then hands
-    /// the source back.
-    fn over(alloc: Global, src: S, front: Front) -> Result<Elf<S>, (S, ElfError)>
+    /// Begins over a source whose front was read by `read_front` of elf_ident: nothing is read.
+    /// Where the source does not tell its bytes, they count as zeros in the object that contracts
+    /// speak of. It refuses `Memory` alone, and then hands the source back.
+    ///
+    /// Source: elf_begin of elf(3E).
+    pub fn begin_with(alloc: Global, src: S, front: Front) -> Result<Elf<S>, (S, ElfError)>
         requires fitting { IsFittingFront front }
         requires counted { IsCounted front }
         requires small { S.size src ≤ MAX_IMAGE }
@@ -73,7 +76,7 @@ impl<S: Source> Elf<S> {
         ensures err { IfErr result (λ back. IsFrontRefusal (S.size src) back.1) }
     {
         match read_front(alloc, &mut src) {
-            Ok(front) => Elf::over(alloc, src, front),
+            Ok(front) => Elf::begin_with(alloc, src, front),
             Err(refusal) => Err((src, refusal)),
         }
     }

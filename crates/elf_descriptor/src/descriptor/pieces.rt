@@ -15,9 +15,9 @@ use elf_types::ScnId;
 use section_data::FirstPieces;
 
 impl<S: Source> Elf<S> {
-    /// Notes where the pieces of a section that hold bytes end, so that `first_pieces` tells of
-    /// them. It changes no answer but that one. It refuses nothing: where there is no such section
-    /// it notes nothing, and where there is no memory it notes less.
+    /// Notes where the pieces of a section that hold bytes end, so that `first_pieces` finds them
+    /// in few steps. It changes no answer. It refuses nothing: where there is no such section it
+    /// notes nothing, and where there is no memory it notes less.
     #[inline(always)]
     pub fn note_pieces(&mut self, s: ScnId)
         ensures { self.new ≡ self.old }
@@ -25,8 +25,9 @@ impl<S: Source> Elf<S> {
         self.body.note_pieces(s.0);
     }
 
-    /// The first pieces of a section that is there, each of which holds bytes, as far as it is
-    /// noted where they end and the last of them ends at a limit at the latest. It takes no memory.
+    /// The first pieces of a section that is there, each of which holds bytes, as far as the last
+    /// of them ends at a limit at the latest. It takes few steps where it is noted where they end,
+    /// and no memory.
     ///
     /// Source: gABI chapter 4, "Sections", and elf_newdata of elf(3E).
     #[inline(always)]

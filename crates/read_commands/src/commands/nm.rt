@@ -7,7 +7,8 @@ ghost use Rattle.tool_output.specs.Outcomes.{Does};
 ghost use Rattle.read_commands.specs.Nm.{nm_outcome};
 
 use crate::objects::each_object;
-use crate::titles::{Title, Titled};
+use crate::titled_nm::TitledNm;
+use crate::titles::Title;
 use elf_outside::{Files, Sink};
 use nm_tool::NmTool;
 use std::alloc::Global;
@@ -34,11 +35,11 @@ pub fn nm<F: Files, O: Sink, E: Sink>(
 {
     let tool = &NmTool { options };
     let titled = !options.name_each;
-    let of_file = Titled {
+    let of_file = TitledNm {
         tool,
         title: Title::Name.under(titled && names.len() > 1),
     };
-    let of_member = Titled {
+    let of_member = TitledNm {
         tool,
         title: Title::Name.under(titled),
     };

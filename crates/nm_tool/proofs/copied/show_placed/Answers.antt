@@ -1,3 +1,4 @@
+use Rattle.std.proofs.Common.{refl}
 use Rattle.tool_output.specs.Reports.{shown}
 use Rattle.object_output.proofs.ElfSteps.{elf_left, elf_says, elf_learns, elf_learns_none}
 use Rattle.object_output.specs.Symbols.{symbol_place}
@@ -13,7 +14,8 @@ returns-in-Ok g c =
     elf_learns g.S.Source g.O.Sink g.E.Sink (λ o. symbol_place o c.args.t.symbols.0 row.index x) c.args.elf.now _ c.in-Ok.place
     (λ place o. shown (placed_row f.options.now f.file.now o x place row.name.now)) _ _ c.args.outputs.now _ c.in-Ok.ensures
     (elf_says g.S.Source g.O.Sink g.E.Sink (λ o. shown (placed_row f.options.now f.file.now o x c.in-Ok.place row.name.now)) _ _ _ c.args.outputs.now _ (elf_left g.S.Source _)
-    (λ told. c.show_symbol.ensures.reports) c.show_symbol.ensures.leaves)
+    (λ told. c.show_symbol.ensures.reports c.place_at.new.elf.o
+    (record { class = refl; headers = refl })) c.show_symbol.ensures.leaves)
 
 pub returns-in-Err : goal.returns-in-Err
 returns-in-Err g c =

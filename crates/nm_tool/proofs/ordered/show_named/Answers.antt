@@ -1,4 +1,4 @@
-use Rattle.std.proofs.Common.{ℕ, List, Option, sym, ap, ◌∙◌, subst}
+use Rattle.std.proofs.Common.{ℕ, List, Option, refl, sym, ap, ◌∙◌, subst}
 use Rattle.elf_object.specs.Strings as strings
 use Rattle.tool_output.specs.Reports.{Reports, shown}
 use Rattle.object_output.proofs.ElfSteps.{elf_left, elf_says, elf_unread}
@@ -19,7 +19,8 @@ returns-then-is_past g c =
     c.args.elf.now _ c.args.outputs.now _ (elf_left g.S.Source c.args.elf.now)
     (λ told. rw (unreadable_past c.args.elf.now.o c.args.names.0 c.args.end c.from-at.result x.name
     c.from-at.ensures (c.requires told) (sym c.is_past.ensures ∙ c.if-is_past.true))
-    c.show_symbol.ensures.reports) c.show_symbol.ensures.leaves
+    (c.show_symbol.ensures.reports c.args.elf.now.o (record { class = refl; headers = refl })))
+    c.show_symbol.ensures.leaves
 
 pub returns-in-Ok : goal.returns-in-Ok
 returns-in-Ok g c =
@@ -37,9 +38,11 @@ returns-in-Ok g c =
     (elf_read g.S.Source _ _ c.args.elf.now _ c.in-Ok.is c.string_at.follows.holds-at-none)
     (λ told. subst (λ (text : List ℕ). Reports g.O.Sink g.E.Sink c.show_lettered.result
     c.args.outputs.now c.show_lettered.new.outputs (shown text))
-    (row_placed f.options.now f.file.now o x c.args.place c.class_of-class.result
-    c.is_undefined-undefined.result c.symbol_letter-letter.result _ c.class_of-class.ensures
-    c.is_undefined-undefined.ensures c.symbol_letter-letter.ensures
+    (row_placed f.options.now f.file.now o x c.args.place c.class-class.result
+    c.is_undefined-undefined.result c.symbol_letter-letter.result _ c.class-class.ensures
+    c.is_undefined-undefined.ensures
+    (c.symbol_letter-letter.ensures o (record { class = refl; headers = refl }))
+    ∙ ap (placed_row f.options.now f.file.now o x c.args.place) c.name_or_none-shown.ensures
     ∙ ap row (c.in-Ok.ensures.value told
     ∙ ap (λ (k : ℕ). strings.readable (strings.string_answer o names k)) c.from-at.ensures))
     c.show_lettered.ensures.reports) c.show_lettered.ensures.leaves

@@ -1,9 +1,13 @@
-use Rattle.std.proofs.Common.{sym, subst}
+use Rattle.std.proofs.Common.{refl, sym, subst}
 use Rattle.tool_output.specs.Reports.{Report, Reports}
 use Rattle.object_output.proofs.ElfSteps.{elf_left, elf_says}
 use Rattle.nm_tool.specs.Tool.{rows_report}
-use Rattle.nm_tool.proofs.KeptLemmas.{kept_rows}
+use Rattle.nm_tool.proofs.KeptLemmas.{kept_rows, names_held}
+use Rattle.nm_tool.proofs.PlaceLemmas.{plain_told}
 use Rattle.nm_tool.proofs.tool.show_loaded.Goals as goal
+
+pub show_at_hand-requires : goal.show_at_hand-requires
+show_at_hand-requires g c = c.in-Some.ensures.table.items.whole
 
 pub returns-in-Some : goal.returns-in-Some
 returns-in-Some g c =
@@ -15,4 +19,10 @@ returns-in-Some g c =
     c.args.outputs.now c.show_at_hand.new.outputs r)
     (sym (kept_rows f.options.now f.file.now c.args.elf.now.o s c.args.count c.args.list
     c.requires.count (c.requires.list told)))
-    (c.show_at_hand.ensures.reports told)) c.show_at_hand.ensures.leaves
+    (c.show_at_hand.ensures.reports c.args.elf.now.o s (record {
+      headers = record { class = refl; headers = refl };
+      symbols = plain_told c.args.elf.now c.args.t c.in-Some.bytes.symbols c.requires.tables
+          c.in-Some.ensures.table told;
+      names = names_held c.args.elf.now s c.args.t.names.0 c.in-Some.bytes.strings.now
+          c.requires.tables.names c.in-Some.ensures.names told;
+    }))) c.show_at_hand.ensures.leaves

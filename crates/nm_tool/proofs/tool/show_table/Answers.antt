@@ -4,7 +4,8 @@ use Rattle.elf_object.specs.Answers.{count_at, items_at, lend_refusal}
 use Rattle.elf_object.proofs.AnswerLaws.{answered_value, answered_refusal, lend_kind}
 use Rattle.object_output.proofs.ElfSteps.{elf_left, elf_as, elf_says}
 use Rattle.nm_tool.specs.Tool.{rows_report, table_report}
-use Rattle.nm_tool.proofs.ToolLemmas.{table_told, table_refused, syms_counted, count_is}
+use Rattle.front_symbols.proofs.PlainLaws.{syms_counted}
+use Rattle.nm_tool.proofs.ToolLemmas.{table_told, table_refused, count_is}
 use Rattle.nm_tool.proofs.tool.show_table.Goals as goal
 
 pub show_told-requires-clause-passed : goal.show_told-requires-clause-passed
