@@ -1,10 +1,17 @@
 /* The plain loops that bench/translation times crates/translation_bench against. It takes the same words,
    makes the same symbols and prints the same sum. A list is a block that is allocated at its whole size
-   once a round and freed at the round's end, as elfkit's is. */
+   once a round and freed at the round's end, as elfkit's is.
+
+   Compiled with OVER_ZEROS it is a limit: elfkit's list grows by bytes that it is given, and has none that
+   nobody wrote, so so many bytes are made zeros at a time, and symbols are written over them. */
 #include <stdint.h>
 #include <stdio.h>
 #include <stdlib.h>
 #include <string.h>
+
+#ifndef OVER_ZEROS
+#define OVER_ZEROS 0
+#endif
 
 struct symbol {
     uint32_t name;
@@ -105,12 +112,23 @@ static struct symbol *decoded(const uint8_t *bytes)
     return symbols;
 }
 
+static int encode(const struct symbol *in, uint8_t *out, size_t some)
+{
+    return wide ? (big ? encode64_big : encode64_little)(in, out, some)
+                : (big ? encode32_big : encode32_little)(in, out, some);
+}
+
 static uint8_t *encoded(const struct symbol *symbols)
 {
     uint8_t *bytes = allocated(file_size());
-    if (!(wide ? (big ? encode64_big : encode64_little)(symbols, bytes, count)
-               : (big ? encode32_big : encode32_little)(symbols, bytes, count)))
-        exit(1);
+    size_t size = wide ? 24 : 16, most = OVER_ZEROS ? OVER_ZEROS / size : count;
+    for (size_t i = 0; i < count; i += most) {
+        size_t some = count - i < most ? count - i : most;
+        if (OVER_ZEROS)
+            memset(bytes + i * size, 0, some * size);
+        if (!encode(symbols + i, bytes + i * size, some))
+            exit(1);
+    }
     return bytes;
 }
 
@@ -130,7 +148,7 @@ int main(int argc, char **argv)
 {
     if (argc != 6)
         return 2;
-    int encode = !strcmp(argv[1], "encode");
+    int encodes = !strcmp(argv[1], "encode");
     wide = !strcmp(argv[2], "64");
     big = !strcmp(argv[3], "big");
     count = strtoul(argv[4], NULL, 10);
@@ -144,7 +162,7 @@ int main(int argc, char **argv)
     }
     struct symbol *symbols = decoded(bytes);
     uint64_t sum = 0;
-    if (encode) {
+    if (encodes) {
         uint8_t *first = encoded(symbols);
         for (size_t i = 0; i < file_size(); i++)
             sum = with_number(sum, first[i]);
