@@ -1,1 +1,3 @@
-pub mod EntryLaws
+pub mod ChainLaws
+pub mod KeptLaws
+pub mod PlaceLaws

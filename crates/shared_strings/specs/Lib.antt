@@ -1,1 +1,3 @@
-pub mod Entries
+pub mod Hashes
+pub mod Chains
+pub mod Kept

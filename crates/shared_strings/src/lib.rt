@@ -3,6 +3,10 @@
 #![tactic(auto)]
 
 mod entries;
+mod finding;
+mod hashes;
+mod parts;
+mod placing;
 mod strings;
 
 pub use strings::{NOWHERE, SharedStrings};

@@ -1,9 +1,12 @@
-use Rattle.std.proofs.Common.{◌∙◌, subst}
-use Rattle.strtab_build.specs.Names.{IsKept}
-use Rattle.strtab_build.proofs.KeptLemmas.{table_kept}
+use Rattle.std.proofs.Common.{[], ◌++◌, ◌∷◌, ap, sym, ◌∙◌}
+use Rattle.strtab_build.specs.Table.{table}
+use Rattle.strtab_build.proofs.TableLemmas.{table_is}
+use Rattle.shared_strings.specs.Kept.{names_of}
 use Rattle.shared_strings.proofs.strings.SharedStrings.finish.Goals as goal
 
 pub returns-in-Ok-clause-ok : goal.returns-in-Ok-clause-ok
 returns-in-Ok-clause-ok c =
-    let kept = subst (IsKept _ _ _) c.self.view_is c.self.invariant in
-    c.in-Ok.ensures.ok ∙ table_kept _ _ _ _ kept
+    let kept = c.self.invariant in
+    c.in-Ok.ensures.ok ∙ ap (λ l. l ++ 0 ∷ []) kept.bytes_are
+    ∙ sym (table_is (names_of c.self.inside.parts) kept.names_are.once)
+    ∙ ap (λ names. table names) c.self.view_is

@@ -1,0 +1,57 @@
+//! How a name is found in a table in the making.
+
+ghost use Rattle.std.specs.Prelude.{◌≡◌, ◌+◌, ◌≤◌, length, take, drop, MatchOption};
+ghost use Rattle.std.specs.Str.{bytes_eq};
+ghost use Rattle.strtab_build.specs.Names.{IsHeld, IsNew};
+ghost use Rattle.shared_strings.specs.Kept.{names_of, AreKept, IsNoFollower};
+
+use crate::entries::Entry;
+use crate::hashes::{digest_of, hash_of};
+use crate::parts::Parts;
+use shared_bytes::SharedBytes;
+
+/// Whether a name is that of an entry.
+fn is_at(bytes: &SharedBytes, entry: Entry, name: &[u8]) -> bool
+    requires { entry.start + entry.len ≤ length bytes.now }
+    ensures { result ≡ bytes_eq name.now (take entry.len (drop entry.start bytes.now)) }
+{
+    if name.len() as u64 != u64::from(entry.len) {
+        return false;
+    }
+    bytes.has_at(u64::from(entry.start), name)
+}
+
+/// The offset of a name among those that are not the first with their hash.
+fn find_follower(parts: &Parts, name: &[u8]) -> Option<u32>
+    requires { AreKept parts.now }
+    ensures { MatchOption result (IsNoFollower name.now parts.now)
+        (IsHeld name.now (names_of parts.now)) }
+{
+    // The names with this digest, the newest first.
+    let mut next = parts.newest.get(&digest_of(name)).copied();
+    while let Some(index) = next {
+        let entry = parts.entries[index as usize];
+        if is_at(&parts.bytes, entry, name) {
+            return Some(entry.start);
+        }
+        next = entry.older;
+    }
+    None
+}
+
+/// The offset of a name that the table holds, or of the empty one.
+pub(crate) fn find(parts: &Parts, name: &[u8]) -> Option<u32>
+    requires { AreKept parts.now }
+    ensures { MatchOption result (IsNew name.now (names_of parts.now))
+        (IsHeld name.now (names_of parts.now)) }
+{
+    if name.is_empty() {
+        return Some(0);
+    }
+    let first = parts.first.get(&hash_of(name)).copied()?;
+    let entry = parts.entries[first as usize];
+    if is_at(&parts.bytes, entry, name) {
+        return Some(entry.start);
+    }
+    find_follower(parts, name)
+}
