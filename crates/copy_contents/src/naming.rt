@@ -19,13 +19,14 @@ use copy_changes::Changes;
 use copy_edits::{mark_of, new_name};
 use copy_names::{
     Making, Naming, begin_table, changes_names, finish_names, hold_names, place_added, place_found,
-    place_text, push_place,
+    place_text,
 };
 use elf_types::{ElfError, List};
 use gelf_view::string_in;
 use shared_strings::NOWHERE;
 use std::alloc::Global;
 use strip_contents::Arranged;
+use strip_names::push_place;
 
 /// Adds the name at a place of a table that is held to a table in the making, appends its place to
 /// the others, notes it under that place, and answers whether the table is not too large. The text

@@ -9,5 +9,5 @@ mod storing;
 
 pub use building::{begin_table, changes_names, finish_names, place_added, plan_names};
 pub use naming::{Naming, NewNames};
-pub use placing::{Making, hold_names, place_found, place_text, push_place};
+pub use placing::{Making, hold_names, place_found, place_text};
 pub use storing::{place_at, store_names};

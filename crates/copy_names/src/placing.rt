@@ -17,7 +17,7 @@ use elf_outside::Source;
 use elf_types::{ElfError, List, ScnId, Words};
 use gelf_view::section_name;
 use shared_strings::{NOWHERE, SharedStrings};
-use strip_names::{KnownPlaces, name_field};
+use strip_names::{KnownPlaces, name_field, note_place, push_place};
 
 /// A table of names in the making.
 #[derive(Drop)]
@@ -28,18 +28,6 @@ pub struct Making {
     pub places: Words,
     /// The places of names that stand in an older table, by where they stand there.
     pub known: KnownPlaces,
-}
-
-/// Appends a place. It refuses `Memory` alone.
-pub fn push_place(places: &mut Words, place: u32) -> Result<bool, ElfError>
-    ensures pushed { IfOk result (λ fits.
-        (fits ≡ true) × (places.new ≡ places.old ++ place ∷ [])) }
-    ensures err { IfErr result (λ e. e ≡ Memory) }
-{
-    match places.push(place) {
-        Ok(()) => Ok(true),
-        Err(e) => Err(e),
-    }
 }
 
 /// False where an error says that a table is too large, and else the error.
@@ -80,21 +68,6 @@ pub fn place_text(making: &mut Making, name: &[u8], near: u64) -> Result<bool, E
     }
 }
 
-/// Appends a place, and notes it under that at which the name stands in an older table. It refuses
-/// `Memory` alone.
-fn note_place(making: &mut Making, at: u32, place: u32) -> Result<bool, ElfError>
-    ensures strings { making.new.strings ≡ making.old.strings }
-    ensures pushed { IfOk result (λ fits.
-        (fits ≡ true) × (making.new.places ≡ making.old.places ++ place ∷ [])) }
-    ensures noted { OnOk result (KnowsMore making.old.known making.new.known at place) }
-    ensures err { IfErr result (λ e. e ≡ Memory) }
-{
-    match making.known.note(at, place) {
-        Ok(()) => push_place(&mut making.places, place),
-        Err(e) => Err(e),
-    }
-}
-
 /// Adds a name as `place_text` does, and notes its place under that at which it stands in an older
 /// table. It refuses `Memory` alone.
 fn place_noted(making: &mut Making, at: u32, name: &[u8], near: u64) -> Result<bool, ElfError>
@@ -106,7 +79,7 @@ fn place_noted(making: &mut Making, at: u32, name: &[u8], near: u64) -> Result<b
     ensures err { IfErr result (λ e. e ≡ Memory) }
 {
     match making.strings.add(name, near) {
-        Ok(place) => note_place(making, at, place),
+        Ok(place) => note_place(&mut making.places, &mut making.known, at, place),
         Err(e) => false_if_large(e),
     }
 }

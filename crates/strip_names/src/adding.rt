@@ -41,15 +41,3 @@ pub(crate) fn add_name(
         Err(e) => none_if_too_large(e),
     }
 }
-
-/// Appends a place. It refuses `Memory` alone.
-pub(crate) fn push_some(places: &mut Words, place: u32) -> Result<bool, ElfError>
-    ensures pushed { IfOk result (λ fits.
-        (fits ≡ true) × (places.new ≡ places.old ++ place ∷ [])) }
-    ensures err { IfErr result (λ e. e ≡ Memory) }
-{
-    match places.push(place) {
-        Ok(()) => Ok(true),
-        Err(e) => Err(e),
-    }
-}

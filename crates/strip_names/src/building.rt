@@ -10,9 +10,9 @@ ghost use Rattle.strip_names.specs.Known.{known_at, KnowsMore, NotesIf, NotesNam
 ghost use Rattle.strip_names.specs.Names.{AreNamed, AddsSection, HasNames, IsAdded, IsPlaced, IsAddedAt, IsFinished, KnowsNames};
 ghost use Rattle.strip_names.specs.Calls as calls;
 
-use crate::adding::{add_name, push_some};
+use crate::adding::add_name;
 use crate::copying::copy_name;
-use crate::known::{KnownPlaces, name_field};
+use crate::known::{KnownPlaces, name_field, note_place, push_place};
 use elf_descriptor::{Elf, Held};
 use elf_outside::Source;
 use elf_types::{DataId, ElfError, List, Octets, ScnId, Words};
@@ -94,21 +94,8 @@ fn add_copied<S: Source>(
     }
 }
 
-/// Appends the place of a name that was added, and notes it under that at which the name stands in
-/// the old table. It refuses `Memory` alone.
-fn note_place(at: u32, place: u32, making: &mut Making) -> Result<bool, ElfError>
-    ensures strings { making.new.strings ≡ making.old.strings }
-    ensures pushed { IfOk result (IsPlaced making.old.places making.new.places (Some place)) }
-    ensures noted { OnOk result (KnowsMore making.old.known making.new.known at place) }
-    ensures err { IfErr result (λ e. e ≡ Memory) }
-{
-    match making.known.note(at, place) {
-        Ok(()) => push_some(&mut making.places, place),
-        Err(e) => Err(e),
-    }
-}
-
-/// The same, if there is a place, and answers whether there is.
+/// Appends the place of a name that was added, if there is one, notes it under that at which the
+/// name stands in the old table, and answers whether there is. It refuses `Memory` alone.
 fn put_place(at: u32, place: Option<u32>, making: &mut Making) -> Result<bool, ElfError>
     ensures strings { making.new.strings ≡ making.old.strings }
     ensures pushed { IfOk result (IsPlaced making.old.places making.new.places place) }
@@ -116,7 +103,7 @@ fn put_place(at: u32, place: Option<u32>, making: &mut Making) -> Result<bool, E
     ensures err { IfErr result (λ e. e ≡ Memory) }
 {
     match place {
-        Some(place) => note_place(at, place, making),
+        Some(place) => note_place(&mut making.places, &mut making.known, at, place),
         None => Ok(false),
     }
 }
@@ -173,7 +160,7 @@ fn add_kept<S: Source>(elf: &mut Elf<S>, s: ScnId, making: &mut Making) -> Resul
 {
     let at = name_field(elf, s);
     match making.known.find(at) {
-        Some(place) => push_some(&mut making.places, place),
+        Some(place) => push_place(&mut making.places, place),
         None => add_read(elf, s, at, making),
     }
 }

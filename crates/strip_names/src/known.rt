@@ -1,13 +1,13 @@
 //! Names that were added before, by where they stand in an older table.
 
-ghost use Rattle.std.specs.Prelude.{◌≡◌, ◌<◌, ℕ, None, length, OnOk, IfErr};
+ghost use Rattle.std.specs.Prelude.{◌≡◌, ◌<◌, ◌∷◌, ◌++◌, ℕ, [], true, None, length, IfOk, OnOk, IfErr};
 ghost use Rattle.elf_types.specs.declared.errors.ElfError.TheVariants.{Memory};
 ghost use Rattle.elf_object.specs.Object.{section_at};
 ghost use Rattle.strip_names.specs.Known.{known_at, KnowsMore};
 
 use elf_descriptor::Elf;
 use elf_outside::Source;
-use elf_types::{ElfError, ScnId};
+use elf_types::{ElfError, ScnId, Words};
 use std::alloc::Global;
 use std::collections::BTreeMap;
 
@@ -45,6 +45,37 @@ impl KnownPlaces {
     {
         self.places.insert(at, place)?;
         Ok(())
+    }
+}
+
+/// Appends a place. It refuses `Memory` alone.
+pub fn push_place(places: &mut Words, place: u32) -> Result<bool, ElfError>
+    ensures pushed { IfOk result (λ fits.
+        (fits ≡ true) × (places.new ≡ places.old ++ place ∷ [])) }
+    ensures err { IfErr result (λ e. e ≡ Memory) }
+{
+    match places.push(place) {
+        Ok(()) => Ok(true),
+        Err(e) => Err(e),
+    }
+}
+
+/// Appends the place of a name in a table in the making, and notes it under that at which the name
+/// stands in an older one. It refuses `Memory` alone.
+pub fn note_place(
+    places: &mut Words,
+    known: &mut KnownPlaces,
+    at: u32,
+    place: u32,
+) -> Result<bool, ElfError>
+    ensures pushed { IfOk result (λ fits.
+        (fits ≡ true) × (places.new ≡ places.old ++ place ∷ [])) }
+    ensures noted { OnOk result (KnowsMore known.old known.new at place) }
+    ensures err { IfErr result (λ e. e ≡ Memory) }
+{
+    match known.note(at, place) {
+        Ok(()) => push_place(places, place),
+        Err(e) => Err(e),
     }
 }
 

@@ -8,4 +8,4 @@ mod copying;
 mod known;
 
 pub use building::{NewNames, build_names};
-pub use known::{KnownPlaces, name_field};
+pub use known::{KnownPlaces, name_field, note_place, push_place};

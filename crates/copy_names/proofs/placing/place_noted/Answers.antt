@@ -8,19 +8,14 @@ use Rattle.copy_names.proofs.placing.place_noted.Goals as goal
 
 pub returns-in-Ok-clause-placed : goal.returns-in-Ok-clause-placed
 returns-in-Ok-clause-placed c =
-    subst (λ (l : List (List ℕ)). IfOk c.note_place.result (λ fits.
-    IsAddedAt c.args.making.now.strings l c.args.making.now.places
-    c.note_place.new.making.places c.args.name.now fits)) (sym c.note_place.ensures.strings)
-    (text_placed c.args.making.now.strings _ c.args.name.now c.args.making.now.places
-    c.note_place.new.making.places c.in-Ok.place c.note_place.result c.in-Ok.ensures.names
-    c.in-Ok.ensures.place c.in-Ok.ensures.too_large c.note_place.ensures.pushed)
+    text_placed c.args.making.now.strings _ c.args.name.now c.args.making.now.places
+    c.note_place.new.places c.in-Ok.place c.note_place.result c.in-Ok.ensures.names
+    c.in-Ok.ensures.place c.in-Ok.ensures.too_large c.note_place.ensures.pushed
 
 pub returns-in-Ok-clause-noted : goal.returns-in-Ok-clause-noted
 returns-in-Ok-clause-noted c =
-    noted_at c.args.at c.in-Ok.place c.args.name.now c.note_place.new.making.strings
-    c.args.making.now.known c.note_place.new.making.known c.note_place.result
-    (c.in-Ok.ensures.place ∙ ap (place_of c.args.name.now) (sym c.note_place.ensures.strings))
-    c.note_place.ensures.noted
+    noted_at c.args.at c.in-Ok.place c.args.name.now c.add.new.self c.args.making.now.known
+    c.note_place.new.known c.note_place.result c.in-Ok.ensures.place c.note_place.ensures.noted
 
 pub returns-in-Err-clause-placed : goal.returns-in-Err-clause-placed
 returns-in-Err-clause-placed c =

@@ -11,21 +11,21 @@ returns-in-Some-clause-told g c = λ told.
     let o = c.args.elf.now.o in
     let names = c.args.making.now.strings in
     held_placed names (or_empty_name (section_name o c.args.s.0)) c.args.making.now.places
-    c.push_some.new.places c.in-Some.place c.push_some.result
+    c.push_place.new.places c.in-Some.place c.push_place.result
     (subst (λ (l : List ℕ). IsHeld l names c.in-Some.place)
     (old_name_is o c.args.s.0 c.name_field-at.result c.name_field-at.ensures)
     (known_held (old_name o) c.args.making.now.known names c.name_field-at.result
     c.in-Some.place (c.requires.known told) c.in-Some.ensures))
-    c.push_some.ensures.pushed
+    c.push_place.ensures.pushed
 
 pub returns-in-Some-clause-known : goal.returns-in-Some-clause-known
 returns-in-Some-clause-known g c = λ told.
-    still_ok c.push_some.result (c.requires.known told)
+    still_ok c.push_place.result (c.requires.known told)
 
 pub returns-in-Some-clause-reads : goal.returns-in-Some-clause-reads
 returns-in-Some-clause-reads g c =
-    names_push g.S.Source (tt {0}) c.push_some.result c.args.elf.now c.args.elf.now
-    c.push_some.ensures.err (names_nothing g.S.Source (tt {0}) c.args.elf.now)
+    names_push g.S.Source (tt {0}) c.push_place.result c.args.elf.now c.args.elf.now
+    c.push_place.ensures.err (names_nothing g.S.Source (tt {0}) c.args.elf.now)
 
 pub returns-in-None-clause-told : goal.returns-in-None-clause-told
 returns-in-None-clause-told g c = c.add_read.ensures.told

@@ -7,13 +7,13 @@ use Rattle.strip_names.proofs.building.put_place.Goals as goal
 pub returns-in-Some-clause-pushed : goal.returns-in-Some-clause-pushed
 returns-in-Some-clause-pushed c =
     subst (λ (o : Option ℕ). IfOk c.note_place.result
-    (IsPlaced c.args.making.now.places c.note_place.new.making.places o)) (sym c.in-Some.is)
+    (IsPlaced c.args.making.now.places c.note_place.new.places o)) (sym c.in-Some.is)
     c.note_place.ensures.pushed
 
 pub returns-in-Some-clause-noted : goal.returns-in-Some-clause-noted
 returns-in-Some-clause-noted c =
     subst (λ (o : Option ℕ). OnOk c.note_place.result
-    (NotesIf c.args.at o c.args.making.now.known c.note_place.new.making.known))
+    (NotesIf c.args.at o c.args.making.now.known c.note_place.new.known))
     (sym c.in-Some.is) c.note_place.ensures.noted
 
 pub returns-in-None-clause-pushed : goal.returns-in-None-clause-pushed

@@ -1,5 +1,5 @@
 use Rattle.strip_names.proofs.KnownLaws.{any_ok}
-use Rattle.copy_names.proofs.placing.note_place.Goals as goal
+use Rattle.strip_names.proofs.known.note_place.Goals as goal
 
 pub returns-in-Ok-clause-pushed : goal.returns-in-Ok-clause-pushed
 returns-in-Ok-clause-pushed c = c.push_place.ensures.pushed
