@@ -1,7 +1,3 @@
-use Rattle.std.proofs.Common.{ℕ, List, sym, ap, ◌∙◌, subst}
-use Rattle.std.specs.Prelude.{IfOk}
-use Rattle.strtab_build.specs.Table.{place_of}
-use Rattle.strip_names.specs.Names.{IsAddedAt}
 use Rattle.strip_names.proofs.KnownLaws.{noted_at}
 use Rattle.copy_names.proofs.PlaceLaws.{text_placed, text_refused, text_unnoted, text_memory}
 use Rattle.copy_names.proofs.placing.place_noted.Goals as goal
