@@ -89,6 +89,25 @@ fn an_older_table_is_held_late(rt: HostRuntime) -> Result<(), Fail> {
     Ok(())
 }
 
+// The hash of each of these is 0: the first is found by it, and the others by their SHA-256.
+#[test]
+fn names_of_one_hash_are_told_apart(rt: HostRuntime) -> Result<(), Fail> {
+    let mut strings = SharedStrings::new(rt.alloc());
+    let uses: [(&[u8], u32); 6] = [
+        (b"\xe3\x08\xa3\x85\x88\x6a\x3f\x24 first..", 1),
+        (b"\xe3\x08\xa3\x85\x88\x6a\x3f\x24 second.", 18),
+        (b"\xe3\x08\xa3\x85\x88\x6a\x3f\x24 third..", 35),
+        (b"\xe3\x08\xa3\x85\x88\x6a\x3f\x24 second.", 18),
+        (b"\xe3\x08\xa3\x85\x88\x6a\x3f\x24 third..", 35),
+        (b"\xe3\x08\xa3\x85\x88\x6a\x3f\x24 first..", 1),
+    ];
+    for (name, place) in uses {
+        assert_eq!(rt; strings.add(name, 0), Ok(place));
+    }
+    assert_eq!(rt; strings.finish()?.len(), 52);
+    Ok(())
+}
+
 #[test]
 fn shared_bytes_are_copied_from_each_place_on(rt: HostRuntime) {
     assert!(rt; is_each_copied(rt.alloc()) == Ok(true));
