@@ -34,6 +34,16 @@ def five_sections():
     return image(content, [bytes(64)] + [section(1, 56 + 8 * i, 8, align=8) for i in range(1, 6)], 0)
 
 
+def names_of_one_hash():
+    """Three sections whose names differ in their last byte alone, and have the same hash (crates/shared_strings)."""
+    front = (0x243F6A8885A308D3 + 16).to_bytes(8, "little") + b" section"[:7]
+    names = b"\0" + b"".join(front + b"%d\0" % i for i in range(3))
+    content = bytes(8) + names + bytes(-len(names) % 8)
+    headers = [bytes(64)] + [section(1, 64, 8) for i in range(3)] + [section(3, 72, len(names))]
+    named = [struct.pack("<I", 1 + 17 * (i - 1) if 0 < i < 4 else 0) + header[4:] for i, header in enumerate(headers)]
+    return image(content, named, 4)
+
+
 def each_table():
     """Symbols with extended indexes, a group, relocations, notes, a hash section and versions: each kind of table once."""
     symbols = bytes(24) + struct.pack("<IBBHQQ", 1, 0x12, 0, 0xFFFF, 16, 4) + struct.pack("<IBBHQQ", 3, 0x12, 0, 1, 8, 4)
