@@ -10,12 +10,16 @@
 #   make lib                   the library for C, build/libelf.so.1 and build/libelfkit.a
 #   make test-c                the tests of the library for C, with sanitizers
 #   make test-programs         elfutils' programs on it, compared with the system's libelf
+#   make test-elfutils         elfutils' own test suite on it, compared with elfutils' library
+#   make rust-lib              what the crate for Rust links, build/libelfkit.a and build/liblibc_c.a
+#   make test-rust             the tests of the crate for Rust, rust/elfkit
 #   make install-lib PREFIX=.. the library for C, its headers and its pkg-config file
 PREFIX ?= /usr/local
 ARGS ?= readelf -h -l /bin/true
 sources := $(shell find crates -path '*/out' -prune -o -type f -print)
 
-.PHONY: all try test edits bench install lib test-c test-programs install-lib clean
+.PHONY: all try test edits bench install c-tools lib test-c test-programs test-elfutils install-lib \
+    clean
 
 all: build/elfkit
 
@@ -45,6 +49,9 @@ install: build/elfkit
 # ---- The library for C: the proved core, and a layer of C with libelf's names over it
 
 CFLAGS ?= -O2 -g
+# gcc's mark of a part of a variable that is not set is not known to libdw.
+no_mark := -fno-var-tracking-uninit
+capi_debug := $(shell $(CC) $(no_mark) -Werror -E -x c /dev/null > /dev/null 2>&1 && echo $(no_mark))
 kit = $(dir $(shell rt doc))
 capi_sources := $(sort $(wildcard capi/*.c))
 capi_headers := $(wildcard capi/*.h capi/include/*.h)
@@ -52,30 +59,50 @@ capi_flags := -std=gnu11 -Wall -Wextra -Werror -fPIC -fvisibility=hidden -Icapi/
 capi_link := -shared -Wl,-soname,libelf.so.1 -Wl,--version-script=capi/libelf.map -Wl,-z,defs
 LIBDIR ?= $(PREFIX)/lib/elfkit
 
-lib: build/libelf.so.1
+# What the layer of C needs is said before the proofs begin.
+c-tools:
+	@printf '#include <zlib.h>\n' | $(CC) -E - > /dev/null 2>&1 || \
+	    { echo "make lib needs a C compiler and zlib's headers (Debian: gcc and zlib1g-dev)" >&2; \
+	    exit 1; }
+
+lib: c-tools build/libelf.so.1
 
 build/libelfkit.a: crates.txt $(sources)
 	@tools/build elfkit_c
 
 build/libelf.so.1: build/libelfkit.a $(capi_sources) $(capi_headers) capi/libelf.map
-	$(CC) $(CFLAGS) $(capi_flags) $(capi_link) -o $@ $(capi_sources) build/libelfkit.a \
+	$(CC) $(CFLAGS) $(capi_debug) $(capi_flags) $(capi_link) -o $@ $(capi_sources) build/libelfkit.a \
 	    $(kit)c/liblibc_c.a -lz
 	ln -sf libelf.so.1 build/libelf.so
 
-test-c: build/libelfkit.a
+test-c: c-tools build/libelfkit.a
 	@capi/run-tests $(kit)c/liblibc_c.a
 
 test-programs: build/libelf.so.1
 	@capi/compare-programs build
 	@capi/compare-writers build
 
+test-elfutils: build/libelf.so.1
+	@capi/compare-elfutils build
+
 install-lib: build/libelf.so.1
 	install -d $(DESTDIR)$(LIBDIR)/pkgconfig $(DESTDIR)$(PREFIX)/include/elfkit
 	install -m 755 build/libelf.so.1 $(DESTDIR)$(LIBDIR)/libelf.so.1
 	ln -sf libelf.so.1 $(DESTDIR)$(LIBDIR)/libelf.so
-	install -m 644 capi/include/libelf.h capi/include/gelf.h $(DESTDIR)$(PREFIX)/include/elfkit
+	install -m 644 capi/include/libelf.h capi/include/gelf.h capi/include/nlist.h \
+	    $(DESTDIR)$(PREFIX)/include/elfkit
 	sed -e 's|@LIBDIR@|$(LIBDIR)|' -e 's|@INCLUDEDIR@|$(PREFIX)/include/elfkit|' \
 	    capi/libelf.pc.in > $(DESTDIR)$(LIBDIR)/pkgconfig/libelf.pc
 
+# ---- The crate for Rust: safe types over the same core
+
+rust-lib: build/libelfkit.a build/liblibc_c.a
+
+build/liblibc_c.a:
+	install -D -m 644 $(kit)c/liblibc_c.a $@
+
+test-rust: rust-lib
+	@rust/run-tests
+
 clean:
-	rm -rf build crates/*/out
+	rm -rf build crates/*/out rust/*/target

@@ -263,11 +263,98 @@ make_symbols (Elf *elf, size_t count)
   return true;
 }
 
+/* A table of symbols with places of eight bytes, "/SYM64/", which the core does not read: how many
+   there are, their places, and behind these their names. */
+struct wide_table
+{
+  uint64_t count;
+  const uint8_t *places;
+  char *names, *end;
+};
+
+/* A number of eight bytes, the greatest first. */
+static uint64_t
+wide_number (const uint8_t *bytes)
+{
+  uint64_t number = 0;
+  for (int i = 0; i < 8; i++)
+    number = number << 8 | bytes[i];
+  return number;
+}
+
+/* Whether the first member is such a table, and lies in the archive. */
+static bool
+has_wide_table (const Elf *elf, struct wide_table *t)
+{
+  static const char name[16] = "/SYM64/         ";
+  struct ar_hdr h;
+  if (!lies_in (FIRST_HEADER, sizeof h, elf->size))
+    return false;
+  memcpy (&h, elf->lent + FIRST_HEADER, sizeof h);
+  uint64_t body = FIRST_HEADER + sizeof h, size = number_of (h.ar_size, sizeof h.ar_size, 10);
+  if (memcmp (h.ar_name, name, sizeof name) != 0 || memcmp (h.ar_fmag, ARFMAG, 2) != 0
+      || !lies_in (body, size, elf->size) || size < 8)
+    return false;
+  t->count = wide_number (elf->lent + body);
+  t->places = elf->lent + body + 8;
+  if (t->count > (size - 8) / 8)
+    return false;
+  t->names = (char *) elf->shown + body + 8 + 8 * t->count;
+  t->end = (char *) elf->shown + body + size;
+  return true;
+}
+
+/* The symbols of such a table, whose names are shown where they stand; false and an error where one
+   has no end. */
+static bool
+make_wide_symbols (Elf *elf, const struct wide_table *t)
+{
+  Elf_Arsym *all = calloc (t->count + 1, sizeof *all);
+  if (all == NULL)
+    {
+      set_error (E_NOMEM);
+      return false;
+    }
+  char *name = t->names;
+  for (uint64_t i = 0; i < t->count; i++)
+    {
+      const char *end = name == t->end ? NULL : memchr (name, 0, t->end - name);
+      if (end == NULL)
+        {
+          free (all);
+          set_error (E_NO_INDEX);
+          return false;
+        }
+      all[i] = (Elf_Arsym) { .as_name = name, .as_off = wide_number (t->places + 8 * i),
+                             .as_hash = elfkit_hash ((uint8_t *) name, end - name) };
+      name += end - name + 1;
+    }
+  all[t->count].as_hash = ~0ul;
+  elf->archive->symbols = all;
+  elf->archive->symbol_count = t->count + 1;
+  return true;
+}
+
+/* Makes the symbols of either table; false and an error where there is none. */
+static bool
+read_symbols (Elf *elf)
+{
+  struct wide_table wide;
+  uint64_t count = 0;
+  if (has_wide_table (elf, &wide))
+    return make_wide_symbols (elf, &wide);
+  if (!is_given (elfkit_ar_symbols (&elf->archive->handle, &count)))
+    return false;
+  if (count > 0 || has_table (elf))
+    return make_symbols (elf, count);
+  set_error (E_NO_INDEX);
+  return false;
+}
+
 /* elf_getarsym: the table of symbols, whose last entry has no name and is counted. */
 PUBLIC Elf_Arsym *
 elf_getarsym (Elf *elf, size_t *count)
 {
-  uint64_t symbols = 0;
   if (count != NULL)
     *count = 0;
   if (elf == NULL)
@@ -277,18 +364,8 @@ elf_getarsym (Elf *elf, size_t *count)
       set_error (E_NO_ARCHIVE);
       return NULL;
     }
-  if (elf->archive->symbols == NULL)
-    {
-      if (!is_given (elfkit_ar_symbols (&elf->archive->handle, &symbols)))
-        return NULL;
-      if (symbols == 0 && !has_table (elf))
-        {
-          set_error (E_NO_INDEX);
-          return NULL;
-        }
-      if (!make_symbols (elf, symbols))
-        return NULL;
-    }
+  if (elf->archive->symbols == NULL && !read_symbols (elf))
+    return NULL;
   if (count != NULL)
     *count = elf->archive->symbol_count;
   return elf->archive->symbols;

@@ -295,9 +295,9 @@ begun_bare (int fd, Elf_Cmd cmd)
 PUBLIC Elf *
 elf_begin (int fd, Elf_Cmd cmd, Elf *ref)
 {
-  if (!version_is_set)
+  if (!version_is_set || (ref == NULL && fcntl (fd, F_GETFD) == -1))
     {
-      set_error (E_NO_VERSION);
+      set_error (version_is_set ? E_INVALID_FILE : E_NO_VERSION);
       return NULL;
     }
   switch (cmd)
@@ -316,10 +316,7 @@ elf_begin (int fd, Elf_Cmd cmd, Elf *ref)
       return NULL;
     case ELF_C_WRITE:
     case ELF_C_WRITE_MMAP:
-      if (fcntl (fd, F_GETFD) != -1)
-        return begun_bare (fd, cmd);
-      set_error (E_INVALID_FILE);
-      return NULL;
+      return begun_bare (fd, cmd);
     default:
       set_error (E_INVALID_CMD);
       return NULL;
@@ -443,12 +440,17 @@ elf_end (Elf *elf)
   return parent != NULL && parent->refs == 0 ? elf_end (parent) : 0;
 }
 
-/* elf_cntl: the file descriptor is used by elf_begin alone, so both commands are done. */
+/* elf_cntl: the file is not read after elf_begin, so both commands let its descriptor go. */
 PUBLIC int
 elf_cntl (Elf *elf, Elf_Cmd cmd)
 {
   if (elf == NULL)
     return -1;
+  if (elf->fd == -1)
+    {
+      set_error (E_INVALID_HANDLE);
+      return -1;
+    }
   if (cmd != ELF_C_FDDONE && cmd != ELF_C_FDREAD)
     {
       set_error (E_INVALID_CMD);

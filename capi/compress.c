@@ -65,6 +65,8 @@ replace_data (Elf_Scn *scn, uint8_t *bytes, size_t size, size_t align, Elf_Type 
   scn->last = &scn->data;
   scn->is_made = true;
   scn->has_end = false;
+  scn->strings_end = 0;
+  scn->unpacked = NULL;
   scn->has_raw = scn->has_data = 1;
   return true;
 }
@@ -268,22 +270,30 @@ inflated (const uint8_t *from, size_t from_size, uint64_t size)
   return NULL;
 }
 
+uint8_t *
+unpack (Elf_Scn *scn, GElf_Chdr *chdr)
+{
+  if (gelf_getchdr (scn, chdr) == NULL)
+    return NULL;
+  if (chdr->ch_type != ELFCOMPRESS_ZLIB)
+    set_error (E_UNKNOWN_COMPRESSION_TYPE);
+  else if (chdr->ch_addralign & (chdr->ch_addralign - 1))
+    set_error (E_INVALID_ALIGN);
+  else
+    {
+      const Elf_Data *d = elf_getdata (scn, NULL);
+      size_t header = item_size (ELF_T_CHDR, scn->elf->class);
+      return inflated ((uint8_t *) d->d_buf + header, d->d_size - header, chdr->ch_size);
+    }
+  return NULL;
+}
+
 /* Takes the data of a section out that stands behind a compression header. */
 static int
 take_out (Elf_Scn *scn, GElf_Shdr *shdr)
 {
   GElf_Chdr chdr;
-  if ((shdr->sh_flags & SHF_COMPRESSED) == 0)
-    return refused (E_NOT_COMPRESSED);
-  if (gelf_getchdr (scn, &chdr) == NULL)
-    return -1;
-  if (chdr.ch_type != ELFCOMPRESS_ZLIB)
-    return refused (E_UNKNOWN_COMPRESSION_TYPE);
-  if (chdr.ch_addralign & (chdr.ch_addralign - 1))
-    return refused (E_INVALID_ALIGN);
-  const Elf_Data *d = elf_getdata (scn, NULL);
-  size_t header = item_size (ELF_T_CHDR, scn->elf->class);
-  uint8_t *bytes = inflated ((uint8_t *) d->d_buf + header, d->d_size - header, chdr.ch_size);
+  uint8_t *bytes = unpack (scn, &chdr);
   if (bytes == NULL)
     return -1;
   shdr->sh_size = chdr.ch_size;

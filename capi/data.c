@@ -249,8 +249,8 @@ elf_getdata (Elf_Scn *scn, Elf_Data *data)
 static int
 compare_chunks (const void *left, const void *right)
 {
-  const Elf_Data *a = &((const struct elfkit_data *) left)->d;
-  const Elf_Data *b = &((const struct elfkit_data *) right)->d;
+  const Elf_Data *a = &((const Elf_Scn *) left)->data.d;
+  const Elf_Data *b = &((const Elf_Scn *) right)->data.d;
   if (a->d_off != b->d_off)
     return a->d_off < b->d_off ? -1 : 1;
   if (a->d_size != b->d_size)
@@ -261,7 +261,7 @@ compare_chunks (const void *left, const void *right)
 static void
 free_chunk (void *chunk)
 {
-  free (((struct elfkit_data *) chunk)->owned);
+  free_pieces (chunk);
   free (chunk);
 }
 
@@ -270,6 +270,7 @@ free_pieces (Elf_Scn *scn)
 {
   free (scn->data.owned);
   free (scn->raw.owned);
+  free (scn->unpacked);
   for (struct elfkit_data *next, *d = scn->data.next; d != NULL; d = next)
     {
       next = d->next;
@@ -281,6 +282,36 @@ void
 free_chunks (Elf *elf)
 {
   tdestroy (elf->chunks, free_chunk);
+}
+
+/* Makes a chunk of the file; NULL and an error where there is no memory. */
+static Elf_Scn *
+make_chunk (Elf *elf, int64_t offset, size_t size, Elf_Type type)
+{
+  Elf_Scn *made = calloc (1, sizeof *made);
+  if (made == NULL)
+    {
+      set_error (E_NOMEM);
+      return NULL;
+    }
+  made->elf = elf;
+  made->data.scn = made;
+  tie (&made->data, elf);
+  made->data.d = (Elf_Data) { .d_type = type, .d_version = EV_CURRENT, .d_size = size,
+                              .d_off = offset, .d_align = item_align (type, elf->class) };
+  made->data.d.d_buf = in_memory (elf, type, offset, size, &made->data.owned);
+  if (made->data.d.d_buf == NULL)
+    {
+      free (made);
+      return NULL;
+    }
+  if (tsearch (made, &elf->chunks, compare_chunks) == NULL)
+    {
+      free_chunk (made);
+      set_error (E_NOMEM);
+      return NULL;
+    }
+  return made;
 }
 
 /* elf_getdata_rawchunk: a range of the file as data of no section; the same data for the same range
@@ -305,30 +336,8 @@ elf_getdata_rawchunk (Elf *elf, int64_t offset, size_t size, Elf_Type type)
       set_error (E_UNKNOWN_TYPE);
       return NULL;
     }
-  struct elfkit_data key = { .d = { .d_off = offset, .d_size = size, .d_type = type } };
-  struct elfkit_data **found = tfind (&key, &elf->chunks, compare_chunks);
-  if (found != NULL)
-    return &(*found)->d;
-  struct elfkit_data *made = calloc (1, sizeof *made);
-  if (made == NULL)
-    {
-      set_error (E_NOMEM);
-      return NULL;
-    }
-  tie (made, elf);
-  made->d = (Elf_Data) { .d_type = type, .d_version = EV_CURRENT, .d_size = size,
-                         .d_off = offset, .d_align = item_align (type, elf->class),
-                         .d_buf = in_memory (elf, type, offset, size, &made->owned) };
-  if (made->d.d_buf == NULL)
-    {
-      free (made);
-      return NULL;
-    }
-  if (tsearch (made, &elf->chunks, compare_chunks) == NULL)
-    {
-      free_chunk (made);
-      set_error (E_NOMEM);
-      return NULL;
-    }
-  return &made->d;
+  Elf_Scn key = { .data.d = { .d_off = offset, .d_size = size, .d_type = type } };
+  Elf_Scn **found = tfind (&key, &elf->chunks, compare_chunks), *chunk;
+  chunk = found != NULL ? *found : make_chunk (elf, offset, size, type);
+  return chunk == NULL ? NULL : &chunk->data.d;
 }

@@ -4,7 +4,7 @@
 
 static __thread int last_error;
 
-bool version_is_set;
+_Atomic bool version_is_set;
 
 static const char *const texts[E_COUNT] = {
   [E_NONE] = "no error",
@@ -22,6 +22,7 @@ static const char *const texts[E_COUNT] = {
   [E_NO_VERSION] = "ELF version not set",
   [E_INVALID_CMD] = "invalid command",
   [E_RANGE] = "offset out of range",
+  [E_ARCHIVE_FMAG] = "invalid fmag field in archive header",
   [E_INVALID_ARCHIVE] = "invalid archive file",
   [E_NO_ARCHIVE] = "descriptor is not for an archive",
   [E_NO_INDEX] = "no index available",
@@ -31,6 +32,7 @@ static const char *const texts[E_COUNT] = {
   [E_INVALID_INDEX] = "invalid section index",
   [E_INVALID_OPERAND] = "invalid operand",
   [E_INVALID_SECTION] = "invalid section",
+  [E_INVALID_COMMAND] = "invalid command",
   [E_WRONG_ORDER_EHDR] = "executable header not created first",
   [E_FD_DISABLED] = "file descriptor disabled",
   [E_FD_MISMATCH] = "archive/member file descriptor mismatch",
@@ -44,8 +46,12 @@ static const char *const texts[E_COUNT] = {
   [E_INVALID_ALIGN] = "invalid section alignment",
   [E_INVALID_SHENTSIZE] = "invalid section entry size",
   [E_UPDATE_RO] = "update() for write on read-only file",
+  [E_NO_FILE] = "no such file",
   [E_GROUP_NOT_REL] = "only relocatable files can contain section groups",
+  [E_INVALID_PHDR] =
+    "program header only allowed in executables, shared objects, and core files",
   [E_NO_PHDR] = "file has no program header",
+  [E_INVALID_OFFSET] = "invalid offset",
   [E_NOT_COMPRESSED] = "section does not contain compressed data",
   [E_ALREADY_COMPRESSED] = "section contains compressed data",
   [E_UNKNOWN_COMPRESSION_TYPE] = "unknown compression type",

@@ -64,7 +64,8 @@ gelf_getehdr (Elf *elf, GElf_Ehdr *dst)
   return dst;
 }
 
-/* elf_getphdrnum, elf_getshdrnum, elf_getshdrstrndx: the true counts. */
+/* elf_getphdrnum, elf_getshdrnum, elf_getshdrstrndx: the true counts, and the section of the names
+   of sections. */
 PUBLIC int
 elf_getphdrnum (Elf *elf, size_t *count)
 {
@@ -88,6 +89,14 @@ elf_getshdrnum (Elf *elf, size_t *count)
   return 0;
 }
 
+/* Whether section 0 has another header than the image: a program stored it, or made it. */
+static bool
+has_stored_0 (Elf *elf)
+{
+  return elf->shnum > 0 && (elf->opened == 0 || elf->sections != NULL)
+         && section_at (elf, 0)->shdr != NULL;
+}
+
 PUBLIC int
 elf_getshdrstrndx (Elf *elf, size_t *index)
 {
@@ -96,15 +105,19 @@ elf_getshdrstrndx (Elf *elf, size_t *index)
   GElf_Ehdr ehdr;
   GElf_Shdr first;
   gelf_getehdr (elf, &ehdr);
-  if (elf->is_cut)
-    *index = elf->tables.shstrndx;
-  else if (!elf->is_bare && ehdr.e_shstrndx == elf->tables.shstrndx)
+  bool is_as_opened = !elf->is_bare && !elf->is_cut && !has_stored_0 (elf)
+                      && ehdr.e_shstrndx == elf->tables.shstrndx;
+  *index = ehdr.e_shstrndx;
+  if (ehdr.e_shstrndx == SHN_XINDEX && elf->shnum == 0)
+    {
+      set_error (E_INVALID_SECTION_HEADER);
+      return -1;
+    }
+  if (is_as_opened)
     *index = elfkit_shstrndx (&elf->handle);
-  else if (ehdr.e_shstrndx == SHN_XINDEX && elf->shnum > 0
+  else if (ehdr.e_shstrndx == SHN_XINDEX
            && gelf_getshdr (elf_getscn (elf, 0), &first) != NULL)
     *index = first.sh_link;
-  else
-    *index = ehdr.e_shstrndx;
   return 0;
 }
 

@@ -212,12 +212,15 @@ gelf_getmove (Elf_Data *data, int ndx, GElf_Move *dst)
   struct elfkit_data *d = item_of (data, ELF_T_MOVE, ndx);
   if (d == NULL)
     return NULL;
-  if (!is_64 (d))
+  if (is_64 (d))
+    memcpy (dst, at_index (d, ndx), sizeof *dst);
+  else
     {
-      set_error (E_UNSUPPORTED);
-      return NULL;
+      Elf32_Move x;
+      memcpy (&x, at_index (d, ndx), sizeof x);
+      *dst = (GElf_Move) { .m_value = x.m_value, .m_info = x.m_info, .m_poffset = x.m_poffset,
+                           .m_repeat = x.m_repeat, .m_stride = x.m_stride };
     }
-  memcpy (dst, at_index (d, ndx), sizeof *dst);
   return dst;
 }
 

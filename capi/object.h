@@ -16,7 +16,7 @@
 struct elfkit_data
 {
   Elf_Data d;
-  Elf_Scn *scn;                 /* the section, or NULL for a chunk of the file */
+  Elf_Scn *scn;                 /* the section */
   Elf *elf;
   void *owned;                  /* memory to be freed with it */
   struct elfkit_data *next;     /* the next piece of the section */
@@ -25,22 +25,28 @@ struct elfkit_data
   unsigned int flags;
 };
 
+/* A section. A chunk of the file is one by itself, which has nothing but its data. The descriptor
+   stands where elfutils 0.188 has it, whose libdw goes to it from data, by the section, without a
+   call. */
 struct Elf_Scn
 {
-  Elf *elf;
+  struct elfkit_data data;
+  struct elfkit_extent home;    /* where its bytes are */
+  uint64_t strings_end;         /* the place behind its last string, 0 where it is not known */
+  void *shdr;                   /* its header in native form, once a program asked for it */
+  struct elfkit_data *last;     /* its last piece, once a program added one */
   uint32_t index;
   uint32_t extended;            /* its table of extended indexes, 0 for none */
+  unsigned int flags, shdr_flags;
+  Elf *elf;
   uint8_t has_home, has_data, has_raw;  /* 1: there; 2: refused */
   bool is_made;                 /* a program made it, and its data */
   bool is_new;                  /* the image that is open has no such section */
   bool has_end;                 /* where its strings end is known */
-  uint64_t strings_end;         /* the place behind its last string */
-  unsigned int flags, shdr_flags;
   int home_error, data_error, raw_error;
-  struct elfkit_extent home;    /* where its bytes are */
-  void *shdr;                   /* its header in native form, once a program asked for it */
-  struct elfkit_data data, raw;
-  struct elfkit_data *last;     /* its last piece, once a program added one */
+  struct elfkit_data raw;
+  char *unpacked;               /* its strings, where it is compressed and they were asked for */
+  uint64_t unpacked_size;
 };
 
 /* What programs saw of an image before it was written: they may look at it still. */
@@ -137,6 +143,8 @@ enum { FIRST_HEADER = 8 };
    decompressed. */
 enum { IS_HANDED_OVER = 0x80 };
 
+_Static_assert (offsetof (struct elfkit_data, scn) == 0x28, "the place of the section");
+_Static_assert (offsetof (struct Elf_Scn, elf) == 0x88, "the place of the descriptor");
 _Static_assert (offsetof (struct Elf, kind) == 0x18, "the place of the kind");
 _Static_assert (offsetof (struct Elf, start) == 0x28, "the place of the start");
 _Static_assert (offsetof (struct Elf, marks) == 0x38, "the place of the marks");
@@ -161,7 +169,8 @@ enum
   E_NO_VERSION,
   E_INVALID_CMD,
   E_RANGE,
-  E_INVALID_ARCHIVE = 16,
+  E_ARCHIVE_FMAG,
+  E_INVALID_ARCHIVE,
   E_NO_ARCHIVE,
   E_NO_INDEX,
   E_READ_ERROR,
@@ -170,7 +179,8 @@ enum
   E_INVALID_INDEX,
   E_INVALID_OPERAND,
   E_INVALID_SECTION,
-  E_WRONG_ORDER_EHDR = 26,
+  E_INVALID_COMMAND,
+  E_WRONG_ORDER_EHDR,
   E_FD_DISABLED,
   E_FD_MISMATCH,
   E_OFFSET_RANGE,
@@ -183,9 +193,12 @@ enum
   E_INVALID_ALIGN,
   E_INVALID_SHENTSIZE,
   E_UPDATE_RO,
-  E_GROUP_NOT_REL = 40,
-  E_NO_PHDR = 42,
-  E_INVALID_SECTION_TYPE = 44,
+  E_NO_FILE,
+  E_GROUP_NOT_REL,
+  E_INVALID_PHDR,
+  E_NO_PHDR,
+  E_INVALID_OFFSET,
+  E_INVALID_SECTION_TYPE,
   E_INVALID_SECTION_FLAGS,
   E_NOT_COMPRESSED,
   E_ALREADY_COMPRESSED,
@@ -202,8 +215,8 @@ void set_error (int error);
 /* The error number that stands for a refusal of the core, 0 for none. */
 int error_of (uint32_t number);
 
-/* Whether elf_version was called. */
-extern bool version_is_set;
+/* Whether elf_version was called, by any thread. */
+extern _Atomic bool version_is_set;
 
 /* The class and the byte order of the machine. */
 enum { NATIVE_ORDER = ELFDATA2LSB };
@@ -262,8 +275,8 @@ bool own_image (Elf *elf);
 /* What the ELF header of an image says of the tables. */
 struct tables tables_of (const uint8_t *image);
 
-/* The byte of gaps. */
-extern uint8_t fill_byte;
+/* The byte of gaps, for all threads. */
+extern _Atomic uint8_t fill_byte;
 
 /* Begins over the image of a descriptor; the number of the core's refusal, or 0. */
 uint32_t begin_core (Elf *elf);
@@ -279,6 +292,14 @@ struct elfkit_member *current_member (Elf *elf);
 
 /* Whether programs may write where they see the image. */
 bool may_write (const Elf *elf);
+
+/* The bytes that a compressed section holds, as many as its compression header tells, and that
+   header; NULL and an error where there are none. */
+uint8_t *unpack (Elf_Scn *scn, GElf_Chdr *chdr);
+
+/* Makes a section behind the others, with a header of zeros; NULL and an error where there is no
+   memory. */
+Elf_Scn *append_section (Elf *elf);
 
 /* The section, with its home's place; false and an error where the core refuses. */
 bool has_home (Elf_Scn *scn);

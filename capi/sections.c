@@ -25,7 +25,10 @@ has_sections (Elf *elf)
           return false;
         }
       for (size_t i = 0; i < elf->opened; i++)
-        elf->sections[i] = (Elf_Scn) { .elf = elf, .index = i };
+        {
+          elf->sections[i].elf = elf;
+          elf->sections[i].index = i;
+        }
     }
   return true;
 }
@@ -44,12 +47,23 @@ has_home (Elf_Scn *scn)
   return scn->has_home == 1;
 }
 
+/* Whether section 0 is made when it is asked for, of an image that may be written and has none:
+   its header has the numbers that do not fit the ELF header. */
+static bool
+lacks_section_0 (const Elf *elf)
+{
+  return elf->shnum == 0
+         && (elf->is_bare || elf->cmd == ELF_C_RDWR || elf->cmd == ELF_C_RDWR_MMAP);
+}
+
 /* elf_getscn: the section with a number. */
 PUBLIC Elf_Scn *
 elf_getscn (Elf *elf, size_t index)
 {
   if (!has_sections (elf))
     return NULL;
+  if (index == 0 && lacks_section_0 (elf))
+    return append_section (elf);
   if (index >= elf->shnum)
     {
       set_error (E_INVALID_INDEX);
@@ -209,13 +223,45 @@ own_string (Elf_Scn *scn, size_t offset)
   return NULL;
 }
 
-/* elf_strptr: the string at an offset of a section, which lies where programs see the section. */
+/* The string at an offset of what a compressed section of strings holds, which is taken out once.
+   The section stays as it is. */
+static char *
+unpacked_string (Elf_Scn *scn, size_t offset)
+{
+  GElf_Chdr chdr;
+  if (scn->unpacked == NULL)
+    {
+      scn->unpacked = (char *) unpack (scn, &chdr);
+      if (scn->unpacked == NULL)
+        return NULL;
+      scn->unpacked_size = chdr.ch_size;
+    }
+  if (offset >= scn->unpacked_size)
+    set_error (E_OFFSET_RANGE);
+  else if (memchr (scn->unpacked + offset, 0, scn->unpacked_size - offset) == NULL)
+    set_error (E_INVALID_INDEX);
+  else
+    return scn->unpacked + offset;
+  return NULL;
+}
+
+/* Whether a section is one of strings that are compressed. */
+static bool
+is_packed (Elf_Scn *scn)
+{
+  GElf_Shdr shdr;
+  return gelf_getshdr (scn, &shdr) != NULL && shdr.sh_type == SHT_STRTAB
+         && (shdr.sh_flags & SHF_COMPRESSED) != 0;
+}
+
+/* elf_strptr: the string at an offset of a section, which lies where programs see the section; of a
+   compressed one in what it holds. */
 PUBLIC char *
 elf_strptr (Elf *elf, size_t index, size_t offset)
 {
 #ifndef ELFKIT_CHECK
   /* a place before the end that is known, which is 0 where none is */
-  if (elf != NULL && elf->sections != NULL && index < elf->shnum
+  if (elf != NULL && elf->sections != NULL && index < elf->opened
       && offset < elf->sections[index].strings_end)
     return (char *) elf->shown + elf->sections[index].home.at + offset;
 #endif
@@ -227,6 +273,8 @@ elf_strptr (Elf *elf, size_t index, size_t offset)
       return NULL;
     }
   Elf_Scn *scn = section_at (elf, index);
+  if (!scn->has_end && is_packed (scn))
+    return unpacked_string (scn, offset);
   if (scn->is_made || scn->last != NULL || (scn->has_data == 1 && !scn->data.from_core))
     return own_string (scn, offset);
   return is_given (refused_string (scn, offset)) && has_home (scn)

@@ -7,7 +7,7 @@
 
 #include "update.h"
 
-uint8_t fill_byte;
+_Atomic uint8_t fill_byte;
 
 /* elf_fill: the byte of gaps, for all descriptors. */
 PUBLIC void

@@ -9,7 +9,7 @@
 static bool
 is_own (const struct elfkit_data *d)
 {
-  return d->scn != NULL && d != &d->scn->raw && (d->scn->is_made || d != &d->scn->data);
+  return d != &d->scn->raw && (d->scn->is_made || d != &d->scn->data);
 }
 
 /* The data, with a buffer that may be written: a copy, where it lies in an image that the core

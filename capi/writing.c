@@ -204,9 +204,7 @@ gelf_update_phdr (Elf *elf, int ndx, GElf_Phdr *src)
   return 1;
 }
 
-/* Makes a section behind the others, with a header of zeros; NULL and an error where there is no
-   memory. */
-static Elf_Scn *
+Elf_Scn *
 append_section (Elf *elf)
 {
   size_t count = elf->shnum - elf->opened;

@@ -174,6 +174,7 @@ forget_homes (Elf *elf)
       Elf_Scn *scn = section_at (elf, i);
       scn->is_new = false;
       scn->has_end = false;
+      scn->strings_end = 0;
       scn->has_home = 0;
       if (scn->last != NULL)
         scn->data.from_core = false;

@@ -44,6 +44,14 @@ def names_of_one_hash():
     return image(content, named, 4)
 
 
+def own_section():
+    """A section .own of eight bytes, and the table of the names."""
+    names = b"\0.own\0.names\0"
+    headers = [bytes(64), section(1, 64, 8), section(3, 72, len(names))]
+    named = [struct.pack("<I", at) + header[4:] for at, header in zip((0, 1, 6), headers)]
+    return image(bytes(8) + names + bytes(-len(names) % 8), named, 2)
+
+
 def each_table():
     """Symbols with extended indexes, a group, relocations, notes, a hash section and versions: each kind of table once."""
     symbols = bytes(24) + struct.pack("<IBBHQQ", 1, 0x12, 0, 0xFFFF, 16, 4) + struct.pack("<IBBHQQ", 3, 0x12, 0, 1, 8, 4)

@@ -112,6 +112,56 @@ check_table (const struct archive *a, Elf *ar)
   CHECK (elf_getarsym (ar, NULL) == table);
 }
 
+/* A number of eight bytes at a place of an archive. */
+static void
+put_wide (struct archive *a, size_t at, uint64_t number)
+{
+  for (int i = 0; i < 8; i++)
+    a->bytes[at + i] = number >> (56 - 8 * i);
+}
+
+/* A table of symbols whose places have eight bytes; one that does not lie in its member, or has a
+   name without an end, is none. */
+static void
+check_wide (void)
+{
+  enum { BODY = SARMAG + sizeof (struct ar_hdr), SIZE = 8 + 2 * 8 + 13 };
+  static const char names[] = "first\0second";
+  struct archive a = { .size = SARMAG, .bytes = ARMAG };
+  size_t count = 77;
+  char table[SIZE] = { 0 };
+  memcpy (table + 24, names, sizeof names);
+  put_member (&a, "/SYM64/", table, sizeof table);
+  put_wide (&a, BODY, 2);
+  put_wide (&a, BODY + 8, 0x1122334455);
+  put_wide (&a, BODY + 16, 77);
+  size_t member = put_member (&a, "odd/", "odd", 3);
+  Elf *ar = elf_memory (a.bytes, a.size);
+  Elf_Arsym *symbols = elf_getarsym (ar, &count);
+  CHECK (symbols != NULL && count == 3 && elf_getarsym (ar, NULL) == symbols);
+  CHECK (strcmp (symbols[0].as_name, "first") == 0 && symbols[0].as_off == 0x1122334455);
+  CHECK (strcmp (symbols[1].as_name, "second") == 0 && symbols[1].as_off == 77);
+  CHECK (symbols[1].as_hash == elf_hash ("second"));
+  CHECK (symbols[2].as_name == NULL && symbols[2].as_hash == ~0ul);
+  CHECK (elf_rand (ar, member) == member);
+  Elf *elf = elf_begin (-1, ELF_C_READ, ar);
+  CHECK (elf != NULL && strcmp (elf_getarhdr (elf)->ar_name, "odd") == 0);
+  CHECK (elf_end (elf) == 0 && elf_end (ar) == 0);
+  const uint64_t bad[] = { 3, 5, 1ull << 60, ~0ull };
+  for (size_t i = 0; i < sizeof bad / sizeof bad[0]; i++)
+    {
+      put_wide (&a, BODY, bad[i]);
+      ar = elf_memory (a.bytes, a.size);
+      CHECK (elf_getarsym (ar, &count) == NULL && count == 0 && elf_errno () != 0);
+      CHECK (elf_end (ar) == 0);
+    }
+  put_wide (&a, BODY, 2);
+  a.bytes[BODY + SIZE - 1] = 'x';
+  ar = elf_memory (a.bytes, a.size);
+  CHECK (elf_getarsym (ar, &count) == NULL && count == 0 && elf_errno () != 0);
+  CHECK (elf_end (ar) == 0);
+}
+
 /* The archive may be ended before its members. */
 static void
 check_end (const struct archive *a, Elf *ar, int fd)
@@ -196,6 +246,7 @@ main (void)
 
   check_all (&a, elf_memory (a.bytes, a.size), -1);
   check_nested (&a);
+  check_wide ();
   check_bad (&a);
   return ended ("archives");
 }

@@ -41,6 +41,19 @@ is_whole (Elf_Scn *scn, size_t size)
   CHECK (memcmp ((char *) data->d_buf + size - LONG, text, LONG) == 0);
 }
 
+/* The strings of a compressed section are those that it holds, and the section stays compressed. */
+static void
+find_strings (Elf *elf, size_t size)
+{
+  GElf_Shdr shdr;
+  CHECK (strcmp (elf_strptr (elf, STRINGS, 1), "first") == 0);
+  CHECK (strcmp (elf_strptr (elf, STRINGS, 7), "second") == 0);
+  CHECK (elf_strptr (elf, STRINGS, size - 1) == NULL && elf_errno () != 0);
+  CHECK (elf_strptr (elf, STRINGS, size) == NULL && elf_errno () != 0);
+  CHECK (gelf_getshdr (elf_getscn (elf, STRINGS), &shdr) == &shdr);
+  CHECK ((shdr.sh_flags & SHF_COMPRESSED) && shdr.sh_size < size);
+}
+
 static void
 compress_section (const struct image *m)
 {
@@ -59,13 +72,16 @@ compress_section (const struct image *m)
   CHECK (shdr.sh_size < size && elf_getdata (scn, NULL)->d_type == ELF_T_CHDR);
   CHECK (gelf_getchdr (scn, &chdr) == &chdr && chdr.ch_type == ELFCOMPRESS_ZLIB);
   CHECK (chdr.ch_size == size && chdr.ch_addralign == 1);
+  find_strings (elf, size);
   CHECK (elf_update (elf, ELF_C_WRITE) > 0);
   CHECK (elf_end (elf) == 0);
   elf = elf_begin (fd, ELF_C_READ, NULL);
   scn = elf_getscn (elf, STRINGS);
   CHECK (gelf_getchdr (scn, &chdr) == &chdr && chdr.ch_size == size);
+  find_strings (elf, size);
   CHECK (elf_compress (scn, 0, 0) == 1);
   is_whole (scn, size);
+  CHECK (strcmp (elf_strptr (elf, STRINGS, 7), "second") == 0);
   CHECK (elf_end (elf) == 0);
   close (fd);
 }
@@ -90,6 +106,26 @@ compress_gnu (const struct image *m)
   scn = elf_getscn (elf, STRINGS);
   CHECK (elf_compress_gnu (scn, 0, 0) == 1);
   is_whole (scn, size);
+  CHECK (elf_end (elf) == 0);
+  close (fd);
+}
+
+/* Strings that were looked up where they stand are looked up in what takes their place. */
+static void
+compress_known (const struct image *m)
+{
+  int fd;
+  Elf *elf = open_image (m, &fd);
+  CHECK (elf_end (elf) == 0);
+  elf = elf_begin (fd, ELF_C_RDWR, NULL);
+  Elf_Scn *scn = elf_getscn (elf, STRINGS);
+  CHECK (strcmp (elf_strptr (elf, STRINGS, 1), "first") == 0);
+  CHECK (elf_compress (scn, ELFCOMPRESS_ZLIB, ELF_CHF_FORCE) == 1);
+  ((char *) elf_getdata (scn, NULL)->d_buf)[0] ^= 0x55;
+  CHECK (elf_strptr (elf, STRINGS, 1) == NULL && elf_errno () != 0);
+  ((char *) elf_getdata (scn, NULL)->d_buf)[0] ^= 0x55;
+  char *string = elf_strptr (elf, STRINGS, 1);
+  CHECK (string != NULL && strcmp (string, "first") == 0);
   CHECK (elf_end (elf) == 0);
   close (fd);
 }
@@ -122,6 +158,7 @@ main (void)
       make_image (&m, kind & 1, kind >> 1);
       compress_section (&m);
       compress_gnu (&m);
+      compress_known (&m);
       compress_short (&m);
     }
   return ended ("compressing");

@@ -1,5 +1,10 @@
 /* hostile.c: images and archives with a few bytes changed, and cut short, are read by every call.
    What is asked for is refused or given; nothing else is looked for but what the sanitizers say. */
+#define _GNU_SOURCE
+#include <nlist.h>
+#include <sys/mman.h>
+#include <unistd.h>
+
 #include "archive.h"
 #include "check.h"
 
@@ -84,6 +89,7 @@ read_object (Elf *elf, size_t size)
   for (int type = -1; type <= ELF_T_NUM; type++)
     read_data (elf_getdata_rawchunk (elf, random_below (300), random_below (300), type));
   gelf_offscn (elf, 64);
+  gelf_checksum (elf);
 }
 
 static void read_open (Elf *elf, size_t size);
@@ -135,6 +141,49 @@ read_copy (const void *bytes, size_t size)
   free (copy);
 }
 
+/* Looks for symbols in a file with these bytes. */
+static void
+read_file (const void *bytes, size_t size)
+{
+  char name[64];
+  struct nlist list[] = { { .n_name = "second" }, { .n_name = "first" }, { .n_name = NULL } };
+  int fd = memfd_create ("image", 0);
+  if (fd < 0 || write (fd, bytes, size) != (ssize_t) size)
+    exit (2);
+  snprintf (name, sizeof name, "/proc/self/fd/%d", fd);
+  nlist (name, list);
+  close (fd);
+}
+
+/* Has the strings of an image compressed. */
+static void
+pack (struct image *m)
+{
+  int fd = memfd_create ("image", 0);
+  if (fd < 0 || write (fd, m->bytes, m->size) != (ssize_t) m->size)
+    exit (2);
+  Elf *elf = elf_begin (fd, ELF_C_RDWR, NULL);
+  elf_compress (elf_getscn (elf, STRINGS), ELFCOMPRESS_ZLIB, ELF_CHF_FORCE);
+  elf_update (elf, ELF_C_WRITE);
+  elf_end (elf);
+  ssize_t size = pread (fd, m->bytes, sizeof m->bytes, 0);
+  if (size <= 0)
+    exit (2);
+  m->size = size;
+  close (fd);
+}
+
+/* Gives the table of symbols of an archive places of eight bytes, where their numbers happen to. */
+static void
+widen (struct archive *a)
+{
+  char *table = a->bytes + SYMBOL_TABLE;
+  memcpy (table, "/SYM64/ ", 8);
+  memmove (table + sizeof (struct ar_hdr) + 8, table + sizeof (struct ar_hdr) + 12, 13);
+  memset (table + sizeof (struct ar_hdr), 0, 8);
+  table[sizeof (struct ar_hdr) + 7] = random_below (3);
+}
+
 /* Changes a few bytes, and gives where to cut. */
 static size_t
 change (uint8_t *bytes, size_t size)
@@ -154,8 +203,15 @@ main (int argc, char **argv)
   for (long i = 0; i < images; i++)
     {
       make_image (&m, i & 1, (i >> 1) & 1);
-      read_copy (m.bytes, change (m.bytes, m.size));
+      if (random_below (4) == 0)
+        pack (&m);
+      size_t size = change (m.bytes, m.size);
+      read_copy (m.bytes, size);
+      if (random_below (16) == 0)
+        read_file (m.bytes, size);
       make_archive (&a);
+      if (random_below (4) == 0)
+        widen (&a);
       for (uint32_t n = random_below (3); n > 0; n--)   /* what tells members apart, more often */
         a.bytes[a.at[random_below (MEMBERS)] + random_below (sizeof (struct ar_hdr))]
             = random_below (2) == 0 ? '0' + random_below (10) : random_below (256);

@@ -4,6 +4,9 @@
 #include <sys/mman.h>
 #include <unistd.h>
 
+#include <nlist.h>
+#include <stdio.h>
+
 #include "archive.h"
 #include "check.h"
 
@@ -90,8 +93,29 @@ write_once (struct image *m)
   return whole;
 }
 
+/* Looks for a symbol in the file of an image, and for a string of a compressed section; whether
+   both were there. */
+static int
+find_once (struct image *m)
+{
+  char name[64];
+  struct nlist list[] = { { .n_name = "first" }, { .n_name = NULL } };
+  int fd = memfd_create ("image", 0);
+  if (fd < 0 || write (fd, m->bytes, m->size) != (ssize_t) m->size)
+    exit (2);
+  snprintf (name, sizeof name, "/proc/self/fd/%d", fd);
+  int whole = nlist (name, list) == 0 && list[0].n_value == 0x1234;
+  Elf *elf = whole ? elf_begin (fd, ELF_C_READ, NULL) : NULL;
+  if (whole)
+    whole = elf_compress (elf_getscn (elf, STRINGS), ELFCOMPRESS_ZLIB, ELF_CHF_FORCE) == 1
+            && elf_strptr (elf, STRINGS, 1) != NULL;
+  elf_end (elf);
+  close (fd);
+  return whole;
+}
+
 /* What reads the image or the archive or writes the image, each allocation failing in turn. A write
-   may do without some of them. */
+   may do without some of them, and zlib says in its own way what it lacks. */
 static void
 fail_each (struct image *m, struct archive *a, int writes)
 {
@@ -99,7 +123,8 @@ fail_each (struct image *m, struct archive *a, int writes)
   for (;; n++)
     {
       left = n;
-      int whole = a != NULL ? walk_once (a) : writes ? write_once (m) : read_once (m);
+      int whole = a != NULL ? walk_once (a) : writes == 2 ? find_once (m)
+                  : writes ? write_once (m) : read_once (m);
       int all_made = left >= 0;
       left = -1;
       if (all_made)
@@ -108,7 +133,7 @@ fail_each (struct image *m, struct archive *a, int writes)
           break;
         }
       CHECK (!whole || writes);
-      CHECK (whole || strcmp (elf_errmsg (-1), "out of memory") == 0);
+      CHECK (whole || writes == 2 || strcmp (elf_errmsg (-1), "out of memory") == 0);
       elf_errno ();
     }
   CHECK (n > 3);
@@ -125,6 +150,7 @@ main (void)
       make_image (&m, kind & 1, kind >> 1);
       fail_each (&m, NULL, 0);
       fail_each (&m, NULL, 1);
+      fail_each (&m, NULL, 2);
     }
   make_archive (&a);
   fail_each (NULL, &a, 0);

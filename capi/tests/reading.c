@@ -60,6 +60,24 @@ read_others (Elf *elf)
   CHECK (gelf_getnote (data, 4, &nhdr, &name, &desc) == 0 && elf_errno () != 0);
 }
 
+/* libdw goes from data to its section and from there to the descriptor without a call, by the
+   places that elfutils 0.188 has them at; of a chunk of the file too. */
+static void
+find_descriptor (Elf *elf)
+{
+  const struct { Elf_Data d; char *section; } *data[2] = {
+    (void *) elf_getdata (elf_getscn (elf, SYMBOLS), NULL),
+    (void *) elf_getdata_rawchunk (elf, 0, 8, ELF_T_BYTE)
+  };
+  for (int i = 0; i < 2; i++)
+    {
+      Elf *found = NULL;
+      CHECK (data[i] != NULL && data[i]->section != NULL);
+      memcpy (&found, data[i]->section + 0x88, sizeof found);
+      CHECK (found == elf);
+    }
+}
+
 static void
 read_image (const struct image *m)
 {
@@ -87,6 +105,8 @@ read_image (const struct image *m)
   CHECK (count == IMAGE_SECTIONS - 1);
   read_symbols (elf);
   read_others (elf);
+  find_descriptor (elf);
+  CHECK (elf_getscn (elf, 0) != NULL && elf_ndxscn (elf_getscn (elf, 0)) == 0);
   CHECK (elf_begin (-1, ELF_C_READ, elf) == elf && elf_end (elf) == 1);
   CHECK (elf_end (elf) == 0);
   free (copy);
@@ -126,10 +146,25 @@ read_cut (struct image *m)
   CHECK (elf != NULL && elf_kind (elf) == ELF_K_NONE && elf_end (elf) == 0);
 }
 
+/* The messages of the numbers have the texts that elfutils' library has. */
+static void
+check_messages (void)
+{
+  CHECK (strcmp (elf_errmsg (15), "invalid fmag field in archive header") == 0);
+  CHECK (strcmp (elf_errmsg (25), "invalid command") == 0);
+  CHECK (strcmp (elf_errmsg (39), "no such file") == 0);
+  CHECK (strcmp (elf_errmsg (41), "program header only allowed in executables, shared objects, "
+                                  "and core files") == 0);
+  CHECK (strcmp (elf_errmsg (43), "invalid offset") == 0);
+  CHECK (strcmp (elf_errmsg (50), "cannot decompress data") == 0);
+  CHECK (strcmp (elf_errmsg (1000), "unknown error") == 0);
+}
+
 int
 main (void)
 {
   struct image m;
+  check_messages ();
   Elf *none = elf_memory ((char *) &m, 0);
   CHECK (none != NULL && elf_kind (none) == ELF_K_NONE && elf_end (none) == 0);
   CHECK (elf_begin (0, ELF_C_READ, NULL) == NULL && elf_errno () != 0);

@@ -58,6 +58,21 @@ store_headers (Elf *elf)
   CHECK (elf_scnshndx (elf_getscn (elf, SYMBOLS)) == STRINGS);
 }
 
+/* A move record, in the class's form, in a chunk of the image. */
+static void
+store_moves (Elf *elf)
+{
+  GElf_Move move = { .m_value = 0x1122334455667788, .m_info = 0x0708, .m_poffset = 0x99,
+                     .m_repeat = 3, .m_stride = 5 }, again;
+  Elf_Data *data = elf_getdata_rawchunk (elf, 0, gelf_fsize (elf, ELF_T_MOVE, 2, EV_CURRENT),
+                                         ELF_T_MOVE);
+  CHECK (data != NULL && gelf_update_move (data, 1, &move) == 1);
+  memset (&again, 0, sizeof again);
+  CHECK (gelf_getmove (data, 1, &again) == &again && again.m_value == move.m_value);
+  CHECK (again.m_info == 0x0708 && again.m_poffset == 0x99 && again.m_repeat == 3);
+  CHECK (again.m_stride == 5 && gelf_getmove (data, 2, &again) == NULL && elf_errno () != 0);
+}
+
 /* A program that writes into the buffer says so, and reads what it wrote. */
 static void
 write_buffer (Elf *elf)
@@ -83,6 +98,7 @@ main (void)
       store_symbols (elf);
       store_relocations (elf);
       store_headers (elf);
+      store_moves (elf);
       write_buffer (elf);
       CHECK (elf_update (elf, ELF_C_NULL) == -1 && elf_errno () != 0);
       CHECK (elf_end (elf) == 0);

@@ -186,6 +186,8 @@ grow_in_place (struct image *m)
   CHECK (elf_ndxscn (added) == IMAGE_SECTIONS);
   set_header (added, 1, SHT_PROGBITS, 0);
   add_data (added, ELF_T_BYTE, more, 4, 1);
+  CHECK (strcmp (elf_strptr (elf, STRINGS, 7), "second") == 0);
+  CHECK (elf_strptr (elf, IMAGE_SECTIONS, 1) == NULL && elf_errno () != 0);
   CHECK (gelf_getehdr (elf, &ehdr) == &ehdr);
   ehdr.e_flags = 3;
   CHECK (gelf_update_ehdr (elf, &ehdr) == 1);
@@ -211,6 +213,68 @@ grow_in_place (struct image *m)
         }
     }
   CHECK (elf_end (elf) == 0);
+  close (fd);
+}
+
+/* Sets the section of the names, whose number does not fit the ELF header. */
+static void
+set_names (Elf *elf, GElf_Word index)
+{
+  GElf_Ehdr ehdr;
+  GElf_Shdr first;
+  CHECK (gelf_getshdr (elf_getscn (elf, 0), &first) == &first);
+  first.sh_link = index;
+  CHECK (gelf_update_shdr (elf_getscn (elf, 0), &first) == 1);
+  CHECK (gelf_getehdr (elf, &ehdr) == &ehdr);
+  ehdr.e_shstrndx = SHN_XINDEX;
+  CHECK (gelf_update_ehdr (elf, &ehdr) == 1);
+}
+
+/* Adds so many sections, with no data. */
+static void
+add_sections (Elf *elf, GElf_Word type, size_t count)
+{
+  for (size_t i = 0; i < count; i++)
+    set_header (elf_newscn (elf), 0, type, 0);
+}
+
+/* An image has more sections than its ELF header can tell; the numbers are in section 0, which is
+   there before any other is made. Another section of names is chosen in place. */
+static void
+number_many (int is64, int msb)
+{
+  enum { MANY = SHN_LORESERVE + 7 };
+  int fd = file_of ("", 0);
+  GElf_Ehdr ehdr;
+  size_t index, count;
+  Elf *elf = elf_begin (fd, ELF_C_WRITE, NULL);
+  CHECK (gelf_newehdr (elf, is64 ? ELFCLASS64 : ELFCLASS32) != NULL);
+  CHECK (gelf_getehdr (elf, &ehdr) == &ehdr);
+  ehdr.e_ident[EI_DATA] = msb ? ELFDATA2MSB : ELFDATA2LSB;
+  ehdr.e_shstrndx = SHN_XINDEX;
+  CHECK (gelf_update_ehdr (elf, &ehdr) == 1);
+  CHECK (elf_getshdrstrndx (elf, &index) == -1 && elf_errno () != 0);
+  set_names (elf, MANY - 1);
+  CHECK (elf_getshdrnum (elf, &count) == 0 && count == 1);
+  add_sections (elf, SHT_STRTAB, MANY - 1);
+  CHECK (elf_getshdrstrndx (elf, &index) == 0 && index == MANY - 1);
+  CHECK (elf_update (elf, ELF_C_WRITE) > 0 && elf_end (elf) == 0);
+  for (size_t names = MANY - 1; names < MANY + 1; names++)
+    {
+      elf = elf_begin (fd, ELF_C_RDWR, NULL);
+      CHECK (gelf_getehdr (elf, &ehdr) == &ehdr && ehdr.e_shnum == 0);
+      CHECK (ehdr.e_shstrndx == SHN_XINDEX);
+      CHECK (elf_getshdrstrndx (elf, &index) == 0 && index == names);
+      CHECK (elf_getshdrnum (elf, &count) == 0 && count == names + 1);
+      CHECK (gelf_update_ehdr (elf, &ehdr) == 1);
+      CHECK (elf_getshdrstrndx (elf, &index) == 0 && index == names);
+      add_sections (elf, SHT_STRTAB, 1);
+      set_names (elf, names + 1);
+      CHECK (elf_getshdrstrndx (elf, &index) == 0 && index == names + 1);
+      CHECK (elf_update (elf, ELF_C_WRITE) > 0);
+      CHECK (elf_getshdrstrndx (elf, &index) == 0 && index == names + 1);
+      CHECK (elf_end (elf) == 0);
+    }
   close (fd);
 }
 
@@ -286,6 +350,7 @@ main (void)
       struct image m;
       make_image (&m, kind & 1, kind >> 1);
       write_anew (kind & 1, kind >> 1);
+      number_many (kind & 1, kind >> 1);
       change_in_place (&m);
       grow_in_place (&m);
       clone_in_place (&m);

@@ -1,10 +1,11 @@
 //! The name of a member.
 
-ghost use Rattle.std.specs.Prelude.{◌≡◌, ◌==◌, ◌≤◌, length, position};
+ghost use Rattle.std.specs.Prelude.{◌≡◌, ◌≤◌, length};
 ghost use Rattle.std.specs.Option.{option_copied};
 ghost use Rattle.ar_members.specs.Names.{trimmed_of, up_to_end, kind_of_name, short_name_of, long_name_of};
 
 use crate::numbers::number;
+use byte_search::find_byte;
 
 /// The name of the table of symbols.
 const SYMBOLS: &[u8] = b"/";
@@ -31,13 +32,6 @@ pub enum NameKind {
     Long(u64),
     /// The name stands in the field.
     Short,
-}
-
-/// The first place of a byte, or None where it is not there.
-pub fn place_of(bytes: &[u8], b: u8) -> Option<usize>
-    ensures { result ≡ position (λ x. x == b) bytes.now }
-{
-    bytes.iter().position(|x| *x == b)
 }
 
 /// A field without its trailing spaces.
@@ -85,7 +79,7 @@ pub fn short_name(field: &[u8]) -> &[u8]
     if name.starts_with(b"#1/") {
         return name;
     }
-    match place_of(name, b'/') {
+    match find_byte(name, b'/') {
         Some(end) => &name[..end],
         None => name,
     }

@@ -9,7 +9,8 @@ ghost use Rattle.ar_members.specs.Headers.{BodyLies, IsBadAt};
 ghost use Rattle.ar_members.specs.Symbols.{be_word, symbols_from, symbols_of, first_symbols, arsyms, first_asks, symbols_due};
 
 use crate::headers::{FIRST, HEADER_LEN, Header, read_header};
-use crate::names::{NameKind, name_kind, place_of};
+use crate::names::{NameKind, name_kind};
+use byte_search::find_byte;
 use elf_outside::Source;
 use elf_outside::reads::read_range;
 use elf_types::{ElfError, List, Octets};
@@ -56,7 +57,7 @@ fn named_symbols(
     let mut symbols = ArSyms::with_capacity(alloc, u64::from(count))?;
     let mut rest = names;
     for i in 0..count as usize {
-        let Some(end) = place_of(rest, 0) else {
+        let Some(end) = find_byte(rest, 0) else {
             return Err(BAD_TABLE);
         };
         let at = u64::from(word(&offsets[4 * i..]));

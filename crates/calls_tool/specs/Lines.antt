@@ -1,5 +1,5 @@
 -- The lines of answers. A number after `0x` is hexadecimal, any other is decimal.
-use Rattle.std.specs.Prelude.{◌++◌, ℕ, ◌/◌, ◌%◌, List, [], ◌∷◌, flat_map, slice_index, codes, decimal}
+use Rattle.std.specs.Prelude.{◌++◌, ℕ, List, [], ◌∷◌, flat_map, codes, decimal}
 use Rattle.std.specs.Fmt.{signed_decimal}
 use Rattle.elf_types.specs.declared.records.Class.{Class}
 use Rattle.elf_types.specs.declared.records.Class.TheVariants.{C32, C64}
@@ -16,6 +16,7 @@ use Rattle.elf_types.specs.declared.records.Rela.{Rela as RelaRecord}
 use Rattle.elf_types.specs.declared.records.Dyn.{Dyn as DynRecord}
 use Rattle.elf_types.specs.declared.errors.ElfError.{ElfError}
 use Rattle.elf_types.specs.Text.{hex, kind_text, part_text, error_text}
+use Rattle.number_columns.specs.HexPairs.{hex_pair}
 use Rattle.calls_apply.specs.declared.answers.Item.{Item as ItemRecord}
 use Rattle.calls_apply.specs.declared.answers.Item.TheVariants as items
 use Rattle.gelf_view.specs.declared.notes.NoteAt.{NoteAt}
@@ -38,13 +39,6 @@ column_text text number = text ++ number_text number
 
 abbrev pub columns_text : List (List ℕ × Number) → List ℕ
 columns_text columns = flat_map (λ c. column_text c.0 c.1) columns
-
-unfoldable pub hex_digits : List ℕ
-hex_digits = codes "0123456789abcdef"
-
--- a byte, by two digits
-unfoldable pub hex_pair : ℕ → List ℕ
-hex_pair b = slice_index hex_digits (b / 16) ∷ slice_index hex_digits (b % 16) ∷ []
 
 -- bytes, or `-` for none
 unfoldable pub bytes_text : List ℕ → List ℕ

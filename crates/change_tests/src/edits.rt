@@ -1,10 +1,8 @@
 //! Scripts whose image is written into the file.
 
-use crate::images::{
-    ADDED, CUT, FIVE, GROWN, NARROW_ADDED, NARROW_FIVE, NARROW_GROWN, NARROW_OBJECT,
-};
+use crate::images::{ADDED, CUT, NARROW_ADDED, NARROW_FIVE, NARROW_GROWN, NARROW_OBJECT};
 use std::alloc::Global;
-use test_cases::{Bad, Case, Found, GOOD, Held, RUN, Stored, are_so, is_so};
+use test_cases::{Bad, Case, FIVE, Found, GOOD, GROWN, Held, RUN, Stored, are_so, is_so};
 use test_images::{OBJECT, Put};
 use test_runs::{DONE, Ending, REFUSED};
 
@@ -20,6 +18,7 @@ pub const KEPT: Case = Case {
     file: Stored::Image(OBJECT),
     name: "F",
     held: Held::Before,
+    second: "O",
     ..RUN
 };
 

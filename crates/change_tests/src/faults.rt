@@ -6,12 +6,13 @@ use test_cases::{Bad, Call, Case, GOOD, Held, Outcome, State, are_so, fail_so, i
 use test_runs::{DONE, Ending, Failing, NOTHING};
 use tool_output::Status;
 
-/// A write failed, and each byte of the file is that before or that after: so many times.
+/// A write failed, and each byte of the file is that before or that after; the other file is as it
+/// was: so many times.
 fn torn(times: u64) -> Outcome {
     Outcome {
         status: Status::WriteFailed,
         held: State::Torn,
-        also: State::Any,
+        also: State::Before,
         least: times,
         most: times,
     }
@@ -37,13 +38,13 @@ fn a_write_that_fails_leaves_each_byte_old_or_new(rt: HostRuntime) {
 /// the section headers.
 const FRONT_READS: u64 = 4;
 
-/// A read failed, and the file is as before: so many times besides those of the front.
+/// A read failed, and both files are as before: so many times besides those of the front.
 fn unread(times: u64) -> Outcome {
     let reads = FRONT_READS.saturating_add(times);
     Outcome {
         status: Status::ReadFailed,
         held: State::Before,
-        also: State::Any,
+        also: State::Before,
         least: reads,
         most: reads,
     }

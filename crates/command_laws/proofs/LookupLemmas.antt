@@ -17,7 +17,7 @@ use Rattle.elf_object.specs.Runs.{more_sym}
 use Rattle.elf_object.specs.Strings.{is_name, readable, symbol_name as name_of_symbol}
 use Rattle.strtab_build.proofs.DistinctLemmas.{other_sym, same_refl}
 use Rattle.command_objects.specs.Generated.{zero_sym, generated_sym, symbols_in, five_lines, told_lines}
-use Rattle.command_objects.specs.Listed.{listed_name, listed_names, find_linear_answer}
+use Rattle.hash_model.specs.Listed.{listed_name, listed_names, find_linear_answer}
 use Rattle.command_laws.specs.SelftestSizes.{triangle, selftest_sum, selftest_bytes, selftest_lines}
 use Rattle.command_laws.proofs.NumberLemmas.{sum_to, sum_to-next, triangle-next}
 use Rattle.command_laws.proofs.NameLemmas.{symbol_name, symbol_names_are}

@@ -5,7 +5,7 @@ use Rattle.std.proofs.Math.ListN.{get_or-map}
 use Rattle.elf_types.specs.declared.records.Kind.{Kind}
 use Rattle.elf_types.specs.declared.records.Shdr.{Shdr}
 use Rattle.elf_object.specs.Object.{Section, Piece, absent_section}
-use Rattle.command_objects.specs.Words.{is_allocated}
+use Rattle.elf_object.specs.Sections.{is_allocated}
 use Rattle.command_objects.specs.KeepingLaws.{SameSection}
 
 -- what is compared of a section: its place counts where it is allocated, in a program

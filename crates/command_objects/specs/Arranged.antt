@@ -16,7 +16,7 @@ use Rattle.elf_object.specs.Object.{Object, Section, is_null}
 use Rattle.elf_object.specs.Open.{created, created_over}
 use Rattle.elf_object.specs.Layout.{section_numbers, section_part, table_part}
 use Rattle.elf_object.specs.Steps.{with_ehdr, with_layout}
-use Rattle.command_objects.specs.Words.{is_allocated, is_program, header_at, greatest}
+use Rattle.elf_object.specs.Sections.{is_allocated, is_program, header_at, greatest}
 
 -- an object that is made anew, and for a program the place from which on what is not loaded stands
 pub record Rebuilt : Type 0 where

@@ -14,7 +14,7 @@ use Rattle.elf_object.specs.Joined.{pieces_end}
 use Rattle.elf_object.specs.Layout.{section_numbers}
 use Rattle.elf_object.specs.Steps.{with_own, new_number}
 use Rattle.elf_object.specs.Calls.{newscn, newdata, update_shdr, replace}
-use Rattle.command_objects.specs.Words.{is_allocated, is_program, header_at, edited, in_turn}
+use Rattle.elf_object.specs.Sections.{is_allocated, is_program, header_at, edited, in_turn}
 use Rattle.elf_object.specs.Strings.{section_name, is_name, or_empty_name}
 use Rattle.command_objects.specs.Removed.{removed_by_name}
 use Rattle.command_objects.specs.Arranged.{Rebuilt, arranged}

@@ -12,7 +12,7 @@ use Rattle.elf_object.specs.Object.{Object}
 use Rattle.elf_object.specs.Answers.{items_at, words_of, syms_of}
 use Rattle.elf_object.specs.Layout.{section_numbers}
 use Rattle.elf_object.specs.SymbolSections.{is_extended}
-use Rattle.command_objects.specs.Words.{is_loose, info_is_section, header_at, is_among, first_of, number_or_0}
+use Rattle.elf_object.specs.Sections.{is_loose, info_is_section, header_at, is_among, first_of, number_or_0}
 
 -- ---- The map
 

@@ -19,7 +19,7 @@ use Rattle.elf_object.specs.Calls.{step}
 use Rattle.elf_object.specs.Runs.{addall}
 use Rattle.elf_object.specs.Answers.{items_at, syms_of}
 use Rattle.command_objects.specs.Rebuilt.{made_section}
-use Rattle.command_objects.specs.Listed.{find_linear_answer}
+use Rattle.hash_model.specs.Listed.{find_linear_answer}
 
 -- ---- Names
 

@@ -10,7 +10,7 @@ use Rattle.elf_object.specs.Object.{Object, Section, section_at}
 use Rattle.elf_object.specs.Open.{opened}
 use Rattle.elf_object.specs.Refusal.{refusal}
 use Rattle.elf_types.specs.Lists.{AreBytes}
-use Rattle.command_objects.specs.Words.{is_allocated, is_program, header_at, is_among, in_turn}
+use Rattle.elf_object.specs.Sections.{is_allocated, is_program, header_at, is_among, in_turn}
 use Rattle.elf_object.specs.Strings.{section_name, or_empty_name}
 use Rattle.command_objects.specs.Removed.{removed_sections, removed_by_name}
 use Rattle.command_objects.specs.Arranged.{Rebuilt}

@@ -18,18 +18,18 @@ use Rattle.elf_object.specs.Answers.{items_at, syms_of, rels_of, relas_of}
 use Rattle.elf_object.specs.Derived.{where_any}
 use Rattle.elf_types.specs.Lists.{AreBytes}
 use Rattle.elf_object.specs.Valid.{IsObject}
-use Rattle.command_objects.specs.Words.{header_at}
+use Rattle.elf_object.specs.Sections.{header_at}
 use Rattle.command_objects.specs.Arranged.{Rebuilt}
 use Rattle.command_objects.specs.Rebuilt.{rebuilt, stripped}
 use Rattle.command_objects.specs.Copied.{Changes, copied}
 use Rattle.command_objects.specs.Split.{debug_of, unstripped}
 use Rattle.command_objects.specs.Files.{file_of, file_made}
-use Rattle.command_objects.specs.Listed.{listed_names, find_linear_answer}
-use Rattle.command_objects.specs.HashSections.{is_whole_sysv, is_whole_gnu}
-use Rattle.command_objects.specs.Hashes.{gnu_hash}
-use Rattle.command_objects.specs.BuiltHashes.{GnuShape, buckets_of, gnu_order_of, first_unsorted, build_sysv_answer, build_gnu_answer}
+use Rattle.hash_model.specs.Listed.{listed_names, find_linear_answer}
+use Rattle.hash_model.specs.HashSections.{is_whole_sysv, is_whole_gnu}
+use Rattle.hash_model.specs.Hashes.{gnu_hash}
+use Rattle.hash_model.specs.BuiltHashes.{GnuShape, buckets_of, gnu_order_of, first_unsorted, build_sysv_answer, build_gnu_answer}
 use Rattle.command_objects.specs.Rehashed.{dynamic_symbols, rehashed}
-use Rattle.command_objects.specs.Reordered.{reordered}
+use Rattle.hash_model.specs.Reordered.{reordered}
 
 -- ---- What is made is an object
 

@@ -1,13 +1,7 @@
-pub mod Words
 pub mod Removed
 pub mod Followed
 pub mod Arranged
 pub mod Rebuilt
-pub mod Hashes
-pub mod Listed
-pub mod HashSections
-pub mod BuiltHashes
-pub mod Reordered
 pub mod Rehashed
 pub mod Copied
 pub mod Split

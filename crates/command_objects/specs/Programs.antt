@@ -23,9 +23,9 @@ use Rattle.command_objects.specs.Split.{debug_half}
 use Rattle.command_objects.specs.Followed.{Renumbering}
 use Rattle.std.specs.List.{range_with_len}
 use Rattle.command_objects.specs.Rehashed.{rehashed, smallest_shape}
-use Rattle.command_objects.specs.Listed.{listed_names}
-use Rattle.command_objects.specs.HashSections.{is_whole_sysv, is_whole_gnu}
-use Rattle.command_objects.specs.BuiltHashes.{GnuShape, build_sysv_answer, build_gnu_answer}
+use Rattle.hash_model.specs.Listed.{listed_names}
+use Rattle.hash_model.specs.HashSections.{is_whole_sysv, is_whole_gnu}
+use Rattle.hash_model.specs.BuiltHashes.{GnuShape, build_sysv_answer, build_gnu_answer}
 use Rattle.elf_object.specs.Answers.{items_at, words_of, bytes_of}
 use Rattle.command_objects.specs.Files.{file_of, file_made}
 use Rattle.command_objects.specs.Generated.{zero_sym}

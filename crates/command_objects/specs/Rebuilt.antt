@@ -14,7 +14,7 @@ use Rattle.elf_object.specs.Answers.{items_at, words_of, raw_refusal, data_refus
 use Rattle.elf_object.specs.Steps.{with_ehdr, with_phdrs, with_sections, own_piece}
 use Rattle.elf_object.specs.Calls.{newphdr_refusal, update_ehdr_refusal}
 use Rattle.elf_object.specs.Strings.{section_name, or_empty_name}
-use Rattle.command_objects.specs.Words.{is_allocated, header_at, is_among}
+use Rattle.elf_object.specs.Sections.{is_allocated, header_at, is_among}
 use Rattle.command_objects.specs.Removed.{removed_sections, linking_to}
 use Rattle.command_objects.specs.Followed.{renumbering, kept_sections, kept_from_1, followed, followed_header, followed_group, followed_syms, followed_words, symbols_follow, members_follow, indexes_follow, words_for, syms_in}
 use Rattle.command_objects.specs.Arranged.{Rebuilt, tail_of, over_base, arranged}

@@ -13,10 +13,10 @@ use Rattle.elf_object.specs.Object.{Object}
 use Rattle.elf_object.specs.Answers.{bytes_of, words_of}
 use Rattle.elf_object.specs.Steps.{with_layout}
 use Rattle.elf_object.specs.Calls.{data_answer, replace}
-use Rattle.command_objects.specs.Words.{is_of, is_program, edited}
-use Rattle.command_objects.specs.HashSections.{gnu_head}
-use Rattle.command_objects.specs.BuiltHashes.{GnuShape, gnu_order_answer, build_gnu_answer, build_sysv_answer}
-use Rattle.command_objects.specs.Reordered.{reordered, reorder_refusal}
+use Rattle.elf_object.specs.Sections.{is_of, is_program, edited}
+use Rattle.hash_model.specs.HashSections.{gnu_head}
+use Rattle.hash_model.specs.BuiltHashes.{GnuShape, gnu_order_answer, build_gnu_answer, build_sysv_answer}
+use Rattle.hash_model.specs.Reordered.{reordered, reorder_refusal}
 
 -- ---- The sections
 

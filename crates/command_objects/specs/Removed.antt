@@ -7,7 +7,7 @@ use Rattle.elf_types.specs.declared.constants.TheConstants.{SHT_SYMTAB, SHT_STRT
 use Rattle.elf_object.specs.Object.{Object}
 use Rattle.elf_object.specs.Layout.{section_numbers}
 use Rattle.elf_object.specs.Strings.{section_name, is_name}
-use Rattle.command_objects.specs.Words.{is_allocated, is_relocations, header_at, is_among}
+use Rattle.elf_object.specs.Sections.{is_allocated, is_relocations, header_at, is_among}
 
 -- the sections that may be removed
 unfoldable pub removable : Object → List ℕ

@@ -21,7 +21,7 @@ use Rattle.elf_object.specs.Answers.{raw_refusal}
 use Rattle.elf_object.specs.Layout.{section_numbers}
 use Rattle.elf_object.specs.Due.{all_sections}
 use Rattle.elf_object.specs.Calls.{newphdr_refusal}
-use Rattle.command_objects.specs.Words.{is_allocated, header_at, first_of}
+use Rattle.elf_object.specs.Sections.{is_allocated, header_at, first_of}
 use Rattle.command_objects.specs.Arranged.{Rebuilt, tail_of, over_base, arranged}
 use Rattle.command_objects.specs.Rebuilt.{made_section, assembled, index_refusal}
 

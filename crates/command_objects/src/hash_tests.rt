@@ -8,11 +8,11 @@ ghost use Rattle.elf_object.specs.Answers.{items_at, bytes_of, halves_of, words_
 ghost use Rattle.elf_types.specs.declared.errors.ElfError.TheVariants.{Unsorted};
 ghost use Rattle.command_objects.specs.Programs.{a_shared_object, rehashed_again, small_shape, small_hash, two_buckets, two_buckets_hash, has_whole_sysv, has_whole_gnu, has_whole_gnu_32, words_32};
 ghost use Rattle.elf_object.specs.Due.{all_sections};
-ghost use Rattle.command_objects.specs.HashSections.{is_whole_sysv};
-ghost use Rattle.command_objects.specs.Hashes.{elf_hash, gnu_hash};
-ghost use Rattle.command_objects.specs.Listed.{listed_names, find_linear_answer};
-ghost use Rattle.command_objects.specs.BuiltHashes.{build_sysv_answer, build_gnu_answer, gnu_order_answer};
-ghost use Rattle.command_objects.specs.Reordered.{reordered, reorder_refusal};
+ghost use Rattle.hash_model.specs.HashSections.{is_whole_sysv};
+ghost use Rattle.hash_model.specs.Hashes.{elf_hash, gnu_hash};
+ghost use Rattle.hash_model.specs.Listed.{listed_names, find_linear_answer};
+ghost use Rattle.hash_model.specs.BuiltHashes.{build_sysv_answer, build_gnu_answer, gnu_order_answer};
+ghost use Rattle.hash_model.specs.Reordered.{reordered, reorder_refusal};
 ghost use Rattle.command_objects.specs.Rehashed.{rehashed};
 ghost use Rattle.command_objects.specs.Rehashed.RehashFault.{NoDynamicHash};
 

@@ -5,6 +5,8 @@
 #[cfg(test)]
 mod archives;
 #[cfg(test)]
+mod bad_members;
+#[cfg(test)]
 mod calls;
 #[cfg(test)]
 mod elflint;

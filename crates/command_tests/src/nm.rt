@@ -1,10 +1,10 @@
 //! What nm shows: rows and their letters, their order, and the names before them.
 
-use crate::archives::{CUT, LIBRARY};
+use crate::archives::{BACK, CUT, FRONT, LIBRARY};
 use elf_types::constants::{SHT_STRTAB, SHT_SYMTAB, SHT_SYMTAB_SHNDX};
 use elf_types::{ElfError, Shdr};
 use std::alloc::Global;
-use test_cases::{Case, RUN, Stored, are_so};
+use test_cases::{Case, Portion, RUN, Stored, are_so};
 use test_images::{
     Field, NARROW, NULL_SECTION, OBJECT, Put, Recipe, SectionField, Start, WIDE, image_of,
 };
@@ -37,7 +37,7 @@ const CONSTANTS: Recipe = Recipe {
 };
 
 /// The object as it is, of which nothing is listed.
-const SAME: Case = Case {
+pub const SAME: Case = Case {
     line: "nm F",
     file: Stored::Image(OBJECT),
     ..RUN

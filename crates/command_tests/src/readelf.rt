@@ -1,6 +1,6 @@
 //! What readelf shows, and which fronts it refuses.
 
-use elf_types::constants::{EI_CLASS, EI_DATA, EI_VERSION, SHN_XINDEX};
+use elf_types::constants::{EI_CLASS, EI_DATA, EI_VERSION, PN_XNUM, SHN_XINDEX};
 use elf_types::{Class, Order, Phdr};
 use test_cases::{Case, RUN, Stored, are_so, are_so_in_all_forms, is_so};
 use test_images::{Field, Form, HeaderField, NARROW, OBJECT, Put, Recipe, SectionField, Start};
@@ -119,6 +119,12 @@ const NO_SECTIONS: Ending = Ending {
     ..REFUSED
 };
 
+/// The message that refuses one whose program headers do not.
+const NO_SEGMENTS: Ending = Ending {
+    err: b"readelf: F: bad program header table\n",
+    ..REFUSED
+};
+
 /// The header of an object.
 const FRONT: Case = Case {
     line: "readelf -h F",
@@ -128,7 +134,15 @@ const FRONT: Case = Case {
 };
 
 /// Damage of the header's fields, in the order of the checks, and the message.
-static DAMAGES: [Case; 8] = [
+static DAMAGES: [Case; 12] = [
+    Case {
+        file: Stored::Changed(OBJECT, Put::Field(Field::Ident(0), 0x7e)),
+        ending: Ending {
+            err: b"readelf: F: not an ELF image\n",
+            ..REFUSED
+        },
+        ..FRONT
+    },
     Case {
         file: Stored::Changed(OBJECT, Put::Field(Field::Ident(EI_CLASS), 3)),
         ending: Ending {
@@ -162,9 +176,20 @@ static DAMAGES: [Case; 8] = [
         ..FRONT
     },
     Case {
+        file: Stored::Changed(OBJECT, Put::Field(Field::Header(HeaderField::Shoff), 0)),
+        ..FRONT
+    },
+    Case {
         file: Stored::Changed(
             OBJECT,
             Put::Field(Field::Header(HeaderField::Shoff), 0xffff_ffff),
+        ),
+        ..FRONT
+    },
+    Case {
+        file: Stored::Changed(
+            OBJECT,
+            Put::Field(Field::Header(HeaderField::Shoff), u64::MAX),
         ),
         ..FRONT
     },
@@ -181,10 +206,15 @@ static DAMAGES: [Case; 8] = [
     },
     Case {
         file: Stored::Changed(OBJECT, Put::Field(Field::Header(HeaderField::Phnum), 1)),
-        ending: Ending {
-            err: b"readelf: F: bad program header table\n",
-            ..REFUSED
-        },
+        ending: NO_SEGMENTS,
+        ..FRONT
+    },
+    Case {
+        file: Stored::Changed(
+            OBJECT,
+            Put::Field(Field::Header(HeaderField::Phnum), PN_XNUM as u64),
+        ),
+        ending: NO_SEGMENTS,
         ..FRONT
     },
 ];

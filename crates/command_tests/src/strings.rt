@@ -3,14 +3,14 @@
 use elf_types::constants::{SHF_ALLOC, SHT_PROGBITS};
 use elf_types::{ElfError, Octets, Shdr};
 use std::alloc::Global;
-use test_cases::{Case, RUN, Stored, are_so};
+use test_cases::{Case, Portion, RUN, Stored, are_so};
 use test_images::{Field, NULL_SECTION, Put, Recipe, SectionField, Start, WIDE};
 use test_runs::{DONE, Ending, NOTHING, REFUSED, run_line, strings_of};
 use tool_output::Status;
 use tool_text::{Radix, StringsOptions};
 
 /// Words, the bytes of the file F, and what is shown.
-static SHOWN: [Case; 8] = [
+static SHOWN: [Case; 9] = [
     Case {
         line: "strings -t d F",
         file: Stored::Bytes(b"abc\0abcd\0a\tbc\0wxyz"),
@@ -34,6 +34,15 @@ static SHOWN: [Case; 8] = [
         file: Stored::Bytes(b"\0\0\0\0\0\0\0\0\0\0abcd\n"),
         ending: Ending {
             out: b"      a abcd\n",
+            ..DONE
+        },
+        ..RUN
+    },
+    Case {
+        line: "strings -t d F",
+        file: Stored::Portions(&[Portion::Fill(0, 4094), Portion::Bytes(b"abcd")]),
+        ending: Ending {
+            out: b"   4094 abcd\n",
             ..DONE
         },
         ..RUN

@@ -24,7 +24,7 @@ use Rattle.elf_object.specs.Steps.{own_piece}
 use Rattle.elf_object.specs.Valid.{IsObject}
 use Rattle.elf_object.proofs.PassedLaws.{not_refused}
 use Rattle.object_laws.proofs.StandLaws.{section_at-past}
-use Rattle.command_objects.specs.Words.{header_at, is_among, is_of, is_loose, is_allocated}
+use Rattle.elf_object.specs.Sections.{header_at, is_among, is_of, is_loose, is_allocated}
 use Rattle.command_objects.specs.Followed.{kept_sections, kept_from_1, followed_header, symbols_follow, members_follow, indexes_follow, extended_table, has_indexes_of, is_the}
 use Rattle.command_objects.specs.Arranged.{Rebuilt, place_from, section_from, placed_from}
 use Rattle.command_objects.specs.Rebuilt.{rebuilt, made_section, kept_items, kept_names, rebuilt_items, rebuilt_header, rebuilt_section, rebuilt_sections, rebuilt_object, rebuilt_tail, renews_names}

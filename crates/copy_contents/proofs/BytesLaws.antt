@@ -14,7 +14,7 @@ use Rattle.elf_object.specs.Calls.{replace}
 use Rattle.elf_object.specs.Steps.{with_section, with_piece_at, with_own}
 use Rattle.elf_object.specs.Strings.{section_name, string_answer, readable, is_name}
 use Rattle.elf_object.proofs.StepLaws.{section_at-with_own, section_at-with_own_other, section_count-with_own}
-use Rattle.command_objects.specs.Words.{edited}
+use Rattle.elf_object.specs.Sections.{edited}
 use Rattle.command_objects.specs.Copied.{CopyFault as StatedFault, names_in, section_named, update_fault, or_strip, with_bytes}
 use Rattle.copy_laws.proofs.EachChange.{updated_known}
 use Rattle.sought_names.specs.declared.sections.NameIndex.{NameIndex}

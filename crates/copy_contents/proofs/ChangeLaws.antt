@@ -1,7 +1,7 @@
 -- All changes of what was gathered, one kind after the other.
 use Rattle.std.proofs.Common.{ℕ, Bool, List, Result, Ok, Err, refl}
 use Rattle.elf_object.specs.Object.{Object}
-use Rattle.command_objects.specs.Words.{in_turn}
+use Rattle.elf_object.specs.Sections.{in_turn}
 use Rattle.command_objects.specs.Copied.{CopyFault as StatedFault, names_in, with_name, with_bytes, with_section_flags, with_added, changes_names, with_changes}
 use Rattle.strip_contents.specs.declared.arranged.Arranged.{Arranged}
 use Rattle.copy_changes.specs.declared.changes.Changes.{Changes}

@@ -21,7 +21,7 @@ use Rattle.elf_object.specs.Calls as calls
 use Rattle.elf_object.specs.Steps.{with_section, with_piece_at, with_own, with_shdr, own_piece}
 use Rattle.elf_object.specs.Valid.{IsObject}
 use Rattle.object_laws.proofs.KeepLaws.{replace_keeps, update_shdr_keeps}
-use Rattle.command_objects.specs.Words.{header_at, edited}
+use Rattle.elf_object.specs.Sections.{header_at, edited}
 use Rattle.command_objects.specs.Copied.{or_strip}
 use Rattle.strip_laws.proofs.CopyLaws.{edited_keeps}
 use Rattle.strip_laws.proofs.MadeSections.{bytes_encoded}

@@ -12,7 +12,7 @@ use Rattle.elf_object.specs.Joined.{file_bytes}
 use Rattle.elf_object.specs.Steps.{own_piece}
 use Rattle.object_laws.proofs.ImageLaws.{joined-none}
 use Rattle.object_laws.proofs.StandLaws.{file_bytes_when}
-use Rattle.command_objects.specs.Words.{header_at}
+use Rattle.elf_object.specs.Sections.{header_at}
 use Rattle.command_objects.specs.Arranged.{placed_from}
 use Rattle.strip_laws.proofs.ArrangedLaws.{placed_from_is}
 use Rattle.strip_laws.proofs.WritableLaws.{OwnFits, HasOwnPieces, HasContent, is_writable, placed_content}

@@ -23,7 +23,7 @@ use Rattle.elf_object.specs.Steps.{with_section, with_sections, with_shdr, with_
 use Rattle.elf_object.specs.Valid.{IsObject}
 use Rattle.elf_object.proofs.StepLaws.{section_count-with_section, section_at-with_section, section_at-with_section_other, section_at-with_shdr, section_at-with_shdr_other}
 use Rattle.object_laws.proofs.KeepLaws.{zero_shdr_is, newscn_keeps, update_shdr_keeps, newdata_keeps}
-use Rattle.command_objects.specs.Words.{edited}
+use Rattle.elf_object.specs.Sections.{edited}
 use Rattle.command_objects.specs.Copied.{CopyFault as StatedFault, or_strip, added_header, with_added}
 use Rattle.strip_laws.proofs.CopyLaws.{edited_keeps}
 use Rattle.object_making.proofs.RefusedLaws.{alone, passes_first}

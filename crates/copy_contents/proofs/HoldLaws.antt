@@ -18,7 +18,7 @@ use Rattle.elf_object.specs.Calls.{home_answer}
 use Rattle.elf_object.proofs.AnswerLaws.{home_value}
 use Rattle.elf_descriptor.specs.State.{State}
 use Rattle.object_laws.proofs.StandLaws.{section_at-past}
-use Rattle.command_objects.specs.Words.{header_at}
+use Rattle.elf_object.specs.Sections.{header_at}
 use Rattle.copy_laws.proofs.RenewedNames.{strings_fill}
 use Rattle.image_ranges.specs.declared.ranges.ByteRange.{ByteRange}
 use Rattle.image_ranges.specs.Ranges.{range_bytes}

@@ -15,7 +15,7 @@ use Rattle.elf_object.specs.Calls as calls
 use Rattle.elf_object.specs.Steps.{with_sections, with_new_section, with_null_section, own_piece}
 use Rattle.elf_object.specs.Valid.{IsObject}
 use Rattle.object_laws.proofs.KeepLaws.{newnull_keeps}
-use Rattle.command_objects.specs.Words.{header_at}
+use Rattle.elf_object.specs.Sections.{header_at}
 use Rattle.command_objects.specs.Copied.{CopyFault as StatedFault, with_added}
 use Rattle.strip_laws.proofs.CopyLaws.{edited_keeps}
 use Rattle.strip_contents.specs.declared.arranged.Arranged.{Arranged}

@@ -22,7 +22,7 @@ use Rattle.elf_object.specs.Refusal.{unfit_segment}
 use Rattle.elf_object.specs.Steps.{with_section}
 use Rattle.elf_object.specs.Valid.{IsObject}
 use Rattle.elf_object.proofs.StepLaws.{section_count-with_section, section_at-with_section, section_at-with_section_other}
-use Rattle.command_objects.specs.Words.{header_at}
+use Rattle.elf_object.specs.Sections.{header_at}
 use Rattle.copy_edits.specs.Steps.{IsThere}
 use Rattle.image_ranges.specs.declared.ranges.ByteRange.{ByteRange}
 use Rattle.image_ranges.specs.Ranges.{range_bytes}

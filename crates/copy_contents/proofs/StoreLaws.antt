@@ -8,7 +8,7 @@ use Rattle.elf_xlate.specs.Headers.{IsShdr}
 use Rattle.elf_object.specs.Object.{Object, Piece, header_of, section_at, occupies_file}
 use Rattle.elf_object.specs.Steps.{with_own, with_shdr, own_piece}
 use Rattle.object_laws.proofs.KeepLaws.{section_at_is}
-use Rattle.command_objects.specs.Words.{header_at}
+use Rattle.elf_object.specs.Sections.{header_at}
 use Rattle.command_objects.specs.Copied.{CopyFault as StatedFault}
 use Rattle.copy_names.specs.declared.naming.NewNames.{NewNames}
 use Rattle.strip_contents.specs.declared.arranged.Arranged.{Arranged}

@@ -17,7 +17,7 @@ use Rattle.elf_object.specs.Calls as calls
 use Rattle.elf_object.specs.Joined.{piece_blocks, pieces_end}
 use Rattle.elf_object.specs.Steps.{own_piece}
 use Rattle.object_laws.proofs.KeepLaws.{section_at_is}
-use Rattle.command_objects.specs.Words.{is_program, is_allocated, header_at, edited}
+use Rattle.elf_object.specs.Sections.{is_program, is_allocated, header_at, edited}
 use Rattle.command_objects.specs.Copied.{CopyFault as StatedFault, or_strip, update_fault, flags_fault, differ, with_bits}
 use Rattle.command_objects.specs.Copied.CopyFault.{NoBytes, Allocated, Fixed}
 use Rattle.strip_contents.specs.declared.arranged.Arranged.{Arranged}

@@ -15,7 +15,7 @@ use Rattle.elf_object.specs.Refusal.{unfit_segment}
 use Rattle.elf_object.specs.Steps.{own_piece}
 use Rattle.elf_object.specs.Strings.{section_name, or_empty_name}
 use Rattle.elf_object.specs.Valid.{IsObject}
-use Rattle.command_objects.specs.Words.{header_at}
+use Rattle.elf_object.specs.Sections.{header_at}
 use Rattle.gelf_view.specs.Records.{string_front}
 use Rattle.image_ranges.specs.declared.ranges.ByteRange.{ByteRange}
 use Rattle.image_ranges.specs.Ranges.{range_bytes}

@@ -2,7 +2,7 @@
 
 ghost use Rattle.std.specs.Prelude.{◌≡◌, ◌<◌, length, map, IfErr, OnOk};
 ghost use Rattle.elf_types.specs.declared.errors.ElfError.TheVariants.{Memory};
-ghost use Rattle.command_objects.specs.Words.{in_turn};
+ghost use Rattle.elf_object.specs.Sections.{in_turn};
 ghost use Rattle.command_objects.specs.Copied.{with_added};
 ghost use Rattle.copy_changes.specs.Stated.{bytes_pair};
 ghost use Rattle.copy_contents.specs.Edits.{HasFirst};

@@ -3,7 +3,7 @@
 ghost use Rattle.std.specs.Prelude.{◌≡◌, ◌==◌, ◌&&◌, not, ℕ, List, All, map, true};
 ghost use Rattle.elf_object.specs.Object.{Object};
 ghost use Rattle.elf_object.specs.Calls as calls;
-ghost use Rattle.command_objects.specs.Words.{is_allocated, header_at, edited, in_turn};
+ghost use Rattle.elf_object.specs.Sections.{is_allocated, header_at, edited, in_turn};
 ghost use Rattle.command_objects.specs.Copied.{or_strip, differ, with_bits, flags_fault, with_section_flags};
 ghost use Rattle.sought_names.specs.Names.{is_sought};
 ghost use Rattle.copy_changes.specs.declared.changes.NameBytes.{NameBytes};

@@ -5,7 +5,7 @@ ghost use Rattle.std.specs.Str.{bytes_eq};
 ghost use Rattle.std.proofs.Math.ListN.{replicate};
 ghost use Rattle.elf_types.specs.declared.errors.ElfError.TheVariants.{Memory};
 ghost use Rattle.elf_object.specs.Object.{Object};
-ghost use Rattle.command_objects.specs.Words.{in_turn};
+ghost use Rattle.elf_object.specs.Sections.{in_turn};
 ghost use Rattle.command_objects.specs.Copied.{names_in, with_name};
 ghost use Rattle.sought_names.specs.Names.{is_sought};
 ghost use Rattle.sought_names.specs.Rows.{stands_under};

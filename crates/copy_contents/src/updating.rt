@@ -5,7 +5,7 @@ ghost use Rattle.elf_types.specs.declared.errors.ElfError.TheVariants.{Memory};
 ghost use Rattle.elf_xlate.specs.declared.content.Items.TheVariants as items;
 ghost use Rattle.elf_object.specs.Object.{Object, occupies_file};
 ghost use Rattle.elf_object.specs.Calls as calls;
-ghost use Rattle.command_objects.specs.Words.{is_allocated, header_at, edited, in_turn};
+ghost use Rattle.elf_object.specs.Sections.{is_allocated, header_at, edited, in_turn};
 ghost use Rattle.command_objects.specs.Copied.{names_in, section_named, or_strip, update_fault, with_bytes};
 ghost use Rattle.sought_names.specs.Names.{is_sought, AreUpTo};
 ghost use Rattle.copy_changes.specs.declared.faults.CopyFault.TheVariants as faults;

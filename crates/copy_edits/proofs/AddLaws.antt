@@ -6,7 +6,7 @@ use Rattle.elf_xlate.specs.declared.content.Items.TheVariants as items
 use Rattle.elf_object.specs.Object.{Object}
 use Rattle.elf_object.specs.Steps.{new_number}
 use Rattle.elf_object.specs.Calls as calls
-use Rattle.command_objects.specs.Words.{edited}
+use Rattle.elf_object.specs.Sections.{edited}
 use Rattle.command_objects.specs.Copied.{or_strip, added_header, with_added}
 
 -- edits in a row, each as a step of copy

@@ -20,7 +20,7 @@ use Rattle.elf_object.proofs.RefusalLaws.{Refuses, test_refuses, first_refuses}
 use Rattle.elf_object.proofs.StepLaws.{section_count-with_section}
 use Rattle.elf_descriptor.specs.State.{State}
 use Rattle.elf_descriptor.specs.Edits.{stepped, grown}
-use Rattle.command_objects.specs.Words.{edited}
+use Rattle.elf_object.specs.Sections.{edited}
 use Rattle.command_objects.specs.Copied.{or_strip}
 use Rattle.object_making.specs.Refused.{RefusedBy}
 use Rattle.object_making.proofs.RefusedLaws.{answer_refused, edits_refused}

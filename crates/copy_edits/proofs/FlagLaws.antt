@@ -18,7 +18,7 @@ use Rattle.elf_object.specs.Steps.{with_section, with_shdr}
 use Rattle.elf_object.specs.Strings.{holds_strings, has_nul, bytes_from, readable, string_answer, string_refusal, string_refusal_unread, piece_over, section_name}
 use Rattle.elf_object.proofs.StepLaws.{section_count-with_section, section_at-with_shdr, section_at-with_shdr_other}
 use Rattle.elf_descriptor.specs.State.{State}
-use Rattle.command_objects.specs.Words.{is_allocated, is_program, header_at, in_turn}
+use Rattle.elf_object.specs.Sections.{is_allocated, is_program, header_at, in_turn}
 use Rattle.command_objects.specs.Copied.{differ, with_bits, flags_fault, with_section_flags}
 use Rattle.command_objects.specs.Copied.CopyFault.{Fixed}
 use Rattle.copy_laws.proofs.EachChange.{flagged_known}

@@ -13,7 +13,7 @@ use Rattle.elf_types.specs.Answers.{FollowsBy, ◌>>=◌}
 use Rattle.elf_object.specs.Object.{Object}
 use Rattle.elf_object.specs.Strings.{section_name}
 use Rattle.elf_descriptor.specs.State.{State}
-use Rattle.command_objects.specs.Words.{in_turn}
+use Rattle.elf_object.specs.Sections.{in_turn}
 use Rattle.command_objects.specs.Copied.{names_in, section_named, with_name, CopyFault as StatedFault}
 use Rattle.copy_changes.specs.declared.changes.NameBytes.{NameBytes}
 use Rattle.copy_changes.specs.declared.faults.CopyFault.{CopyFault}

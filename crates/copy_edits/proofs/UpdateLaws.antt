@@ -5,7 +5,7 @@ use Rattle.std.proofs.lemmas.Bool.{cases_lt, ne_eqb}
 use Rattle.elf_types.specs.Answers.{refused_if, first_refusal}
 use Rattle.elf_object.specs.Object.{Object, occupies_file}
 use Rattle.elf_object.specs.Joined.{pieces_end}
-use Rattle.command_objects.specs.Words.{is_allocated, is_program, header_at}
+use Rattle.elf_object.specs.Sections.{is_allocated, is_program, header_at}
 use Rattle.command_objects.specs.Copied.{update_fault}
 use Rattle.command_objects.specs.Copied.CopyFault.{NoBytes, Allocated}
 use Rattle.copy_changes.specs.declared.faults.CopyFault.{CopyFault}

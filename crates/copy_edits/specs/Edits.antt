@@ -6,7 +6,7 @@ use Rattle.elf_xlate.specs.declared.content.Items.TheVariants as items
 use Rattle.elf_object.specs.Object.{Object}
 use Rattle.elf_object.specs.Steps.{new_number}
 use Rattle.elf_object.specs.Calls.{newscn, newdata, replace, update_shdr}
-use Rattle.command_objects.specs.Words.{header_at, edited}
+use Rattle.elf_object.specs.Sections.{header_at, edited}
 use Rattle.command_objects.specs.Copied.{CopyFault, or_strip, update_fault, flags_fault, with_bits, added_header}
 
 -- a section with other bytes

@@ -1,7 +1,7 @@
 //! Sections are added.
 
 ghost use Rattle.std.specs.Prelude.{◌≡◌, map};
-ghost use Rattle.command_objects.specs.Words.{in_turn};
+ghost use Rattle.elf_object.specs.Sections.{in_turn};
 ghost use Rattle.command_objects.specs.Copied.{added_header, with_added};
 ghost use Rattle.copy_changes.specs.Stated.{bytes_pair};
 ghost use Rattle.copy_edits.specs.Edits.{filled_at, with_filled};

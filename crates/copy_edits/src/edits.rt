@@ -3,7 +3,7 @@
 ghost use Rattle.std.specs.Prelude.{◌≡◌, IfOk, Err};
 ghost use Rattle.elf_object.specs.Steps.{new_number};
 ghost use Rattle.elf_object.specs.Calls as calls;
-ghost use Rattle.command_objects.specs.Words.{edited};
+ghost use Rattle.elf_object.specs.Sections.{edited};
 ghost use Rattle.command_objects.specs.Copied.{or_strip};
 ghost use Rattle.copy_edits.specs.Steps.{Alters};
 

@@ -2,7 +2,7 @@
 
 ghost use Rattle.std.specs.Prelude.{◌≡◌, ◌<◌, ◌&&◌, length, map};
 ghost use Rattle.elf_object.specs.Calls as calls;
-ghost use Rattle.command_objects.specs.Words.{is_allocated, is_program, header_at, edited, in_turn};
+ghost use Rattle.elf_object.specs.Sections.{is_allocated, is_program, header_at, edited, in_turn};
 ghost use Rattle.command_objects.specs.Copied.{or_strip, differ, with_bits, flags_fault, with_section_flags};
 ghost use Rattle.copy_changes.specs.Stated.{bits_pair};
 ghost use Rattle.copy_edits.specs.Names.{names_now};

@@ -3,7 +3,7 @@
 ghost use Rattle.std.specs.Prelude.{◌≡◌, length, map, slice_set, Some, IfOk, IfErr};
 ghost use Rattle.std.proofs.Math.ListN.{replicate};
 ghost use Rattle.elf_types.specs.declared.errors.ElfError.TheVariants.{Memory};
-ghost use Rattle.command_objects.specs.Words.{in_turn};
+ghost use Rattle.elf_object.specs.Sections.{in_turn};
 ghost use Rattle.command_objects.specs.Copied.{names_in, with_name};
 ghost use Rattle.copy_changes.specs.Stated.{bytes_pair};
 ghost use Rattle.copy_edits.specs.Names.{new_name, names_now};

@@ -4,7 +4,7 @@ ghost use Rattle.std.specs.Prelude.{◌≡◌, ◌<◌, ◌==◌, ◌&&◌, not,
 ghost use Rattle.elf_xlate.specs.declared.content.Items.TheVariants as items;
 ghost use Rattle.elf_object.specs.Joined.{pieces_end};
 ghost use Rattle.elf_object.specs.Calls as calls;
-ghost use Rattle.command_objects.specs.Words.{is_allocated, is_program, header_at, edited, in_turn};
+ghost use Rattle.elf_object.specs.Sections.{is_allocated, is_program, header_at, edited, in_turn};
 ghost use Rattle.command_objects.specs.Copied.{or_strip, update_fault, with_bytes};
 ghost use Rattle.copy_changes.specs.Stated.{bytes_pair};
 ghost use Rattle.copy_edits.specs.Edits.{updated_at};

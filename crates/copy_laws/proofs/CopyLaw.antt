@@ -9,7 +9,7 @@ use Rattle.elf_xlate.specs.Translation.{EncodesAsDecoded}
 use Rattle.elf_object.specs.Layout.{places_of}
 use Rattle.elf_object.specs.Object.{Object, Section, section_at}
 use Rattle.object_laws.specs.Laws.{ReopenLaw}
-use Rattle.command_objects.specs.Words.{header_at}
+use Rattle.elf_object.specs.Sections.{header_at}
 use Rattle.command_objects.specs.Removed.{removed_by_name}
 use Rattle.command_objects.specs.Arranged.{Rebuilt}
 use Rattle.command_objects.specs.Rebuilt.{renews_names, rebuilt_object}

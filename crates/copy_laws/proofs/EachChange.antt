@@ -16,7 +16,7 @@ use Rattle.elf_object.specs.Calls.{Call, newscn, update_shdr, newdata, replace, 
 use Rattle.elf_object.specs.Steps.{new_number, with_section, with_piece_at, with_own, with_shdr, with_new_section, with_new_piece, own_piece}
 use Rattle.elf_object.proofs.PassedLaws.{passed_one}
 use Rattle.elf_object.proofs.StepLaws.{section_count-with_section, section_at-with_section, section_at-with_section_other, section_at-with_own, section_at-with_own_other}
-use Rattle.command_objects.specs.Words.{header_at, edited}
+use Rattle.elf_object.specs.Sections.{header_at, edited}
 use Rattle.command_objects.specs.Copied.{or_strip, names_in, section_named, update_fault, with_bytes, flags_fault, with_bits, with_section_flags, added_header, with_added}
 use Rattle.command_objects.specs.Copied.CopyFault.{NoBytes}
 use Rattle.command_objects.specs.KeepingLaws.{without_places}

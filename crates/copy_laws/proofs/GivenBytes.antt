@@ -21,7 +21,7 @@ use Rattle.elf_object.specs.Calls.{update_ehdr_refusal}
 use Rattle.elf_object.proofs.PassedLaws.{passed_two}
 use Rattle.elf_object.proofs.StepLaws.{section_count-with_own}
 use Rattle.object_laws.specs.Laws.{ReopenLaw}
-use Rattle.command_objects.specs.Words.{header_at, in_turn, is_among}
+use Rattle.elf_object.specs.Sections.{header_at, in_turn, is_among}
 use Rattle.command_objects.specs.Removed.{removed_by_name}
 use Rattle.command_objects.specs.Followed.{kept_sections, kept_from_1}
 use Rattle.command_objects.specs.Arranged.{Rebuilt}

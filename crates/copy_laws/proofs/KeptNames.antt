@@ -21,7 +21,7 @@ use Rattle.elf_object.specs.Strings.{string_answer, readable, section_name, or_e
 use Rattle.elf_object.specs.Valid.{as_opened}
 use Rattle.object_laws.proofs.KeepLaws.{section_at_is}
 use Rattle.object_laws.proofs.StandLaws.{type-placed}
-use Rattle.command_objects.specs.Words.{header_at, is_among}
+use Rattle.elf_object.specs.Sections.{header_at, is_among}
 use Rattle.command_objects.specs.Removed.{removed_by_name}
 use Rattle.command_objects.specs.Followed.{kept_from_1}
 use Rattle.command_objects.specs.Arranged.{Rebuilt}

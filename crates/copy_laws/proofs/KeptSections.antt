@@ -26,7 +26,7 @@ use Rattle.elf_object.proofs.PassedLaws.{none_first, none_rest, not_refused}
 use Rattle.object_laws.proofs.ImageLaws.{joined-none}
 use Rattle.object_laws.proofs.KeepLaws.{section_at_is}
 use Rattle.object_laws.proofs.StandLaws.{file_bytes_when}
-use Rattle.command_objects.specs.Words.{header_at}
+use Rattle.elf_object.specs.Sections.{header_at}
 use Rattle.command_objects.specs.Followed.{renumbering}
 use Rattle.command_objects.specs.Arranged.{Rebuilt}
 use Rattle.command_objects.specs.Rebuilt.{renews_names, rebuilt_items, kept_items, kept_names, kept_refusal, items_follow, made_section, rebuilt_header, rebuilt_section, rebuilt_sections, rebuilt_object, rebuilt_index}

@@ -16,7 +16,7 @@ use Rattle.elf_object.specs.Object.{Object, Section, Piece, section_at, piece_at
 use Rattle.elf_object.specs.Steps.{with_ehdr, stored_ehdr, own_piece}
 use Rattle.elf_object.specs.Strings.{or_empty_name}
 use Rattle.elf_object.proofs.StepLaws.{section_at-with_own}
-use Rattle.command_objects.specs.Words.{header_at}
+use Rattle.elf_object.specs.Sections.{header_at}
 use Rattle.command_objects.specs.Arranged.{place_from, section_from, table_place_from, placed_from}
 use Rattle.command_objects.specs.Rebuilt.{table_refusal}
 use Rattle.command_objects.specs.Copied.{or_strip, named_section, with_names, named}

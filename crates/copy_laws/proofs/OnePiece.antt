@@ -14,7 +14,7 @@ use Rattle.elf_object.proofs.StepLaws.{section_at-with_own, section_at-with_own_
 use Rattle.object_laws.proofs.KeepLaws.{at_or}
 use Rattle.object_laws.proofs.RangeLaws.{each_made}
 use Rattle.object_laws.proofs.StandLaws.{section_at-past}
-use Rattle.command_objects.specs.Words.{in_turn}
+use Rattle.elf_object.specs.Sections.{in_turn}
 use Rattle.command_objects.specs.Followed.{kept_sections}
 use Rattle.command_objects.specs.Arranged.{Rebuilt, section_from, table_place_from, placed_from}
 use Rattle.command_objects.specs.Rebuilt.{rebuilt, made_section, rebuilt_items, rebuilt_header, rebuilt_section, rebuilt_sections, rebuilt_object, rebuilt_tail}

@@ -21,7 +21,7 @@ use Rattle.elf_object.specs.Layout.{section_numbers}
 use Rattle.elf_object.specs.Steps.{own_piece}
 use Rattle.elf_object.specs.Strings.{section_name, or_empty_name}
 use Rattle.object_laws.proofs.RangeLaws.{each_made}
-use Rattle.command_objects.specs.Words.{is_allocated, header_at, is_among, in_turn}
+use Rattle.elf_object.specs.Sections.{is_allocated, header_at, is_among, in_turn}
 use Rattle.command_objects.specs.Removed.{linking_to}
 use Rattle.command_objects.specs.Followed.{kept_from_1}
 use Rattle.command_objects.specs.Rebuilt.{renews_names, has_names_alone, kept_names, kept_items, made_section, rebuilt_items, rebuilt_header, rebuilt_name, rebuilt_object}

@@ -25,7 +25,7 @@ use Rattle.object_laws.proofs.ItemLaws.{alone_spread}
 use Rattle.object_laws.proofs.SettledLaws.{settle-dirty, section_extent}
 use Rattle.object_laws.proofs.StandLaws.{where_some, section_count-placed, joined-placed, file_bytes_when}
 use Rattle.object_laws.proofs.AgainLaws.{placed_section_header}
-use Rattle.command_objects.specs.Words.{header_at}
+use Rattle.elf_object.specs.Sections.{header_at}
 use Rattle.command_objects.specs.Arranged.{over_base}
 use Rattle.command_objects.specs.Rebuilt.{rebuilt_object, rebuilt_index, rebuilt_sections, rebuilt_tail, assembled}
 use Rattle.command_objects.specs.KeepingLaws.{without_places}

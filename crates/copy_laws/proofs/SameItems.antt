@@ -29,7 +29,7 @@ use Rattle.elf_object.specs.Valid.{IsObject}
 use Rattle.elf_object.proofs.PassedLaws.{none_first, none_rest}
 use Rattle.elf_object.proofs.StepLaws.{same_kind-true}
 use Rattle.object_laws.proofs.KeepLaws.{section_at_is}
-use Rattle.command_objects.specs.Words.{is_allocated, is_of, is_loose, first_of, header_at}
+use Rattle.elf_object.specs.Sections.{is_allocated, is_of, is_loose, first_of, header_at}
 use Rattle.command_objects.specs.Followed.{renumbering, has_indexes_of, extended_table, is_the, kept_from_1, followed_syms, followed_words, followed_group, symbols_follow, members_follow, indexes_follow, words_for, syms_in}
 use Rattle.command_objects.specs.Rebuilt.{items_follow, kept_items, kept_refusal}
 use Rattle.strip_laws.proofs.MadeSections.{bytes_encoded}

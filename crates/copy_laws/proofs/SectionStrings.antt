@@ -22,7 +22,7 @@ use Rattle.elf_object.specs.Joined.{piece_bytes, aligned_pieces, piece_blocks, p
 use Rattle.elf_object.specs.Steps.{own_piece}
 use Rattle.elf_object.specs.Strings.{holds_strings, kind_of_piece, piece_over, has_nul, bytes_from, string_refusal_unread, string_refusal, string_answer}
 use Rattle.elf_object.proofs.StepLaws.{same_kind-same}
-use Rattle.command_objects.specs.Words.{header_at}
+use Rattle.elf_object.specs.Sections.{header_at}
 use Rattle.strip_laws.proofs.MadeSections.{bytes_encoded}
 use Rattle.copy_laws.proofs.SameItems.{IsOpenedAt}
 

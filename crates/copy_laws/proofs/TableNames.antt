@@ -21,7 +21,7 @@ use Rattle.elf_object.specs.Blocks.{Block, block_covers, stacked}
 use Rattle.elf_object.specs.Object.{Object, section_at}
 use Rattle.elf_object.specs.Joined.{piece_blocks}
 use Rattle.elf_object.specs.Strings.{piece_over, has_nul, string_in, string_refusal, string_answer, readable, section_name, or_empty_name}
-use Rattle.command_objects.specs.Words.{header_at}
+use Rattle.elf_object.specs.Sections.{header_at}
 use Rattle.copy_laws.proofs.SectionStrings.{IsStringSection, string_there}
 
 -- ---- A name in a table

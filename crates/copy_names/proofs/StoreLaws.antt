@@ -25,7 +25,7 @@ use Rattle.elf_object.proofs.StepLaws.{section_count-with_section, section_at-wi
 use Rattle.object_laws.proofs.KeepLaws.{section_at_is}
 use Rattle.elf_descriptor.specs.State.{State}
 use Rattle.elf_descriptor.specs.Edits.{stepped}
-use Rattle.command_objects.specs.Words.{header_at}
+use Rattle.elf_object.specs.Sections.{header_at}
 use Rattle.object_making.proofs.RefusedLaws.{alone, passes_first}
 use Rattle.copy_names.specs.declared.naming.NewNames.{NewNames}
 use Rattle.copy_edits.specs.Steps.{IsThere, KeepsIndex, Alters}

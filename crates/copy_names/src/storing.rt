@@ -5,7 +5,7 @@ ghost use Rattle.elf_xlate.specs.declared.content.Items.TheVariants as items;
 ghost use Rattle.elf_object.specs.Steps.{with_own};
 ghost use Rattle.elf_object.specs.Calls as calls;
 ghost use Rattle.elf_descriptor.specs.Edits.{stepped};
-ghost use Rattle.command_objects.specs.Words.{header_at};
+ghost use Rattle.elf_object.specs.Sections.{header_at};
 ghost use Rattle.copy_edits.specs.Steps.{IsThere, Alters};
 ghost use Rattle.copy_names.specs.Stores.{with_places, with_table, named_by, HasTable};
 

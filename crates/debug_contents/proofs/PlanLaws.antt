@@ -17,7 +17,7 @@ use Rattle.command_objects.specs.Arranged.{over_base}
 use Rattle.command_objects.specs.Files.{file_of}
 use Rattle.command_objects.specs.Rebuilt.{assembled}
 use Rattle.command_objects.specs.Split.{is_loaded_from_file, debug_sections, debug_half, debug_refusal, debug_of}
-use Rattle.command_objects.specs.Words.{header_at}
+use Rattle.elf_object.specs.Sections.{header_at}
 use Rattle.object_making.specs.Making.{sections_by}
 use Rattle.strip_laws.specs.Made.{FitsClass}
 use Rattle.strip_laws.proofs.HalfLaws.{debug_is_object, halves_are_writable}

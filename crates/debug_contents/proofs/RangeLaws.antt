@@ -10,7 +10,7 @@ use Rattle.elf_object.specs.Object.{section_at, is_dirty}
 use Rattle.elf_object.specs.Answers.{raw_refusal}
 use Rattle.elf_object.specs.Valid.{IsObject, IsTied}
 use Rattle.elf_descriptor.specs.State.{State}
-use Rattle.command_objects.specs.Words.{header_at}
+use Rattle.elf_object.specs.Sections.{header_at}
 use Rattle.command_objects.specs.Split.{is_loaded_from_file}
 use Rattle.image_ranges.specs.declared.ranges.ByteRange.{ByteRange}
 use Rattle.strip_rebuild.proofs.HomeLaws.{raw_there}

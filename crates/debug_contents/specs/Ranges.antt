@@ -4,7 +4,7 @@ use Rattle.std.specs.Prelude.{◌≡◌, ℕ, List, [], None, Result, IfOk, IfEr
 use Rattle.elf_types.specs.declared.errors.ElfError.{ElfError}
 use Rattle.elf_object.specs.Object.{Object, section_at}
 use Rattle.elf_descriptor.specs.State.{State}
-use Rattle.command_objects.specs.Words.{header_at}
+use Rattle.elf_object.specs.Sections.{header_at}
 use Rattle.command_objects.specs.Split.{is_loaded_from_file, debug_raw_refusal}
 use Rattle.object_making.specs.Refused.{RefusedBy}
 use Rattle.image_ranges.specs.declared.ranges.ByteRange.{ByteRange}

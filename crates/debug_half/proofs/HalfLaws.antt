@@ -16,7 +16,7 @@ use Rattle.elf_object.specs.Words.{result_map}
 use Rattle.elf_descriptor.specs.State.{State}
 use Rattle.command_objects.specs.Arranged.{over_base}
 use Rattle.command_objects.specs.Followed.{kept_from_1}
-use Rattle.command_objects.specs.Words.{header_at}
+use Rattle.elf_object.specs.Sections.{header_at}
 use Rattle.command_objects.specs.Rebuilt.{made_section, assembled}
 use Rattle.command_objects.specs.Split.{is_loaded_from_file, debug_section, debug_sections, debug_half, debug_raw_refusal, debug_refusal, debug_of}
 use Rattle.object_making.specs.Based.{IsMadeOver}

@@ -7,7 +7,7 @@ use Rattle.elf_xlate.specs.declared.content.Items.TheVariants as items
 use Rattle.elf_object.specs.Object.{Object, section_at}
 use Rattle.elf_object.specs.Due.{homes_due}
 use Rattle.elf_object.specs.Layout.{section_numbers}
-use Rattle.command_objects.specs.Words.{header_at}
+use Rattle.elf_object.specs.Sections.{header_at}
 use Rattle.command_objects.specs.Split.{is_loaded_from_file}
 
 -- ---- One section

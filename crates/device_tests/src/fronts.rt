@@ -1,6 +1,9 @@
 //! Parts of the front that differ from those that stand in the image.
 
-ghost use Rattle.std.specs.Prelude.{◌≡◌, length};
+ghost use Rattle.std.specs.Prelude.{◌≡◌, true, length};
+ghost use Rattle.elf_object.specs.Object.{is_dirty};
+ghost use Rattle.elf_descriptor.specs.Fronts.{IsOfFront};
+ghost use Rattle.update_plan.specs.Placing.{ArePlaced};
 
 use crate::homes::{TWO_HOMES, give_bytes};
 use elf_descriptor::Elf;
@@ -8,7 +11,7 @@ use elf_outside::{Device, Source};
 use elf_types::{DIRTY, Ehdr, ElfError, LAYOUT, Part, ScnId, Shdr};
 use test_descriptors::{Work, are_done};
 use test_images::Image;
-use update_plan::place_parts;
+use update_plan::{PlacedParts, place_parts};
 
 /// An edit of an object.
 #[derive(Clone, Copy)]
@@ -55,6 +58,16 @@ fn make_edit<S: Source>(elf: &mut Elf<S>, by: Edit) -> Result<(), ElfError> {
 /// Whether the ELF header, the program header table and the section header table differ.
 type Differ = (bool, bool, bool);
 
+/// Whether a part differs, once the places of its object are stored.
+fn part_differs<S: Source>(elf: &Elf<S>, part: Part, placed: &PlacedParts) -> bool
+    requires part { IsOfFront part }
+    requires dirty { is_dirty elf.now.o ≡ true }
+    requires placed { ArePlaced elf.now.o placed.now }
+{
+    let _object = elf.dirty();
+    elf.front_differs(part, &placed.places)
+}
+
 /// Which of the three parts differ, of an object that is not refused.
 fn differing<S: Source>(elf: &Elf<S>) -> Result<Differ, ElfError> {
     if !elf.dirty() {
@@ -62,9 +75,9 @@ fn differing<S: Source>(elf: &Elf<S>) -> Result<Differ, ElfError> {
     }
     match place_parts(elf) {
         Ok(placed) => Ok((
-            elf.front_differs(Part::Header, &placed.places),
-            elf.front_differs(Part::Segments, &placed.places),
-            elf.front_differs(Part::Table, &placed.places),
+            part_differs(elf, Part::Header, &placed),
+            part_differs(elf, Part::Segments, &placed),
+            part_differs(elf, Part::Table, &placed),
         )),
         Err(e) => Err(e),
     }

@@ -6,7 +6,7 @@ use Rattle.elf_outside.specs.Counts.{Rose}
 use Rattle.elf_outside.specs.declared.sources.Source.{Ghosts}
 use Rattle.elf_object.specs.Object.{Object}
 use Rattle.elf_descriptor.specs.State.{State}
-use Rattle.command_objects.specs.Words.{in_turn}
+use Rattle.elf_object.specs.Sections.{in_turn}
 use Rattle.command_objects.specs.Copied.{Changes as StatedChanges, CopyFault as StatedFault, names_in, with_bytes, with_name, with_changes}
 use Rattle.strip_removed.specs.Calls.{ReadsNames}
 use Rattle.copy_changes.specs.declared.changes.Changes.{Changes}

@@ -14,7 +14,7 @@ use Rattle.elf_object.specs.Object.{Object, Section}
 use Rattle.elf_object.specs.Calls.{update_ehdr_refusal}
 use Rattle.elf_object.specs.Steps.{stored_ehdr}
 use Rattle.elf_xlate.specs.Headers.{ehdr_fits}
-use Rattle.command_objects.specs.Words.{is_among, number_or_0}
+use Rattle.elf_object.specs.Sections.{is_among, number_or_0}
 use Rattle.command_objects.specs.Followed.{Renumbering, renumbering, kept_sections, kept_from_1, followed, renumbered, is_section_number}
 use Rattle.command_objects.specs.Arranged.{Rebuilt, arranged, tail_refusal, placed_from, parts_from}
 use Rattle.command_objects.specs.Rebuilt.{rebuilt, rebuilt_object, rebuilt_sections, rebuilt_index, rebuilt_tail, renews_names, index_refusal}

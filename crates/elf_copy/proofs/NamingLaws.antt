@@ -11,7 +11,7 @@ use Rattle.elf_object.specs.Object.{Object, Section}
 use Rattle.elf_object.specs.Steps.{with_own}
 use Rattle.elf_object.specs.Strings.{or_empty_name}
 use Rattle.elf_descriptor.specs.State.{State}
-use Rattle.command_objects.specs.Words.{in_turn}
+use Rattle.elf_object.specs.Sections.{in_turn}
 use Rattle.command_objects.specs.Rebuilt.{table_refusal}
 use Rattle.command_objects.specs.Copied.{CopyFault as StatedFault, or_strip, with_added, with_section_flags, named_section, with_names, named, changes_names}
 use Rattle.copy_names.specs.declared.naming.NewNames.{NewNames}

@@ -7,7 +7,7 @@ use Rattle.elf_outside.specs.declared.sources.Source.{Ghosts}
 use Rattle.elf_object.specs.Object.{Object}
 use Rattle.elf_object.specs.Due.{homes_due}
 use Rattle.elf_descriptor.specs.State.{State}
-use Rattle.command_objects.specs.Words.{in_turn}
+use Rattle.elf_object.specs.Sections.{in_turn}
 use Rattle.command_objects.specs.Arranged.{Rebuilt, arranged}
 use Rattle.command_objects.specs.Rebuilt.{rebuilt, renews_names}
 use Rattle.command_objects.specs.Removed.{removed_by_name}

@@ -215,6 +215,7 @@ begun_is_elf sound f image size len b fitting counted small long are is same ope
     record {
       long = long;
       within = subst (λ (base : Base). source_part base ≤ size) (sym begins.base) (omega arith);
+      whole = λ h. begins.base;
       counts = begins.counts;
       cells = begins.cells;
       written = subst (λ (h : Ehdr). IfSome b.written (IsStanding h.class h.order)) (sym begins.header) (begins.written fitting);

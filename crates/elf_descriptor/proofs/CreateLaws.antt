@@ -55,6 +55,7 @@ created_body class order base header phdrs sections header_is no_phdrs none = re
   none = none;
   base_is = refl;
   written = refl;
+  marks = refl;
   ready = refl;
 }
 
@@ -69,6 +70,7 @@ created_elf are tied based class order base b bytes len is =
     record {
       long = refl;
       within = subst (λ (kept : Base). source_part kept ≤ 0) (sym is.base_is) (omega arith);
+      whole = λ h. let never : true ≡ false = sym is.marks ∙ h in cc;
       counts = has_counts (Some []) 0 b sound.object;
       cells = λ i s found. absurd (nothing i s (ap (λ (l : List Scn). slice_get l i) (sym is.none) ∙ found));
       written = subst (λ (w : Option Written). IfSome w (IsStanding b.header.class b.header.order)) (sym is.written) tt;

@@ -70,6 +70,7 @@ phdrs_zeroed old new n phdrs zeros is = subst (λ (b : Body). IsStepped (λ o. w
   order = refl;
   base = refl;
   written = refl;
+  marks = λ h. h;
   ready = refl;
 })
 

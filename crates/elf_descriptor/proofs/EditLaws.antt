@@ -114,6 +114,7 @@ stepped_elf c image size x ready old new keeps ties bases answer step is =
     record {
       long = is.long;
       within = part_within old new size step.base is.within;
+      whole = λ h. step.base ∙ is.whole (step.marks h);
       counts = has_counts image size new sound.object;
       cells = λ i s found. cell_moved old new step.class step.order step.base i s (cells_kept image size old new step.homes is i s found);
       written = standing_moved old new step.class step.order step.written is.written;
@@ -139,6 +140,7 @@ same_elf image size ready old new step is =
     record {
       long = is.long;
       within = part_within old new size step.base is.within;
+      whole = λ h. step.base ∙ is.whole (step.marks h);
       counts = has_counts image size new sound.object;
       cells = λ i s found. cell_moved old new step.class step.order step.base i s (cells_kept image size old new step.homes is i s found);
       written = standing_moved old new step.class step.order step.written is.written;

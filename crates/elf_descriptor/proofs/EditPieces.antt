@@ -20,7 +20,7 @@ use Rattle.section_data.specs.Leaves.{replaced}
 use Rattle.section_data.specs.Refused.{replace_refused, no_piece, unfit_piece}
 use Rattle.section_table.specs.Sections.{SectionView as Scn, absent_scn}
 use Rattle.elf_descriptor.specs.declared.body.Body.{Body}
-use Rattle.elf_descriptor.specs.Views.{object_of, section_of, scn_at, no_scn, ready_of, is_of_source, has_lengths}
+use Rattle.elf_descriptor.specs.Views.{object_of, section_of, scn_at, no_scn, ready_of, is_of_source, has_lengths, has_mark}
 use Rattle.elf_descriptor.specs.Edits.{IsStepped, homes_of, without_pieces}
 use Rattle.elf_descriptor.proofs.Objects.{no_section_is, no_data_is}
 use Rattle.elf_descriptor.proofs.EditSteps.{pieces_stepped}
@@ -88,6 +88,7 @@ items_same old sections items = record {
   order = refl;
   base = refl;
   written = refl;
+  marks = λ h. h;
   ready = ap (λ (l : List Scn). old.ready && (is_of_source old.base && has_lengths old.spare (length old.phdrs) (length l))) items;
 }
 
@@ -105,6 +106,7 @@ section_same old new s x read rest is =
       order = ap (λ (b : Body). b.header.order) rest;
       base = ap (λ (b : Body). b.base) rest;
       written = ap (λ (b : Body). b.written) rest;
+      marks = λ h. ap has_mark (sym rest) ∙ h;
       ready = ap ready_of rest ∙ ap (λ (l : List Scn). old.ready && (is_of_source old.base && has_lengths old.spare (length old.phdrs) (length l))) items;
     }
 
@@ -123,11 +125,11 @@ piece_replaced old new s p items x read rest is =
     pieces_stepped (λ o. with_own o s p items) old.ready old new s x (owned_in p items) read rest is (λ o. piece_owned o s p items)
 
 pub same_stepped : (b : Body) → IsStepped (λ o. o) (ready_of b) b b
-same_stepped b = record { object = λ image size. refl; homes = refl; class = refl; order = refl; base = refl; written = refl; ready = refl }
+same_stepped b = record { object = λ image size. refl; homes = refl; class = refl; order = refl; base = refl; written = refl; marks = λ h. h; ready = refl }
 
 pub then_unready : (after : Object → Object) (ready : Bool) (old new : Body) → IsStepped after ready old new → IsStepped after false old (record new { ready = false })
 unfolding object_of homes_of
-then_unready after ready old new step = record { object = step.object; homes = step.homes; class = step.class; order = step.order; base = step.base; written = step.written; ready = refl }
+then_unready after ready old new step = record { object = step.object; homes = step.homes; class = step.class; order = step.order; base = step.base; written = step.written; marks = step.marks; ready = refl }
 
 -- ---- By the answer of the cell
 

@@ -28,7 +28,7 @@ use Rattle.section_data.specs.Held.{cell_is_loaded}
 use Rattle.section_table.specs.Sections.{SectionView as Scn, absent_scn, new_scn}
 use Rattle.elf_descriptor.specs.declared.body.Body.{Body}
 use Rattle.elf_descriptor.specs.State.{State}
-use Rattle.elf_descriptor.specs.Views.{object_of, section_of, raw_of, loaded_of, held_of, state_of, scn_at, HasCounts, ready_of, room_of}
+use Rattle.elf_descriptor.specs.Views.{object_of, section_of, raw_of, loaded_of, held_of, state_of, scn_at, HasCounts, ready_of, room_of, has_mark}
 use Rattle.elf_descriptor.specs.Sound.{IsElf, IsSound, CellIn}
 use Rattle.elf_descriptor.specs.Edits.{IsStepped, IsGrown, new_scns, with_added, with_none, grown, nulled}
 use Rattle.elf_descriptor.proofs.Objects.{section_count_is}
@@ -93,6 +93,7 @@ scns_added old new count n count_is rest is = record {
   order = ap (λ (b : Body). b.header.order) rest;
   base = ap (λ (b : Body). b.base) rest;
   written = ap (λ (b : Body). b.written) rest;
+  marks = λ h. ap has_mark (sym rest) ∙ h;
   ready = ap ready_of rest;
 }
 
@@ -146,6 +147,7 @@ first_grown old new none step = record {
   order = step.order;
   base = step.base;
   written = step.written;
+  marks = step.marks;
   ready = step.ready;
 }
   where
@@ -165,6 +167,7 @@ next_grown old new some step = record {
   order = step.order;
   base = step.base;
   written = step.written;
+  marks = step.marks;
   ready = step.ready;
 }
   where
@@ -241,6 +244,7 @@ grown_elf c image size x old new keeps ties bases answer step is =
     record {
       long = is.long;
       within = part_within old new size step.base is.within;
+      whole = λ h. step.base ∙ is.whole (step.marks h);
       counts = has_counts image size new sound.object;
       cells = λ i s found. cell_moved old new step.class step.order step.base i s (cells_grown c.after image size old new step is i s found);
       written = standing_moved old new step.class step.order step.written is.written;
@@ -274,6 +278,7 @@ null_grown old new none step = record {
   order = step.order;
   base = step.base;
   written = step.written;
+  marks = step.marks;
   ready = step.ready;
 }
 

@@ -34,6 +34,7 @@ refilled_step b left has = record {
   order = refl;
   base = refl;
   written = refl;
+  marks = λ h. h;
   ready = refl;
 }
 

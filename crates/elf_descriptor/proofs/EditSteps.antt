@@ -1,6 +1,6 @@
 -- The step of each edit, over every source.
 use Rattle.std.proofs.Common.{◌≡◌, ℕ, ◌<◌, Bool, true, false, List, [], ◌∷◌, length, get_or, set, map, Option, Some, None, Result, Ok, Err, refl, sym, ap, ◌∙◌, subst, arith}
-use Rattle.std.specs.Prelude.{not, ◌&&◌, ◌==◌, nat_le, if◌then◌else◌}
+use Rattle.std.specs.Prelude.{not, ◌&&◌, ◌||◌, ◌==◌, nat_le, if◌then◌else◌}
 use Rattle.std.proofs.lemmas.List.{length-set, get_or-set_same, set-set}
 use Rattle.std.proofs.Math.Seq.{map-set, map-set_same}
 use Rattle.elf_types.specs.declared.records.Ehdr.{Ehdr}
@@ -21,7 +21,7 @@ use Rattle.section_data.specs.Held.{piece_in}
 use Rattle.section_data.specs.Leaves.{marked_piece}
 use Rattle.section_table.specs.Sections.{SectionView as Scn, section_in, absent_scn}
 use Rattle.elf_descriptor.specs.declared.body.Body.{Body}
-use Rattle.elf_descriptor.specs.Views.{object_of, section_of, raw_of, scn_at, no_scn, HasCounts, ready_of, has_spare, is_of_source, has_lengths}
+use Rattle.elf_descriptor.specs.Views.{object_of, section_of, raw_of, scn_at, no_scn, HasCounts, ready_of, has_spare, is_of_source, has_lengths, has_mark}
 use Rattle.elf_descriptor.specs.Edits.{IsStepped, IsThere, homes_of, without_pieces}
 use Rattle.elf_descriptor.proofs.Objects.{section_count_is, section_is, no_section_is}
 use Rattle.elf_descriptor.proofs.Warming.{scn_written}
@@ -67,6 +67,10 @@ update_shdr_refused image size b s h =
 
 -- ---- Headers
 
+never_marked : (b : Bool) → (b || true) ≡ false → ⊥
+never_marked true h = cc
+never_marked false h = cc
+
 pub ehdr_stepped : (old : Body) (h header : Ehdr) → header ≡ stored_ehdr old.header h → IsStepped (λ o. with_ehdr o h) false old (record old { header = header; header_marked = true; ready = false })
 unfolding object_of with_ehdr stored_ehdr homes_of
 ehdr_stepped old h header is = record {
@@ -76,24 +80,25 @@ ehdr_stepped old h header is = record {
   order = ap (λ (x : Ehdr). x.order) is;
   base = refl;
   written = refl;
+  marks = λ h. absurd (never_marked old.marked h);
   ready = refl;
 }
 
 pub object_marked : (b : Body) (p : Part) → p ≡ part.Object → IsStepped (λ o. with_mark o p) (ready_of b) b (record b { marked = true })
 unfolding object_of with_mark homes_of
-object_marked b p is = subst (λ (q : Part). IsStepped (λ o. with_mark o q) (ready_of b) b (record b { marked = true })) (sym is) (record { object = λ image size. refl; homes = refl; class = refl; order = refl; base = refl; written = refl; ready = refl })
+object_marked b p is = subst (λ (q : Part). IsStepped (λ o. with_mark o q) (ready_of b) b (record b { marked = true })) (sym is) (record { object = λ image size. refl; homes = refl; class = refl; order = refl; base = refl; written = refl; marks = λ h. let never : true ≡ false = h in cc; ready = refl })
 
 pub table_marked : (b : Body) (p : Part) → p ≡ part.Table → IsStepped (λ o. with_mark o p) (ready_of b) b (record b { marked = true })
 unfolding object_of with_mark homes_of
-table_marked b p is = subst (λ (q : Part). IsStepped (λ o. with_mark o q) (ready_of b) b (record b { marked = true })) (sym is) (record { object = λ image size. refl; homes = refl; class = refl; order = refl; base = refl; written = refl; ready = refl })
+table_marked b p is = subst (λ (q : Part). IsStepped (λ o. with_mark o q) (ready_of b) b (record b { marked = true })) (sym is) (record { object = λ image size. refl; homes = refl; class = refl; order = refl; base = refl; written = refl; marks = λ h. let never : true ≡ false = h in cc; ready = refl })
 
 pub header_marked : (b : Body) (p : Part) → p ≡ part.Header → IsStepped (λ o. with_mark o p) (ready_of b) b (record b { header_marked = true })
 unfolding object_of with_mark homes_of
-header_marked b p is = subst (λ (q : Part). IsStepped (λ o. with_mark o q) (ready_of b) b (record b { header_marked = true })) (sym is) (record { object = λ image size. refl; homes = refl; class = refl; order = refl; base = refl; written = refl; ready = refl })
+header_marked b p is = subst (λ (q : Part). IsStepped (λ o. with_mark o q) (ready_of b) b (record b { header_marked = true })) (sym is) (record { object = λ image size. refl; homes = refl; class = refl; order = refl; base = refl; written = refl; marks = λ h. absurd (never_marked b.marked h); ready = refl })
 
 pub segments_marked : (b : Body) (p : Part) → p ≡ part.Segments → IsStepped (λ o. with_mark o p) (ready_of b) b (record b { segments_marked = true })
 unfolding object_of with_mark homes_of
-segments_marked b p is = subst (λ (q : Part). IsStepped (λ o. with_mark o q) (ready_of b) b (record b { segments_marked = true })) (sym is) (record { object = λ image size. refl; homes = refl; class = refl; order = refl; base = refl; written = refl; ready = refl })
+segments_marked b p is = subst (λ (q : Part). IsStepped (λ o. with_mark o q) (ready_of b) b (record b { segments_marked = true })) (sym is) (record { object = λ image size. refl; homes = refl; class = refl; order = refl; base = refl; written = refl; marks = λ h. h; ready = refl })
 
 -- ---- Flags
 
@@ -101,14 +106,14 @@ pub mark_then : (dirty : Bool) (p : Part) (ready : Bool) (old new : Body) → di
 mark_then dirty p ready old new is step = subst (λ (d : Bool). IsStepped (λ o. if d then with_mark o p else o) ready old new) (sym is) step
 
 pub mark_else : (dirty : Bool) (p : Part) (b : Body) → dirty ≡ false → IsStepped (λ o. if dirty then with_mark o p else o) (ready_of b) b b
-mark_else dirty p b is = subst (λ (d : Bool). IsStepped (λ o. if d then with_mark o p else o) (ready_of b) b b) (sym is) (record { object = λ image size. refl; homes = refl; class = refl; order = refl; base = refl; written = refl; ready = refl })
+mark_else dirty p b is = subst (λ (d : Bool). IsStepped (λ o. if d then with_mark o p else o) (ready_of b) b b) (sym is) (record { object = λ image size. refl; homes = refl; class = refl; order = refl; base = refl; written = refl; marks = λ h. h; ready = refl })
 
 pub layout_then : (whole layout : Bool) (b : Body) → whole ≡ true → IsStepped (λ o. if whole then with_layout o layout else o) (ready_of b) b (record b { layout = layout })
 unfolding object_of homes_of
-layout_then whole layout b is = subst (λ (d : Bool). IsStepped (λ o. if d then with_layout o layout else o) (ready_of b) b (record b { layout = layout })) (sym is) (record { object = λ image size. refl; homes = refl; class = refl; order = refl; base = refl; written = refl; ready = refl })
+layout_then whole layout b is = subst (λ (d : Bool). IsStepped (λ o. if d then with_layout o layout else o) (ready_of b) b (record b { layout = layout })) (sym is) (record { object = λ image size. refl; homes = refl; class = refl; order = refl; base = refl; written = refl; marks = λ h. h; ready = refl })
 
 pub layout_else : (whole layout : Bool) (b : Body) → whole ≡ false → IsStepped (λ o. if whole then with_layout o layout else o) (ready_of b) b b
-layout_else whole layout b is = subst (λ (d : Bool). IsStepped (λ o. if d then with_layout o layout else o) (ready_of b) b b) (sym is) (record { object = λ image size. refl; homes = refl; class = refl; order = refl; base = refl; written = refl; ready = refl })
+layout_else whole layout b is = subst (λ (d : Bool). IsStepped (λ o. if d then with_layout o layout else o) (ready_of b) b b) (sym is) (record { object = λ image size. refl; homes = refl; class = refl; order = refl; base = refl; written = refl; marks = λ h. h; ready = refl })
 
 pub layout_there : (layout : Bool) (b : Body) (p : Part) → IsThere b p → IsThere (record b { layout = layout }) p
 unfolding scn_at
@@ -134,6 +139,7 @@ flags_stepped old mid new p set bits dirty whole dirty_is whole_is first second 
   order = second.order ∙ first.order;
   base = second.base ∙ first.base;
   written = second.written ∙ first.written;
+  marks = λ h. first.marks (second.marks h);
   ready = second.ready ∙ first.ready;
 }
   where
@@ -153,12 +159,13 @@ phdr_stepped old new i p has is = subst (λ (b : Body). IsStepped (λ o. with_ph
   order = refl;
   base = refl;
   written = refl;
+  marks = λ h. h;
   ready = refl;
 })
 
 pub fill_stepped : (old new : Body) (byte : ℕ) → new ≡ record old { fill = byte; ready = false } → IsStepped (λ o. with_fill o byte) false old new
 unfolding object_of with_fill homes_of
-fill_stepped old new byte is = subst (λ (b : Body). IsStepped (λ o. with_fill o byte) false old b) (sym is) (record { object = λ image size. refl; homes = refl; class = refl; order = refl; base = refl; written = refl; ready = refl })
+fill_stepped old new byte is = subst (λ (b : Body). IsStepped (λ o. with_fill o byte) false old b) (sym is) (record { object = λ image size. refl; homes = refl; class = refl; order = refl; base = refl; written = refl; marks = λ h. h; ready = refl })
 
 -- ---- One section
 
@@ -180,6 +187,7 @@ section_stepped after ready old new s y rest is home stepped = record {
   order = ap (λ (b : Body). b.header.order) rest;
   base = ap (λ (b : Body). b.base) rest;
   written = ap (λ (b : Body). b.written) rest;
+  marks = λ h. ap has_mark (sym rest) ∙ h;
   ready = ap ready_of rest
       ∙ ap (λ (n : ℕ).
       ready && (is_of_source old.base && has_lengths old.spare (length old.phdrs) n))

@@ -6,7 +6,7 @@ use Rattle.std.specs.Option.{option_map}
 use Rattle.std.proofs.lemmas.Bool.{ne_eqb}
 use Rattle.std.proofs.lemmas.Iterator.Adapters.{position_from-zero}
 use Rattle.std.proofs.lemmas.List.{length-map}
-use Rattle.std.proofs.lemmas.List.Elements.{All-map, All-weaker, All-from_recursion}
+use Rattle.std.proofs.lemmas.List.Elements.{All-from_recursion}
 use Rattle.elf_types.specs.declared.records.Class.{Class}
 use Rattle.elf_types.specs.declared.records.Class.TheVariants.{C32, C64}
 use Rattle.elf_types.specs.declared.records.Order.{Order}
@@ -22,25 +22,25 @@ use Rattle.elf_object.specs.Blocks.{Block, same_block, same_extent}
 use Rattle.elf_object.specs.Object.{Object, Section, WrittenFront}
 use Rattle.elf_object.specs.Open.{no_block, no_front, front_in_image, phdrs_bytes, shdrs_bytes}
 use Rattle.elf_object.specs.Derived.{derived_header, written_header}
-use Rattle.elf_object.specs.Layout.{places_of, placed_by, placed_header}
+use Rattle.elf_object.specs.Layout.{placed_by, placed_header}
 use Rattle.elf_object.specs.Image.{front_blocks}
-use Rattle.elf_object.specs.Refusal.{content_refusal, placing_refusal, unfit_segment}
+use Rattle.elf_object.specs.Refusal.{content_refusal, unfit_segment}
 use Rattle.elf_object.specs.Changed.{front_differs, block_of}
-use Rattle.elf_object.specs.Valid.{IsObject, IsSection}
 use Rattle.elf_object.proofs.PassedLaws.{not_not}
 use Rattle.object_laws.specs.Laws.{SizesAreLengths}
 use Rattle.object_laws.proofs.LengthLaws.{length-ehdr_bytes, length-phdrs_bytes, length-shdrs_bytes}
 use Rattle.object_laws.proofs.StandLaws.{section_count-placed}
-use Rattle.object_laws.proofs.PlacedLaws.{placed_by_is, ehdr_fits_each, ehdr_fits_all}
+use Rattle.object_laws.proofs.PlacedLaws.{ehdr_fits_each, ehdr_fits_all}
 use Rattle.object_laws.proofs.SettledLaws.{unrefused}
 use Rattle.elf_descriptor.specs.declared.body.Written.{Written}
 use Rattle.elf_descriptor.specs.declared.body.Body.{Body}
 use Rattle.elf_descriptor.specs.Views.{object_of, written_of}
 use Rattle.elf_descriptor.specs.Sound.{IsElf, IsStanding}
-use Rattle.elf_descriptor.specs.Places.{stored_header}
+use Rattle.elf_descriptor.specs.Places.{PartsFitAt, stored_header}
 use Rattle.elf_descriptor.specs.Fronts.{TellsHeader, TellsSegments, TellsTable, segments_block, table_block, stored_shdrs}
 use Rattle.elf_descriptor.proofs.Objects.{section_count_is}
-use Rattle.elf_descriptor.proofs.Placing.{limited_places, header_same, headers_same}
+use Rattle.elf_descriptor.proofs.Placing.{header_same, headers_same}
+use Rattle.elf_descriptor.proofs.FittingPlaces.{fitting_sizes, header_fits, shdrs_fit}
 
 -- ---- Program headers that fit
 
@@ -80,9 +80,8 @@ segments_fit o passed =
 
 module _ (image : Option (List ℕ)) (size : ℕ) (b : Body) (is : IsElf image size b)
     (lengths : SizesAreLengths) (places : Places) (w : Written) (written : b.written ≡ Some w)
-    (same : places ≡ places_of (object_of image size b))
     (passed : content_refusal (object_of image size b) ≡ None)
-    (placing : placing_refusal (object_of image size b) ≡ None) where
+    (fit : PartsFitAt (object_of image size b) places) where
   abbrev o : Object
   o = object_of image size b
 
@@ -102,15 +101,10 @@ module _ (image : Option (List ℕ)) (size : ℕ) (b : Body) (is : IsElf image s
       is.written
 
   header : h ≡ placed_header places o
-  header = header_same image size b is lengths (limited_places o placing) places
+  header = header_same image size b is lengths places
 
   headers : rows ≡ map (λ c. c.header) q.sections
-  headers = headers_same image size b is lengths (limited_places o placing) places
-
-  sound : IsObject q
-  sound =
-      subst (λ (p : Places). IsObject (placed_by p o)) (sym same)
-      (placed_by_is o is.sound.object (limited_places o placing))
+  headers = headers_same image size b is lengths (fitting_sizes o places fit) places
 
   -- the class and the order of the header that is stored
   stored_class : h.class ≡ b.header.class
@@ -122,8 +116,7 @@ module _ (image : Option (List ℕ)) (size : ℕ) (b : Body) (is : IsElf image s
   stored_order = refl
 
   fits : IsTrue (ehdr_fits h)
-  unfolding placed_by
-  fits = subst (λ (k : Ehdr). IsTrue (ehdr_fits k)) (sym header) sound.fitting
+  fits = header_fits image size b is lengths places fit
 
   written_fits : (k : Ehdr) → IsTrue (ehdr_fits k) → IsTrue (ehdr_fits (written_header k))
   unfolding written_header
@@ -186,17 +179,7 @@ module _ (image : Option (List ℕ)) (size : ℕ) (b : Body) (is : IsElf image s
       ∙ sym (differs_is part.Segments)
 
   table_fits : All (λ k. IsTrue (shdr_fits b.header.class k)) rows
-  unfolding placed_by
-  table_fits =
-      let class : q.header.class ≡ b.header.class = ap (λ (k : Ehdr). k.class) (sym header)
-      ∙ stored_class in
-      let fitting =
-      All-map (λ k. IsTrue (shdr_fits q.header.class k)) (λ c. c.header) q.sections
-      (All-weaker (IsSection q.header.class) (λ c. IsTrue (shdr_fits q.header.class c.header))
-      (λ c x. x.fitting) q.sections sound.sections) in
-      subst (λ (c : Class). All (λ k. IsTrue (shdr_fits c k)) rows) class
-      (subst (λ (l : List Shdr). All (λ k. IsTrue (shdr_fits q.header.class k)) l) (sym headers)
-      fitting)
+  table_fits = shdrs_fit image size b is lengths places fit
 
   table_differs : (r : Bool) → TellsTable r h.shoff rows w
       → not r ≡ front_differs places o part.Table

@@ -39,6 +39,7 @@ pub mod Sizes
 pub mod FirstPieces
 pub mod Tables
 pub mod Placing
+pub mod FittingPlaces
 pub mod FrontTables
 pub mod FrontCalls
 pub mod Keeping

@@ -13,7 +13,7 @@ use Rattle.section_data.specs.Held.{cell_is_loaded}
 use Rattle.section_table.specs.Sections.{SectionView as Scn, absent_scn}
 use Rattle.elf_descriptor.specs.declared.body.Body.{Body}
 use Rattle.elf_descriptor.specs.State.{State}
-use Rattle.elf_descriptor.specs.Views.{object_of, section_of, scn_at, loaded_of, held_of, room_of, ready_of, is_of_source, has_lengths, state_of, HasCounts}
+use Rattle.elf_descriptor.specs.Views.{object_of, section_of, scn_at, loaded_of, held_of, room_of, ready_of, is_of_source, has_lengths, state_of, HasCounts, has_mark}
 use Rattle.elf_descriptor.specs.Sound.{CellIn, IsElf, IsSound}
 use Rattle.elf_descriptor.proofs.Warming.{cell_at, cell_moved, standing_moved, part_within, scn_written, other_number}
 
@@ -70,6 +70,7 @@ module _ (image : Option (List ℕ)) (size : ℕ) (old new : Body) (s : ℕ) (ce
       record {
         long = is.long;
         within = part_within old new size base is.within;
+        whole = λ unmarked. base ∙ is.whole (ap has_mark (sym h.rest) ∙ unmarked);
         counts = subst HasCounts (sym h.rest) (record { phnum = is.counts.phnum; shnum = is.counts.shnum ∙ sym otherwise_count });
         cells = λ i x found.
             let there = slice_get_within new.sections i x found in

@@ -28,7 +28,7 @@ use Rattle.section_data.proofs.Holdings.{ready_own}
 use Rattle.section_data.proofs.Owning.{own_kind, claimed_piece}
 use Rattle.section_table.specs.Sections.{SectionView as Scn, absent_scn}
 use Rattle.elf_descriptor.specs.declared.body.Body.{Body}
-use Rattle.elf_descriptor.specs.Views.{object_of, section_of, raw_of, scn_at}
+use Rattle.elf_descriptor.specs.Views.{object_of, section_of, raw_of, scn_at, has_mark}
 use Rattle.elf_descriptor.specs.Sound.{IsElf, IsSound, CellIn, source_part}
 use Rattle.elf_descriptor.specs.Warmed.{Warmed}
 use Rattle.elf_descriptor.specs.Owned.{IsOwned}
@@ -189,6 +189,7 @@ module _ (image : Option (List ℕ)) (size : ℕ) (kind : Kind) (unready : Bool)
       record {
         long = is.long;
         within = part_within old new size owned_base is.within;
+        whole = λ h. owned_base ∙ is.whole (ap has_mark (sym x.rest) ∙ h);
         counts = has_counts image size new sound.object;
         cells = λ i y found.
             let there = slice_get_within new.sections i y found in

@@ -23,7 +23,7 @@ use Rattle.elf_types.specs.Answers.{answered}
 use Rattle.elf_object.specs.Calls.{update_null}
 use Rattle.elf_object.specs.Valid.{KeepsObject, KeepsTied}
 use Rattle.object_laws.specs.Laws.{SizesAreLengths}
-use Rattle.object_laws.proofs.PlaceLaws.{AreNotTooLarge, not_too_large}
+use Rattle.object_laws.proofs.PlaceLaws.{AreNotTooLarge, IsFitting, not_too_large}
 use Rattle.object_laws.proofs.PlacedLaws.{size_fits, update_passes}
 use Rattle.object_laws.proofs.StandLaws.{length-standing}
 use Rattle.writing_laws.specs.Based.{KeepsBased}
@@ -31,7 +31,7 @@ use Rattle.section_data.specs.Sizes.{data_size}
 use Rattle.section_table.specs.Sections.{SectionView as Scn, absent_scn}
 use Rattle.elf_descriptor.specs.declared.body.Body.{Body}
 use Rattle.elf_descriptor.specs.State.{State}
-use Rattle.elf_descriptor.specs.Views.{object_of, section_of, scn_at, loaded_of, held_of, room_of, ready_of, is_of_source, has_lengths, state_of}
+use Rattle.elf_descriptor.specs.Views.{object_of, section_of, scn_at, loaded_of, held_of, room_of, ready_of, is_of_source, has_lengths, state_of, has_mark}
 use Rattle.elf_descriptor.specs.Sound.{IsElf, IsSound}
 use Rattle.elf_descriptor.specs.Fronts.{stored_shdrs}
 use Rattle.elf_descriptor.specs.Edits.{homes_of, without_pieces}
@@ -98,45 +98,73 @@ module _ (places : Places) (h : Ehdr) where
 abbrev pub IsNotTooLarge : Object → Type 0
 IsNotTooLarge o = AreNotTooLarge (parts_of o) o.layout (length o.base) o.header.class
 
-pub limited_places : (o : Object) → placing_refusal o ≡ None → IsNotTooLarge o
+limited_places : (o : Object) → placing_refusal o ≡ None → IsNotTooLarge o
 unfolding placing_refusal
 limited_places o passed = not_too_large (parts_of o) o.layout (length o.base) o.header.class passed
 
 pub limited : (o : Object) → is_dirty o ≡ true → refusal o ≡ None → IsNotTooLarge o
 limited o dirty passed = limited_places o (update_passes o dirty passed).1
 
+-- the size of each section with file bytes fits the class
+abbrev pub HasFittingSizes : Object → Type 0
+HasFittingSizes o =
+    (s : ℕ) → 0 < s → s < length o.sections → occupies_file (section_at o s).header ≡ true
+    → IsFitting o.header.class (length (file_bytes o s))
+
+limited_sizes : (o : Object) → IsNotTooLarge o → HasFittingSizes o
+limited_sizes o small = λ s positive inside filled. size_fits o s small positive inside filled
+
 module _ (image : Option (List ℕ)) (size : ℕ) (b : Body) (is : IsElf image size b) (lengths : SizesAreLengths) where
   o : Object
   o = object_of image size b
 
-  module _ (small : IsNotTooLarge (object_of image size b)) where
-    -- the header is that of the placed object
-    pub header_same : (places : Places) → stored_header places b ≡ placed_header places (object_of image size b)
-    unfolding placed_header
-    header_same places =
-        ap (λ (n : ℕ). derived_header (segments_place places) (table_place places n) b.header) (sym (section_count_is image size b))
-        ∙ ap (λ (h : Ehdr). derived_header (segments_place places) (table_place places (length (object_of image size b).sections)) h) (sym (header_is image size b is.counts))
+  -- the header is that of the placed object
+  pub header_same : (places : Places)
+      → stored_header places b ≡ placed_header places (object_of image size b)
+  unfolding placed_header
+  header_same places =
+      let count = section_count_is image size b in
+      let table : ℕ → ℕ = λ n. table_place places n in
+      ap (λ (n : ℕ). derived_header (segments_place places) (table n) b.header) (sym count)
+      ∙ ap (λ (h : Ehdr).
+      derived_header (segments_place places) (table (length (object_of image size b).sections)) h)
+      (sym (header_is image size b is.counts))
+
+  above_zero : (n : ℕ) → n ≢ 0 → 0 < n
+  above_zero zero other = absurd (other refl)
+  above_zero (suc n) other = omega arith
+
+  occupies_same : (i : ℕ) (x : Scn) → scn_at b i ≡ x
+      → occupies_file (section_at (object_of image size b) i).header ≡ occupies_file x.header
+  unfolding section_of
+  occupies_same i x at =
+      ap (λ (c : Section). occupies_file c.header)
+      (section_is image size b i ∙ ap (section_of image) at)
+
+  module _ (sizes : HasFittingSizes (object_of image size b)) where
+    pub size_fitting : (i : ℕ) (x : Scn) → i < length b.sections → scn_at b i ≡ x
+        → (i == 0) ≡ false → occupies_file x.header ≡ true
+        → IsFitting (object_of image size b).header.class
+        (length (file_bytes (object_of image size b) i))
+    size_fitting i x there at first filled =
+        let inside = subst (λ (n : ℕ). i < n) (sym (section_count_is image size b)) there in
+        sizes i (above_zero i (eqb-false i 0 first)) inside (occupies_same i x at ∙ filled)
 
     -- a section's size in the file
-    size_same : (i : ℕ) (x : Scn) → i < length b.sections → scn_at b i ≡ x → (i == 0) ≡ false
-        → occupies_file x.header ≡ true
-        → min (data_size b.header.class x.cell) (2 ^ 64 - 1) ≡ length (file_bytes (object_of image size b) i)
-    unfolding has_file_bytes section_of
+    pub size_same : (i : ℕ) (x : Scn) → i < length b.sections → scn_at b i ≡ x
+        → (i == 0) ≡ false → occupies_file x.header ≡ true
+        → min (data_size b.header.class x.cell) (2 ^ 64 - 1)
+        ≡ length (file_bytes (object_of image size b) i)
+    unfolding has_file_bytes
     size_same i x there at first filled =
         let p = object_of image size b in
-        let here : section_at p i ≡ section_of image x = section_is image size b i ∙ ap (section_of image) at in
-        let occupies : occupies_file (section_at p i).header ≡ true = ap (λ (c : Section). occupies_file c.header) here ∙ filled in
-        let count = section_count_is image size b in
-        let positive = eqb-false i 0 first in
-        let fits = size_fits p i small (above_zero i positive) (subst (λ (n : ℕ). i < n) (sym count) there) occupies in
+        let occupies : occupies_file (section_at p i).header ≡ true =
+        occupies_same i x at ∙ filled in
         let long = lengths.of_pieces p i (rw (first, occupies) refl) in
-        let ends = size_is image size b i is there ∙ ap (λ (y : Scn). data_size b.header.class y.cell) at in
-        let range = fits.range in
+        let ends = size_is image size b i is there
+        ∙ ap (λ (y : Scn). data_size b.header.class y.cell) at in
+        let range = (size_fitting i x there at first filled).range in
         omega (arith, range, long, ends)
-      where
-        above_zero : (n : ℕ) → n ≢ 0 → 0 < n
-        above_zero zero other = absurd (other refl)
-        above_zero (suc n) other = omega arith
 
     shdr_same : (places : Places) (i : ℕ) (x : Scn) → i < length b.sections → scn_at b i ≡ x
         → stored_shdr (stored_header places b) i (section_place places i) x ≡ placed_shdr places (object_of image size b) i x.header
@@ -228,8 +256,8 @@ module _ {S : Type 0} (g : Ghosts S) (source : S) (old new : Body) (places : Pla
   object : object_of (g.holds source) (g.size source) new ≡ placed (object_of (g.holds source) (g.size source) old)
   object =
       let o = object_of (g.holds source) (g.size source) old in
-      placed_object (g.holds source) (g.size source) old is lengths (limited o dirty passed)
-      new places dirty same stores
+      placed_object (g.holds source) (g.size source) old is lengths
+      (limited_sizes o (limited o dirty passed)) new places dirty same stores
 
   class_same : new.header.class ≡ old.header.class
   unfolding derived_header
@@ -257,6 +285,7 @@ module _ {S : Type 0} (g : Ghosts S) (source : S) (old new : Body) (places : Pla
       record {
         long = is.long;
         within = part_within old new size base is.within;
+        whole = λ h. base ∙ is.whole (ap has_mark (sym stores.rest) ∙ h);
         counts = has_counts image size new sound.object;
         cells = λ i s found. cell_moved old new class_same order_same base i s (cells_kept image size old new (homes_stored places old new stores) is i s found);
         written = standing_moved old new class_same order_same (ap (λ (b : Body). b.written) stores.rest) is.written;

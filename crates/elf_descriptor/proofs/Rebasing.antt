@@ -1,6 +1,6 @@
 -- The base changes with the source: what the homes hold stays, and so does what is true of the descriptor.
 use Rattle.std.proofs.Common.{◌≡◌, ◌∙◌, ℕ, zero, suc, ◌+◌, ◌^◌, ◌<◌, ◌≤◌, Bool, true, false, List, [], ◌∷◌, length, take, drop, get_or, map, Option, Some, None, refl, sym, ap, subst, arith}
-use Rattle.std.specs.Prelude.{slice_get, IfSome, IsSome, is_some, if◌then◌else◌}
+use Rattle.std.specs.Prelude.{slice_get, ◌||◌, IfSome, IsSome, is_some, if◌then◌else◌}
 use Rattle.std.proofs.lemmas.List.{length-take, length-drop}
 use Rattle.std.proofs.lemmas.List.Elements.{All-get_or, All-take, All-replicate, All-from_get_or}
 use Rattle.elf_object.specs.Object.{Object, Section, section_at, absent_section, is_dirty}
@@ -14,7 +14,7 @@ use Rattle.section_table.specs.Sections.{SectionView as Scn, absent_scn}
 use Rattle.elf_descriptor.specs.declared.body.Body.{Body}
 use Rattle.elf_descriptor.specs.declared.body.Base.{Base}
 use Rattle.elf_descriptor.specs.declared.body.Base.TheVariants as bases
-use Rattle.elf_descriptor.specs.Views.{object_of, section_of, raw_of, bytes_or, base_of, source_bytes, scn_at, is_of_source, HasCounts}
+use Rattle.elf_descriptor.specs.Views.{object_of, section_of, raw_of, bytes_or, base_of, source_bytes, scn_at, is_of_source, HasCounts, has_mark}
 use Rattle.std.proofs.lemmas.Option.{get_or_from_slice_get, slice_get_within}
 use Rattle.elf_descriptor.specs.Sound.{IsElf, IsSound, IsStanding, CellIn, source_part}
 use Rattle.elf_descriptor.proofs.Objects.{section_is, section_count_is, base_length, base_count}
@@ -53,6 +53,11 @@ other_base o bytes is each small = record {
   base_length = small;
   fill = is.fill;
 }
+
+marked_body : (image : Option (List ℕ)) (size : ℕ) (b : Body)
+    → (object_of image size b).marked ≡ true → has_mark b ≡ true
+unfolding object_of
+marked_body image size b marked = ap (λ (t : Bool). t || b.header_marked) marked
 
 marked_dirty : (o : Object) → o.marked ≡ true → is_dirty o ≡ true
 unfolding is_dirty
@@ -245,6 +250,9 @@ module _ (touched : ℕ → ℕ → Bool) (image now : Option (List ℕ)) (size 
       record {
         long = r.long;
         within = subst (λ (b : Base). source_part b ≤ after) (sym r.new_part) r.within;
+        whole = λ h.
+            let same : has_mark old ≡ false = ap has_mark (sym r.rest) ∙ h in
+            let never : true ≡ false = sym (marked_body image size old marked) ∙ same in cc;
         counts = subst HasCounts (sym r.rest) (record { phnum = is.counts.phnum; shnum = is.counts.shnum });
         cells = λ i s found.
             cell_in i s (ap (λ (b : Body). slice_get b.sections i) (sym r.rest) ∙ found);

@@ -222,6 +222,7 @@ module _ {S : Type 0} (g : Ghosts S) (source : S) (old mid new : Body)
       record {
         long = is.long;
         within = subst (λ (b : Base). source_part b ≤ size) (sym base_now) (omega arith);
+        whole = λ h. base_now;
         counts = has_counts image size new sound.object;
         cells = cells_now;
         written = subst (λ (w : Option Written).

@@ -20,7 +20,7 @@ use Rattle.section_data.specs.Leaves.{Warms, RawBecomes, LiesIn}
 use Rattle.section_data.proofs.Loading.{warms_same}
 use Rattle.section_table.specs.Sections.{SectionView as Scn, section_in, AreNumbered, absent_scn}
 use Rattle.elf_descriptor.specs.declared.body.Body.{Body}
-use Rattle.elf_descriptor.specs.Views.{object_of, section_of, raw_of, bytes_or, scn_at, HasCounts, ready_of, is_of_source, has_lengths}
+use Rattle.elf_descriptor.specs.Views.{object_of, section_of, raw_of, bytes_or, scn_at, HasCounts, ready_of, is_of_source, has_lengths, has_mark}
 use Rattle.elf_descriptor.specs.Warmed.{Warmed}
 use Rattle.elf_descriptor.specs.Sound.{IsElf, IsSound, CellIn, source_part, IsStanding}
 use Rattle.elf_descriptor.specs.declared.body.Base.{Base}
@@ -257,6 +257,7 @@ unfolding scn_at
 warmed_elf image size old new s w is = record {
   long = is.long;
   within = part_within old new size (ap (λ (b : Body). b.base) w.rest) is.within;
+  whole = λ h. ap (λ (b : Body). b.base) w.rest ∙ is.whole (ap has_mark (sym w.rest) ∙ h);
   counts = warmed_counts image old new s w is.counts;
   cells = λ i x found.
       let count = ap length w.sections

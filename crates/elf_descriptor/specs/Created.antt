@@ -6,7 +6,7 @@ use Rattle.elf_object.specs.Open.{created_over}
 use Rattle.elf_descriptor.specs.declared.body.Body.{Body}
 use Rattle.elf_descriptor.specs.declared.body.Base.TheVariants as bases
 use Rattle.elf_descriptor.specs.State.{State}
-use Rattle.elf_descriptor.specs.Views.{object_of, ready_of}
+use Rattle.elf_descriptor.specs.Views.{object_of, ready_of, has_mark}
 
 -- what the program keeps of it stands for it, whatever its source
 pub record IsCreatedBody (class : Class) (order : Order) (base : List ℕ) (b : Body) : Type 0 where
@@ -15,6 +15,7 @@ pub record IsCreatedBody (class : Class) (order : Order) (base : List ℕ) (b : 
   pub none : b.sections ≡ []
   pub base_is : b.base ≡ bases.Own base
   pub written : b.written ≡ None
+  pub marks : has_mark b ≡ true
   pub ready : ready_of b ≡ false
 
 -- no section and no program header over these base bytes; nothing is held

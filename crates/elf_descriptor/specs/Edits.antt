@@ -16,7 +16,7 @@ use Rattle.section_data.specs.Views.{CellView}
 use Rattle.section_table.specs.Sections.{SectionView as Scn, new_scn}
 use Rattle.elf_descriptor.specs.declared.body.Body.{Body}
 use Rattle.elf_descriptor.specs.State.{State}
-use Rattle.elf_descriptor.specs.Views.{object_of, scn_at, ready_of}
+use Rattle.elf_descriptor.specs.Views.{object_of, scn_at, ready_of, has_mark}
 
 -- ---- The descriptor
 
@@ -43,7 +43,7 @@ without_pieces s = record s.cell { pieces = [] }
 unfoldable pub homes_of : Body → List CellView
 homes_of b = map without_pieces b.sections
 
--- a step of the object, whatever its source tells; of the homes nothing changes
+-- a step of the object, whatever its source tells; of the homes nothing changes, and a mark stays
 pub record IsStepped (after : Object → Object) (stays_ready : Bool) (old new : Body) : Type 0 where
   pub object : (image : Option (List ℕ)) (size : ℕ)
       → object_of image size new ≡ after (object_of image size old)
@@ -52,6 +52,7 @@ pub record IsStepped (after : Object → Object) (stays_ready : Bool) (old new :
   pub order : new.header.order ≡ old.header.order
   pub base : new.base ≡ old.base
   pub written : new.written ≡ old.written
+  pub marks : has_mark new ≡ false → has_mark old ≡ false
   pub ready : ready_of new ≡ stays_ready
 
 -- the part is there
@@ -91,7 +92,7 @@ new_scns first count = map new_scn (range_with_len first count)
 abbrev pub with_added : ℕ → Object → Object
 with_added count o = with_sections o (o.sections ++ replicate count new_section)
 
--- a step that adds sections, whatever the source tells
+-- a step that adds sections, whatever the source tells; a mark stays
 pub record IsGrown (after : Object → Object) (old new : Body) : Type 0 where
   pub count : ℕ
   pub object : (image : Option (List ℕ)) (size : ℕ)
@@ -102,6 +103,7 @@ pub record IsGrown (after : Object → Object) (old new : Body) : Type 0 where
   pub order : new.header.order ≡ old.header.order
   pub base : new.base ≡ old.base
   pub written : new.written ≡ old.written
+  pub marks : has_mark new ≡ false → has_mark old ≡ false
   pub ready : ready_of new ≡ false
 
 -- of each section, whether something of it is held: of one that is added nothing is

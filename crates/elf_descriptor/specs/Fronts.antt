@@ -35,6 +35,11 @@ pub record HoldsBase {S : Type 0} (g : Ghosts S) (state : State S) : Type 0 wher
   pub long : length state.o.base ≤ g.size state.source
   pub is : IfSome (g.holds state.source) (λ held. take (length state.o.base) held ≡ state.o.base)
 
+-- the source is the base and no more
+pub record HoldsBaseAlone {S : Type 0} (g : Ghosts S) (state : State S) : Type 0 where
+  pub long : g.size state.source ≡ length state.o.base
+  pub is : IfSome (g.holds state.source) (λ held. held ≡ state.o.base)
+
 -- ---- Records in place of bytes
 
 -- two lists have other items at some index, where that of the first is in its range

@@ -1,14 +1,17 @@
 -- Places, sizes and derived values that are stored in the headers, in what the program keeps
 -- (elf_update with ELF_C_NULL; gABI chapter 4, "Section Header").
-use Rattle.std.specs.Prelude.{◌≡◌, ℕ, ◌+◌, ◌-◌, ◌^◌, ◌==◌, min, length, map, if◌then◌else◌}
-use Rattle.std.specs.List.{enumerate_from}
+use Rattle.std.specs.Prelude.{◌≡◌, ℕ, ◌+◌, ◌-◌, ◌^◌, ◌<◌, ◌==◌, true, min, length, map, if◌then◌else◌}
+use Rattle.std.specs.List.{enumerate_from, AllZip}
 use Rattle.elf_types.specs.declared.records.Class.{Class}
+use Rattle.elf_types.specs.declared.records.Class.TheVariants.{C32, C64}
 use Rattle.elf_types.specs.declared.records.Ehdr.{Ehdr}
 use Rattle.elf_types.specs.declared.records.Shdr.{Shdr}
+use Rattle.elf_layout.specs.declared.parts.PartAt.{PartAt}
 use Rattle.elf_layout.specs.declared.parts.Places.{Places}
-use Rattle.elf_object.specs.Object.{is_null, occupies_file}
+use Rattle.elf_layout.specs.Meeting.{has_bytes}
+use Rattle.elf_object.specs.Object.{Object, is_null, occupies_file}
 use Rattle.elf_object.specs.Derived.{derived_header, numbered_shdr}
-use Rattle.elf_object.specs.Layout.{segments_place, section_place, table_place}
+use Rattle.elf_object.specs.Layout.{parts_of, segments_place, section_place, table_place}
 use Rattle.section_data.specs.Views.{CellView}
 use Rattle.section_data.specs.Sizes.{data_size}
 use Rattle.section_table.specs.Sections.{SectionView as Scn}
@@ -18,6 +21,21 @@ use Rattle.elf_descriptor.specs.declared.body.Body.{Body}
 -- header table, the sections from 1 on and the section header table
 abbrev pub HasPlaces : Places → ℕ → Type 0
 HasPlaces places count = length places.at ≡ count - 1 + 3
+
+-- the bound of a place in the file: an Elf32_Off has four bytes, an Elf64_Off eight (gABI chapter
+-- 4, "Data Representation")
+unfoldable pub place_bound : Class → ℕ
+place_bound C32 = 2 ^ 32
+place_bound C64 = 2 ^ 64
+
+-- a part fits the class at a place: the place does and, where the part has bytes, its end does
+pub record FitsAt (class : Class) (p : PartAt) (at : ℕ) : Type 0 where
+  pub place : at < place_bound class
+  pub end : has_bytes p ≡ true → at + p.len < place_bound class
+
+-- there is a place for each part of the object, and each part fits the class there
+abbrev pub PartsFitAt : Object → Places → Type 0
+PartsFitAt o places = AllZip (FitsAt o.header.class) (parts_of o) places.at
 
 -- sh_size: where the last piece of a section with file bytes ends; the caller's where it has none
 abbrev pub size_to_store : Class → Shdr → CellView → ℕ

@@ -13,7 +13,7 @@ use Rattle.elf_descriptor.specs.declared.body.Written.{Written}
 use Rattle.elf_descriptor.specs.declared.body.Body.{Body}
 use Rattle.elf_descriptor.specs.declared.body.Base.{Base}
 use Rattle.elf_descriptor.specs.declared.body.Base.TheVariants as bases
-use Rattle.elf_descriptor.specs.Views.{object_of, is_of_source, HasCounts}
+use Rattle.elf_descriptor.specs.Views.{object_of, is_of_source, has_mark, HasCounts}
 
 -- how many bytes of the source are the base's
 abbrev pub source_part : Base → ℕ
@@ -45,6 +45,7 @@ pub record IsSound (image : Option (List ℕ)) (o : Object) : Type 0 where
 pub record IsElf (image : Option (List ℕ)) (size : ℕ) (b : Body) : Type 0 where
   pub long : IfSome image (λ bytes. length bytes ≡ size)
   pub within : source_part b.base ≤ size
+  pub whole : has_mark b ≡ false → b.base ≡ bases.Source size
   pub counts : HasCounts b
   pub cells : (i : ℕ) (s : Scn) → slice_get b.sections i ≡ Some s
       → CellIn b.header.class b.header.order b.base i s

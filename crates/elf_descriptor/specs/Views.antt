@@ -1,5 +1,5 @@
 -- What the program keeps of an object, as the plain object.
-use Rattle.std.specs.Prelude.{◌≡◌, ℕ, Bool, false, List, [], ◌==◌, ◌&&◌, length, min, take, map, nat_le, slice_index_or, true, Option, Some, None, is_some, if◌then◌else◌}
+use Rattle.std.specs.Prelude.{◌≡◌, ℕ, Bool, false, List, [], ◌==◌, ◌&&◌, ◌||◌, length, min, take, map, nat_le, slice_index_or, true, Option, Some, None, is_some, if◌then◌else◌}
 use Rattle.std.proofs.Math.ListN.{replicate}
 use Rattle.elf_types.specs.declared.errors.ElfError.{ElfError}
 use Rattle.elf_types.specs.declared.errors.ElfError.TheVariants.{NoSection}
@@ -127,6 +127,11 @@ scn_at b s = slice_index_or b.sections s absent_scn
 
 unfoldable pub no_scn : Body → ℕ → Option ElfError
 no_scn b s = refused_if (nat_le (length b.sections) s) (NoSection s (length b.sections))
+
+-- whether it has one of two marks: a new object has that of the ELF header, and one of which a
+-- write failed has that of the object as a whole
+abbrev pub has_mark : Body → Bool
+has_mark b = b.marked || b.header_marked
 
 -- the two counts in the header are the lengths of the lists
 pub record HasCounts (b : Body) : Type 0 where

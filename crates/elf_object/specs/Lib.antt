@@ -2,6 +2,7 @@ pub mod Words
 pub mod Blocks
 pub mod Object
 pub mod Open
+pub mod Sections
 pub mod Answers
 pub mod Joined
 pub mod Derived

@@ -10,3 +10,4 @@ pub mod Kept
 pub mod MemFiles
 pub mod Windows
 pub mod Opens
+pub mod Known

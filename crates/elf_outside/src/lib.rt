@@ -20,7 +20,7 @@ pub use devices::Device;
 pub use file_sets::{Files, OpenFault};
 pub use memory::{MemDevice, MemFiles, MemSink, MemSource};
 pub use no_source::NoSource;
-pub use real::{Attempt, Failure, RealFile, RealFiles, RealSink};
+pub use real::{Attempt, Failure, RealFile, RealFiles, RealSink, take_streams};
 pub use sinks::Sink;
 pub use sources::{Failed, Source};
 pub use window::Window;

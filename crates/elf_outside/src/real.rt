@@ -5,6 +5,7 @@ pub mod files;
 pub mod open_files;
 pub mod read_ahead;
 pub mod sink;
+pub mod streams;
 pub mod system_file;
 pub mod transfers;
 
@@ -12,6 +13,7 @@ pub use failure::{Attempt, Failure};
 pub use files::RealFiles;
 use read_ahead::ReadAhead;
 pub use sink::RealSink;
+pub use streams::take_streams;
 use system_file::SystemFile;
 
 /// A file of the system whose small reads are served from a window. It tells no bytes. Its length

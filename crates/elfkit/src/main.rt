@@ -6,7 +6,7 @@ ghost use Rattle.std.specs.Prelude.{◌≡◌, ◌⊎◌, IfErr};
 mod failures;
 
 use crate::failures::{say_no_memory, say_why};
-use elf_outside::{RealFiles, RealSink, Sink};
+use elf_outside::{RealFiles, RealSink, Sink, take_streams};
 use elfkit_run::run;
 use std::env;
 use std::io::ErrorKind;
@@ -47,6 +47,8 @@ fn end_without_words(rt: &HostRuntime, status: Status) -> Status {
 
 /// The status of the program.
 fn start(rt: &HostRuntime) -> Status {
+    // (where this fails, the files refuse what would get the descriptor of a stream)
+    let _ = take_streams(rt);
     let words = match read_arguments(rt) {
         Ok(words) => words,
         Err(status) => return end_without_words(rt, status),

@@ -1,7 +1,7 @@
 //! Hashes of names.
 
 ghost use Rattle.std.specs.Prelude.{◌≡◌};
-ghost use Rattle.command_objects.specs.Hashes as hashes;
+ghost use Rattle.hash_model.specs.Hashes as hashes;
 
 /// The hash of a name in a section of type `SHT_HASH`. It refuses nothing and takes no memory.
 ///

@@ -19,7 +19,7 @@ use Rattle.elf_ident.specs.Front.{front, zero_shdr}
 use Rattle.elf_object.specs.Object.{Object, Section, Home, Piece, section_at, piece_at, absent_section, home_piece}
 use Rattle.elf_object.specs.Open.{home_len, home_of, home_bytes, opened_section, begun, begun_or_refused, opened}
 use Rattle.elf_object.specs.Answers.{content, piece_count, kind_at, same_kind, no_section, no_data, wrong_kind, no_content, lend_refusal}
-use Rattle.command_objects.specs.Words.{header_at}
+use Rattle.elf_object.specs.Sections.{header_at}
 use Rattle.lint_findings.specs.Looking.{is_out, is_ragged, is_intact}
 
 -- ---- Tests

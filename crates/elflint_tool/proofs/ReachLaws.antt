@@ -11,9 +11,9 @@ use Rattle.elf_ident.specs.Front.{zero_shdr}
 use Rattle.elf_object.specs.Object.{Object}
 use Rattle.elf_object.specs.Open.{opened}
 use Rattle.elf_object.specs.Answers.{bytes_of, words_of, items_at, same_kind, lend_refusal}
-use Rattle.command_objects.specs.Words.{header_at, is_of}
-use Rattle.command_objects.specs.HashSections.{is_whole_sysv, is_whole_gnu}
-use Rattle.command_objects.specs.Listed.{listed_names}
+use Rattle.elf_object.specs.Sections.{header_at, is_of}
+use Rattle.hash_model.specs.HashSections.{is_whole_sysv, is_whole_gnu}
+use Rattle.hash_model.specs.Listed.{listed_names}
 use Rattle.lint_findings.specs.Findings.{Finding, Rule}
 use Rattle.lint_findings.specs.Looking.{is_looked_at, is_plain, is_symbol_table, linked_header, links_to_symbols, words, data_bytes}
 use Rattle.elflint_tool.proofs.OpenedLemmas.{both, is_there, lend_passes}

@@ -8,7 +8,7 @@ use Rattle.elf_types.specs.declared.records.Shdr.{Shdr}
 use Rattle.elf_types.specs.Kinds.{is_compressed}
 use Rattle.elf_object.specs.Object.{Object}
 use Rattle.elf_object.specs.Open.{opened}
-use Rattle.command_objects.specs.Words.{header_at, is_of}
+use Rattle.elf_object.specs.Sections.{header_at, is_of}
 use Rattle.lint_findings.specs.declared.places.Place.{Place}
 use Rattle.lint_findings.specs.declared.places.Place.TheVariants.{Section}
 use Rattle.lint_findings.specs.Findings.{Finding}

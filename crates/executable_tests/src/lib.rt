@@ -8,6 +8,8 @@ mod commands;
 #[cfg(test)]
 mod contents;
 #[cfg(test)]
+mod faults;
+#[cfg(test)]
 mod halves;
 #[cfg(test)]
 mod image;

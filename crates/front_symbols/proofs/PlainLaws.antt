@@ -372,7 +372,7 @@ module _ (f : Front) (image : List ℕ) (t : PlainTable) (plain : IsPlain f (len
   pub plain_link : (section_at (begun f image) t.section).header.link ≡ t.symbols.link
   unfolding opened_section
   plain_link = ap (λ (c : Section). c.header.link)
-    (section_is f image t.section t.symbols plain.there)
+      (section_is f image t.section t.symbols plain.there)
 
   -- and its strings begin in the second
   pub plain_strings : (offset : ℕ)

@@ -20,8 +20,8 @@ use Rattle.elf_object.proofs.PassedLaws.{none_first}
 use Rattle.elf_descriptor.specs.State.{State}
 use Rattle.elf_descriptor.specs.Reads.{Reads, Looks, wanted}
 use Rattle.elf_descriptor.proofs.ReadsLaws.{reads_nothing}
-use Rattle.command_objects.specs.BuiltHashes.{hash_refusal}
-use Rattle.command_objects.specs.Listed.{listed_names}
+use Rattle.hash_model.specs.BuiltHashes.{hash_refusal}
+use Rattle.hash_model.specs.Listed.{listed_names}
 use Rattle.symbol_lookup.specs.Lookups.{table_homes}
 use Rattle.hash_build.specs.Calls.{hash_call, order_refusals}
 use Rattle.hash_build.specs.Tables.{MayStop, MayStopUnsorted, ReadsTable, ReadsInOrder}

@@ -18,7 +18,7 @@ use Rattle.elf_object.specs.Calls.{sym_answer}
 use Rattle.elf_object.specs.Strings.{readable, string_answer, symbol_name}
 use Rattle.elf_object.proofs.AnswerLaws.{sym_value}
 use Rattle.elf_descriptor.specs.State.{State}
-use Rattle.command_objects.specs.Listed.{is_defined_global, listed_name, listed_names, not_empty}
+use Rattle.hash_model.specs.Listed.{is_defined_global, listed_name, listed_names, not_empty}
 use Rattle.symbol_lookup.specs.Lookups.{link_of}
 use Rattle.hash_build.specs.declared.hashing.Hashing.{Hashing}
 use Rattle.hash_build.specs.Hashed.{hash_with, listed_hashes}

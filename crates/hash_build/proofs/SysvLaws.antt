@@ -8,9 +8,9 @@ use Rattle.std.proofs.lemmas.List.FromFn.{length-map-range_with_len}
 use Rattle.elf_types.specs.Answers.{answered}
 use Rattle.elf_types.specs.declared.errors.ElfError.{ElfError}
 use Rattle.elf_object.specs.Object.{Object}
-use Rattle.command_objects.specs.HashSections.{SysvHash, sysv_words}
-use Rattle.command_objects.specs.BuiltHashes.{buckets_of, first_in, next_in, sysv_built, build_sysv_answer, hash_refusal}
-use Rattle.command_objects.specs.Listed.{listed_names}
+use Rattle.hash_model.specs.HashSections.{SysvHash, sysv_words}
+use Rattle.hash_model.specs.BuiltHashes.{buckets_of, first_in, next_in, sysv_built, build_sysv_answer, hash_refusal}
+use Rattle.hash_model.specs.Listed.{listed_names}
 use Rattle.hash_build.specs.declared.hashing.Hashing.TheVariants.{Sysv}
 use Rattle.hash_build.specs.Hashed.{hash_with, listed_hashes, buckets_by, sysv_of, zeros_of, first_set, next_set}
 use Rattle.hash_build.proofs.RangeLaws.{bucket_at, buckets_long, AreFirsts, AreNexts, firsts_none, firsts_more, firsts_all, nexts_none, nexts_more, nexts_all}

@@ -7,8 +7,8 @@ use Rattle.elf_object.specs.Words.{Refusals}
 use Rattle.elf_object.specs.Object.{Object}
 use Rattle.elf_object.specs.Due.{unless_refused}
 use Rattle.elf_object.specs.Calls.{Call, some_memory}
-use Rattle.command_objects.specs.BuiltHashes as rules
-use Rattle.command_objects.specs.BuiltHashes.{hash_refusal, build_sysv_answer, gnu_order_answer, build_gnu_answer}
+use Rattle.hash_model.specs.BuiltHashes as rules
+use Rattle.hash_model.specs.BuiltHashes.{hash_refusal, build_sysv_answer, gnu_order_answer, build_gnu_answer}
 use Rattle.symbol_lookup.specs.Lookups.{table_homes}
 use Rattle.hash_build.specs.declared.shape.GnuShape.{GnuShape}
 

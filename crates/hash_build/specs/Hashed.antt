@@ -5,10 +5,10 @@ use Rattle.std.specs.Option.{option_map}
 use Rattle.std.specs.List.{range_with_len}
 use Rattle.std.proofs.Math.ListN.{replicate}
 use Rattle.elf_object.specs.Object.{Object}
-use Rattle.command_objects.specs.Hashes.{elf_hash, gnu_hash}
-use Rattle.command_objects.specs.Listed.{listed_names}
-use Rattle.command_objects.specs.HashSections.{SysvHash}
-use Rattle.command_objects.specs.BuiltHashes.{first_in, next_in}
+use Rattle.hash_model.specs.Hashes.{elf_hash, gnu_hash}
+use Rattle.hash_model.specs.Listed.{listed_names}
+use Rattle.hash_model.specs.HashSections.{SysvHash}
+use Rattle.hash_model.specs.BuiltHashes.{first_in, next_in}
 use Rattle.hash_build.specs.declared.hashing.Hashing.{Hashing}
 use Rattle.hash_build.specs.declared.hashing.Hashing.TheVariants.{Sysv, Gnu}
 

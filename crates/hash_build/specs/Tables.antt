@@ -8,8 +8,8 @@ use Rattle.elf_object.specs.Object.{Object}
 use Rattle.elf_object.specs.Due.{homes_due}
 use Rattle.elf_descriptor.specs.State.{State}
 use Rattle.elf_descriptor.specs.Reads.{Reads}
-use Rattle.command_objects.specs.Listed.{listed_names}
-use Rattle.command_objects.specs.BuiltHashes.{hash_refusal}
+use Rattle.hash_model.specs.Listed.{listed_names}
+use Rattle.hash_model.specs.BuiltHashes.{hash_refusal}
 use Rattle.symbol_lookup.specs.Lookups.{link_of, table_homes}
 use Rattle.hash_build.specs.declared.tables.SymbolTable.{SymbolTable}
 

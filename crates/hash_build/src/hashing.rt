@@ -2,7 +2,7 @@
 
 ghost use Rattle.std.specs.Prelude.{◌≡◌, Some};
 ghost use Rattle.std.specs.Option.{option_map};
-ghost use Rattle.command_objects.specs.Listed.{not_empty};
+ghost use Rattle.hash_model.specs.Listed.{not_empty};
 ghost use Rattle.hash_build.specs.Hashed.{hash_with};
 
 use symbol_hashes::{elf_hash, gnu_hash};

@@ -4,7 +4,7 @@ ghost use Rattle.std.specs.Prelude.{◌≡◌, ◌+◌, ◌++◌, ◌∷◌, ◌
 ghost use Rattle.std.specs.Option.{option_map};
 ghost use Rattle.elf_types.specs.Answers.{Follows};
 ghost use Rattle.elf_object.specs.Strings.{readable, string_answer};
-ghost use Rattle.command_objects.specs.Listed.{is_defined_global, not_empty};
+ghost use Rattle.hash_model.specs.Listed.{is_defined_global, not_empty};
 ghost use Rattle.hash_build.specs.Hashed.{hash_with, listed_hashes};
 ghost use Rattle.hash_build.specs.Reading.{no_hash};
 ghost use Rattle.hash_build.specs.Tables.{IsSymbolTable, ReadsTable};

@@ -4,8 +4,8 @@ ghost use Rattle.std.specs.Prelude.{◌≡◌, ◌<◌, ◌^◌, length, map, Is
 ghost use Rattle.elf_types.specs.declared.errors.ElfError.TheVariants.{Memory};
 ghost use Rattle.elf_object.specs.Words.{Answers};
 ghost use Rattle.elf_descriptor.specs.Reads.{Looks, wanted};
-ghost use Rattle.command_objects.specs.BuiltHashes.{gnu_order_of, order_key};
-ghost use Rattle.command_objects.specs.Listed.{listed_names};
+ghost use Rattle.hash_model.specs.BuiltHashes.{gnu_order_of, order_key};
+ghost use Rattle.hash_model.specs.Listed.{listed_names};
 ghost use Rattle.hash_build.specs.Calls as calls;
 ghost use Rattle.hash_build.specs.Hashed.{buckets_by};
 ghost use Rattle.hash_build.specs.Rows.{order_by, rows_of, sorted_rows, IsOrder};

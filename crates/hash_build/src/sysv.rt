@@ -5,9 +5,9 @@ ghost use Rattle.std.specs.List.{range_with_len};
 ghost use Rattle.elf_types.specs.declared.errors.ElfError.TheVariants.{Memory};
 ghost use Rattle.elf_object.specs.Words.{Answers};
 ghost use Rattle.elf_descriptor.specs.Reads.{Looks, wanted};
-ghost use Rattle.command_objects.specs.HashSections.{sysv_words};
-ghost use Rattle.command_objects.specs.BuiltHashes.{first_in, next_in, sysv_built};
-ghost use Rattle.command_objects.specs.Listed.{listed_names};
+ghost use Rattle.hash_model.specs.HashSections.{sysv_words};
+ghost use Rattle.hash_model.specs.BuiltHashes.{first_in, next_in, sysv_built};
+ghost use Rattle.hash_model.specs.Listed.{listed_names};
 ghost use Rattle.hash_build.specs.Calls as calls;
 ghost use Rattle.hash_build.specs.Hashed.{buckets_by, first_set, next_set, sysv_of, zeros_of};
 ghost use Rattle.hash_build.specs.Tables.{IsSymbolTable, ReadsTable};
@@ -70,7 +70,7 @@ fn link_symbols(hashes: &List<Option<u32>>, nbucket: u32, buckets: &mut Words, c
 }
 
 /// The words of a section: the two counts, the buckets, the chain words. It refuses `Memory` alone.
-#[tactic(auto, unfolding(command_objects::specs::HashSections::sysv_words))]
+#[tactic(auto, unfolding(hash_model::specs::HashSections::sysv_words))]
 fn join_words(alloc: Global, buckets: &Words, chains: &Words) -> Result<Words, ElfError>
     requires buckets { length buckets.now < 2 ^ 32 }
     requires chains { length chains.now < 2 ^ 32 }

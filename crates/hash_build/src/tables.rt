@@ -4,7 +4,7 @@ ghost use Rattle.std.specs.Prelude.{◌≡◌, IfOk, IfErr, None, Some};
 ghost use Rattle.elf_types.specs.Answers.{IsRefusal};
 ghost use Rattle.elf_types.specs.declared.records.Kind.TheVariants as kinds;
 ghost use Rattle.elf_object.specs.Answers.{count_at, lend_refusal};
-ghost use Rattle.command_objects.specs.BuiltHashes.{hash_refusal};
+ghost use Rattle.hash_model.specs.BuiltHashes.{hash_refusal};
 ghost use Rattle.hash_build.specs.Tables.{IsSymbolTable};
 
 use elf_descriptor::Elf;

@@ -1,25 +1,20 @@
--- Hash sections that are built are whole, have no finding, and are looked up as all symbols are.
-use Rattle.std.proofs.Common.{◌≡◌, ◌<◌, ℕ, Bool, true, false, not, ◌&&◌, List, [], ◌∷◌, Option, Some, None, Ok, refl, ap, ◌∙◌}
+-- Hash sections that are built are whole, and are looked up as all symbols are.
+use Rattle.std.proofs.Common.{◌≡◌, ◌<◌, ℕ, true, List, [], ◌∷◌, Option, Some, None, Ok, refl, ap, ◌∙◌}
 use Rattle.std.specs.Option.{option_map}
-use Rattle.std.proofs.lemmas.Bool.{and_right, not_from_true}
 use Rattle.elf_types.specs.Answers.{first_refusal}
-use Rattle.elf_types.specs.declared.records.Kind.TheVariants as kinds
-use Rattle.elf_types.specs.declared.errors.ElfError.{ElfError}
 use Rattle.elf_types.specs.declared.errors.ElfError.TheVariants.{Unsorted}
 use Rattle.elf_object.specs.Object.{Object}
-use Rattle.elf_object.specs.Answers.{bytes_of, words_of, items_at, lend_refusal}
+use Rattle.elf_object.specs.Answers.{bytes_of, words_of, items_at}
 use Rattle.elf_object.proofs.AnswerLaws.{answered_value}
 use Rattle.elf_object.proofs.PassedLaws.{none_first, none_rest}
-use Rattle.command_objects.specs.Hashes.{gnu_hash}
-use Rattle.command_objects.specs.HashSections.{sysv_words, gnu_bytes, is_whole_sysv, is_whole_gnu}
-use Rattle.command_objects.specs.Listed.{listed_names, find_linear_answer}
-use Rattle.command_objects.specs.BuiltHashes.{GnuShape, buckets_of, sysv_built, gnu_built, first_unsorted, hash_refusal, unsorted, build_sysv_answer, build_gnu_answer}
+use Rattle.hash_model.specs.Hashes.{gnu_hash}
+use Rattle.hash_model.specs.HashSections.{sysv_words, gnu_bytes, is_whole_sysv, is_whole_gnu}
+use Rattle.hash_model.specs.Listed.{listed_names, find_linear_answer}
+use Rattle.hash_model.specs.BuiltHashes.{GnuShape, buckets_of, sysv_built, gnu_built, first_unsorted, hash_refusal, unsorted, build_sysv_answer, build_gnu_answer}
 use Rattle.command_objects.specs.Laws.{IsShape, BuiltHashesAreWhole}
 use Rattle.symbol_lookup.specs.Lookups.{link_of, find_sysv_answer, find_gnu_answer}
 use Rattle.symbol_lookup.proofs.ReachLaws.{hash_reach}
-use Rattle.lint_findings.specs.Looking.{if_lent, words, data_bytes}
-use Rattle.lint_hashes.specs.Hashes.{has_words_of_symbols, has_bytes_of_symbols, is_broken_hash, is_broken_gnu_hash}
-use Rattle.hash_laws.specs.Built.{HoldsSysv, HoldsGnu, BuiltHaveNoFinding, BuiltAreFound}
+use Rattle.hash_laws.specs.Built.{HoldsSysv, HoldsGnu, BuiltAreFound}
 use Rattle.hash_laws.proofs.NameLaws.{zero_unlisted}
 use Rattle.hash_laws.proofs.CountLaws.{symbols_passed, few_names}
 use Rattle.hash_laws.proofs.SysvBuilt.{sysv_whole}
@@ -39,18 +34,18 @@ sorted_by_none o s nbuckets is =
 
 -- ---- They are whole
 
-sysv_refused_not : (o : Object) (s nbucket : ℕ) (words : List ℕ)
+pub sysv_stated : (o : Object) (s nbucket : ℕ) (words : List ℕ)
     → build_sysv_answer o s nbucket ≡ Ok words
     → (hash_refusal o s ≡ None) × (words ≡ sysv_words (sysv_built nbucket (listed_names o s)))
 unfolding build_sysv_answer
-sysv_refused_not o s nbucket words is =
+sysv_stated o s nbucket words is =
     answered_value (hash_refusal o s) (sysv_words (sysv_built nbucket (listed_names o s))) words is
 
 sysv_is : (o : Object) (s nbucket : ℕ) (words : List ℕ) → 0 < nbucket
     → build_sysv_answer o s nbucket ≡ Ok words → is_whole_sysv words (listed_names o s) ≡ true
 sysv_is o s nbucket words some is =
     ap (λ (l : List ℕ). is_whole_sysv l (listed_names o s))
-    (sysv_refused_not o s nbucket words is).1
+    (sysv_stated o s nbucket words is).1
     ∙ sysv_whole nbucket (listed_names o s) some (zero_unlisted o s)
 
 module _ (o : Object) (s : ℕ) (shape : GnuShape) (bytes : List ℕ)
@@ -75,6 +70,9 @@ module _ (o : Object) (s : ℕ) (shape : GnuShape) (bytes : List ℕ)
       none_first (unsorted o s shape.nbuckets) []
       (none_rest (hash_refusal o s) (unsorted o s shape.nbuckets ∷ []) parts.0)
 
+  pub gnu_stated : bytes ≡ stated
+  gnu_stated = parts.1
+
   gnu_is : IsShape shape
       → is_whole_gnu o.header.class o.header.order bytes (listed_names o s) ≡ true
   gnu_is is_shape =
@@ -88,37 +86,6 @@ built_are_whole = record {
   gnu = λ o s shape bytes is_shape is. gnu_is o s shape bytes is is_shape;
 }
 
--- ---- The rules find nothing
-
-no_finding : (looked whole : Bool) → whole ≡ true → (looked && not whole) ≡ false
-no_finding looked whole is = and_right looked (not whole) (not_from_true whole is)
-
-sysv_no_finding : (o : Object) (h nbucket : ℕ) → HoldsSysv o h nbucket
-    → is_broken_hash o h ≡ false
-unfolding is_broken_hash words
-sysv_no_finding o h nbucket holds =
-    no_finding (has_words_of_symbols o h)
-    (is_whole_sysv (if_lent (lend_refusal o kinds.Word h 0) (words_of (items_at o h 0)))
-    (listed_names o (link_of o h)))
-    (ap (λ (r : Option ElfError). is_whole_sysv (if_lent r (words_of (items_at o h 0)))
-    (listed_names o (link_of o h))) holds.readable
-    ∙ sysv_is o (link_of o h) nbucket (words_of (items_at o h 0)) holds.some holds.built)
-
-gnu_no_finding : (o : Object) (h : ℕ) (shape : GnuShape) → HoldsGnu o h shape
-    → is_broken_gnu_hash o h ≡ false
-unfolding is_broken_gnu_hash data_bytes
-gnu_no_finding o h shape holds =
-    no_finding (has_bytes_of_symbols o h)
-    (is_whole_gnu o.header.class o.header.order
-    (if_lent (lend_refusal o kinds.Bytes h 0) (bytes_of (items_at o h 0)))
-    (listed_names o (link_of o h)))
-    (ap (λ (r : Option ElfError). is_whole_gnu o.header.class o.header.order
-    (if_lent r (bytes_of (items_at o h 0))) (listed_names o (link_of o h))) holds.readable
-    ∙ gnu_is o (link_of o h) shape (bytes_of (items_at o h 0)) holds.built holds.usable)
-
-pub built_have_no_finding : BuiltHaveNoFinding
-built_have_no_finding = record { sysv = sysv_no_finding; gnu = gnu_no_finding }
-
 -- ---- They are looked up as all symbols are
 
 sysv_found : (o : Object) (h nbucket : ℕ) (name : List ℕ) → HoldsSysv o h nbucket
@@ -127,7 +94,7 @@ sysv_found o h nbucket name holds =
     hash_reach.sysv o h name (record {
       words = holds.readable;
       symbols = symbols_passed o (link_of o h)
-          (sysv_refused_not o (link_of o h) nbucket (words_of (items_at o h 0)) holds.built).0;
+          (sysv_stated o (link_of o h) nbucket (words_of (items_at o h 0)) holds.built).0;
       whole = sysv_is o (link_of o h) nbucket (words_of (items_at o h 0)) holds.some holds.built;
     })
 

@@ -9,8 +9,8 @@ use Rattle.elf_object.specs.Answers.{items_at, count_at, syms_of, lend_refusal}
 use Rattle.elf_object.proofs.AnswerLaws.{lend_kind}
 use Rattle.elf_object.proofs.ItemCounts.{syms_counted}
 use Rattle.elf_object.proofs.PassedLaws.{none_first, none_rest, not_refused}
-use Rattle.command_objects.specs.Listed.{listed_names}
-use Rattle.command_objects.specs.BuiltHashes.{hash_refusal}
+use Rattle.hash_model.specs.Listed.{listed_names}
+use Rattle.hash_model.specs.BuiltHashes.{hash_refusal}
 use Rattle.hash_build.proofs.ListedLaws.{names_long}
 
 module _ (o : Object) (s : ℕ) (passed : hash_refusal o s ≡ None) where

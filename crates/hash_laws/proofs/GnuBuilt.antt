@@ -13,10 +13,10 @@ use Rattle.std.proofs.lemmas.Option.{slice_get-get_or}
 use Rattle.elf_types.specs.declared.records.Class.{Class}
 use Rattle.elf_types.specs.declared.records.Order.{Order}
 use Rattle.symbol_hashes.proofs.HashLemmas.{gnu_step, gnu_is}
-use Rattle.command_objects.specs.Hashes.{gnu_hash}
-use Rattle.command_objects.specs.Words.{number_or_0}
-use Rattle.command_objects.specs.HashSections.{GnuHash, gnu_bytes, gnu_word, gnu_chain, gnu_chain_from, is_end, is_on_with, is_found_gnu, is_whole_gnu, ends}
-use Rattle.command_objects.specs.BuiltHashes.{GnuShape, buckets_of, hashes_of, in_bucket, is_in, first_in, order_key, first_unsorted, ends_chain, chain_word, bloom_word, first_listed, gnu_built}
+use Rattle.hash_model.specs.Hashes.{gnu_hash}
+use Rattle.elf_object.specs.Sections.{number_or_0}
+use Rattle.hash_model.specs.HashSections.{GnuHash, gnu_bytes, gnu_word, gnu_chain, gnu_chain_from, is_end, is_on_with, is_found_gnu, is_whole_gnu, ends}
+use Rattle.hash_model.specs.BuiltHashes.{GnuShape, buckets_of, hashes_of, in_bucket, is_in, first_in, order_key, first_unsorted, ends_chain, chain_word, bloom_word, first_listed, gnu_built}
 use Rattle.command_objects.specs.Laws.{IsShape}
 use Rattle.command_laws.proofs.SortedLemmas.{key_of, ascends}
 use Rattle.symbol_lookup.proofs.LeastLaws.{position_none}

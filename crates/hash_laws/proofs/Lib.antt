@@ -12,7 +12,12 @@ pub mod TypeLaws
 pub mod ReorderedLaws
 pub mod OrderedNames
 pub mod ReorderedItems
+pub mod Shapes
 pub mod RehashedLaws
 pub mod RehashHold
 pub mod ReopenedSections
+pub mod WrittenSections
+pub mod RebuiltLaws
 pub mod RehashAgain
+pub mod NumberRanges
+pub mod RebuiltAgain

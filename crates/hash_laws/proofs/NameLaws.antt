@@ -6,10 +6,10 @@ use Rattle.std.proofs.lemmas.Bool.{and_from, or_left, or_right, cases_eq, eq-eqb
 use Rattle.elf_types.specs.declared.records.Sym.{Sym}
 use Rattle.elf_object.specs.Object.{Object}
 use Rattle.elf_object.specs.Answers.{items_at, syms_of}
-use Rattle.command_objects.specs.Words.{is_among}
-use Rattle.command_objects.specs.HashSections.{each_listed}
-use Rattle.command_objects.specs.Listed.{listed_name, listed_names}
-use Rattle.command_objects.specs.BuiltHashes.{is_in}
+use Rattle.elf_object.specs.Sections.{is_among}
+use Rattle.hash_model.specs.HashSections.{each_listed}
+use Rattle.hash_model.specs.Listed.{listed_name, listed_names}
+use Rattle.hash_model.specs.BuiltHashes.{is_in}
 
 -- ---- Each listed name
 

@@ -1,31 +1,34 @@
 -- What rehash makes of an object: the symbols in the order that GNU's hash section needs, and
 -- sections that nothing else goes by.
-use Rattle.std.proofs.Common.{◌≡◌, ◌≢◌, ◌<◌, ◌≤◌, ◌^◌, inl, inr, ◌==◌, ◌&&◌, ℕ, Bool, true, false, List, length, get_or, Option, Some, None, Result, Ok, Err, refl, sym, ap, ◌∙◌, subst, arith}
+use Rattle.std.proofs.Common.{◌≡◌, ◌≢◌, ◌<◌, ◌≤◌, ◌^◌, inl, inr, ◌==◌, ◌&&◌, ℕ, Bool, true, false, List, [], length, get_or, Option, Some, None, Result, Ok, Err, refl, sym, ap, ◌∙◌, subst, arith}
 use Rattle.std.specs.Prelude.{nat_le, if◌then◌else◌}
-use Rattle.std.proofs.lemmas.Bool.{and_parts, eqb-true, leb-false}
+use Rattle.std.proofs.lemmas.Bool.{and_parts, eqb-true, eqb-false, leb-false}
 use Rattle.std.proofs.lemmas.List.Quantifiers.{position-Some}
 use Rattle.elf_types.specs.Answers.{answered, ◌>>=◌}
+use Rattle.elf_types.specs.Kinds.{section_kind}
 use Rattle.elf_types.specs.declared.constants.TheConstants.{SHT_STRTAB, SHT_DYNSYM, SHT_REL, SHT_RELA, SHT_HASH, SHT_GNU_HASH}
 use Rattle.elf_types.specs.declared.errors.ElfError.{ElfError}
-use Rattle.elf_types.specs.declared.errors.ElfError.TheVariants.{NoSection, NoData}
+use Rattle.elf_types.specs.declared.errors.ElfError.TheVariants.{NoSection, NoData, Reserved}
 use Rattle.elf_types.specs.declared.records.Kind.TheVariants as kinds
 use Rattle.elf_xlate.specs.declared.content.Items.{Items}
 use Rattle.elf_xlate.specs.declared.content.Items.TheVariants as items
 use Rattle.elf_object.specs.Object.{Object, Section, section_at, absent_section, is_dirty, some_section_marked}
-use Rattle.elf_object.specs.Answers.{bytes_of, words_of, piece_count, no_section, no_data, reserved, lend_refusal}
+use Rattle.elf_object.specs.Answers.{bytes_of, words_of, piece_count, same_kind, no_section, no_data, no_content, reserved, data_refusal, lend_refusal}
 use Rattle.elf_object.specs.Steps.{with_own, with_layout}
 use Rattle.elf_object.specs.Calls.{data_answer, replace, replace_refusal}
-use Rattle.elf_object.proofs.AnswerLaws.{answered_value}
+use Rattle.elf_object.proofs.AnswerLaws.{answered_value, data_value}
 use Rattle.elf_object.proofs.PassedLaws.{none_first, none_rest, not_refused}
 use Rattle.elf_object.proofs.StepLaws.{dirty-with_own}
-use Rattle.command_objects.specs.Words.{header_at, is_of, is_program, edited}
-use Rattle.command_objects.specs.HashSections.{sysv_words}
-use Rattle.command_objects.specs.Listed.{listed_names}
-use Rattle.command_objects.specs.BuiltHashes.{GnuShape, gnu_order_of, gnu_order_answer, build_gnu_answer, build_sysv_answer, hash_refusal, sysv_built}
-use Rattle.command_objects.specs.Reordered.{new_index, reordered, reorder_refusal}
+use Rattle.elf_object.specs.Sections.{header_at, is_of, is_program, edited}
+use Rattle.hash_model.specs.HashSections.{sysv_words}
+use Rattle.hash_model.specs.Listed.{listed_names}
+use Rattle.hash_model.specs.BuiltHashes.{GnuShape, gnu_order_of, gnu_order_answer, build_gnu_answer, build_sysv_answer, hash_refusal, sysv_built}
+use Rattle.hash_model.specs.Reordered.{new_index, reordered, reorder_refusal}
+use Rattle.command_objects.specs.Laws.{IsShape}
 use Rattle.command_objects.specs.Rehashed.{dynamic_symbols, gnu_section, sysv_section, shape_of, nbucket_of, with_gnu, with_sysv, where_there, laid_out, or_fault, rehashed_at, rehashed}
 use Rattle.command_objects.specs.Rehashed.RehashFault.{NoDynamicHash}
 use Rattle.elf_ident.proofs.Refusals.{bind_ok}
+use Rattle.hash_laws.proofs.Shapes.{shape_usable, nbucket_fits}
 use Rattle.hash_laws.proofs.SameLaws.{SameStrings, strings_stay, strings_both}
 use Rattle.hash_laws.proofs.RenumberedLaws.{IsRenumbered, SameTables, tables_items, not_renumbered, still_renumbered}
 use Rattle.hash_laws.proofs.ReorderedLaws.{own_step, reordered_strings}
@@ -36,7 +39,7 @@ use Rattle.hash_laws.proofs.ReorderedItems.{IsOwnOrSame, still_own_or_same, tabl
 
 -- ---- Answers
 
-no_fault : (r : Result Object ElfError) (p : Object) → or_fault r ≡ Ok p → r ≡ Ok p
+pub no_fault : (r : Result Object ElfError) (p : Object) → or_fault r ≡ Ok p → r ≡ Ok p
 no_fault (Ok o) p is = let same : o ≡ p = cc in ap Ok same
 no_fault (Err e) p is = cc
 
@@ -53,23 +56,36 @@ module _ (o : Object) (t : ℕ) where
       (position-Some (λ (c : Section). c.header.stype == SHT_DYNSYM) o.sections t absent_section
       is).1
 
-  gnu_type : (s : ℕ) → gnu_section o s ≡ Some t
+  pub gnu_type : (s : ℕ) → gnu_section o s ≡ Some t
       → ((header_at o t).stype ≡ SHT_GNU_HASH) × (t < length o.sections)
+      × ((header_at o t).link ≡ s)
   unfolding gnu_section section_at
   gnu_type s is =
       let found = position-Some
       (λ (c : Section). c.header.stype == SHT_GNU_HASH && c.header.link == s) o.sections t
       absent_section is in
-      (eqb-true at.header.stype SHT_GNU_HASH (and_parts _ _ found.1).0, found.0)
+      let tests = and_parts _ _ found.1 in (
+        eqb-true at.header.stype SHT_GNU_HASH tests.0,
+        found.0,
+        eqb-true at.header.link s tests.1,
+      )
 
-  sysv_type : (s : ℕ) → sysv_section o s ≡ Some t
+  pub sysv_type : (s : ℕ) → sysv_section o s ≡ Some t
       → ((header_at o t).stype ≡ SHT_HASH) × (t < length o.sections)
+      × ((header_at o t).link ≡ s)
+      × (same_kind (section_kind (header_at o t)) kinds.Word ≡ true)
   unfolding sysv_section section_at is_of
   sysv_type s is =
       let found = position-Some
       (λ (c : Section). is_of SHT_HASH kinds.Word c.header && c.header.link == s) o.sections t
       absent_section is in
-      (eqb-true at.header.stype SHT_HASH (and_parts _ _ (and_parts _ _ found.1).0).0, found.0)
+      let tests = and_parts _ _ found.1 in
+      let words = and_parts _ _ tests.0 in (
+        eqb-true at.header.stype SHT_HASH words.0,
+        found.0,
+        eqb-true at.header.link s tests.1,
+        words.1,
+      )
 
 -- ---- A section that is given other items
 
@@ -125,7 +141,7 @@ all_stays o s = record {
   relas = λ n is. refl;
 }
 
-laid_out_stays : (o : Object) (s : ℕ) → SameTables o (laid_out o) s
+pub laid_out_stays : (o : Object) (s : ℕ) → SameTables o (laid_out o) s
 laid_out_stays o s = by (is_program o)
   where
     by : (b : Bool) → SameTables o (if b then with_layout o true else o) s
@@ -171,7 +187,7 @@ goes_on before o p s way same = record {
 
 -- an edit that stored items leaves a mark
 replaced : (o p : Object) (t : ℕ) (left : Items) → edited (replace t 0 left) o ≡ Ok p
-    → (p ≡ with_own o t 0 left) × (is_dirty p ≡ true)
+    → (p ≡ with_own o t 0 left) × (is_dirty p ≡ true) × (0 < t)
 unfolding replace_refusal
 replaced o p t left is =
     let done = bind_ok ((replace t 0 left).answer o) (λ x. Ok (with_own o t 0 left)) p is in
@@ -186,21 +202,41 @@ replaced o p t left is =
     leb-false (piece_count o t) 0
     (not_refused (nat_le (piece_count o t) 0) (NoData 0 (piece_count o t))
     (none_first (no_data o t 0) _ (none_rest (reserved t) _ others))) in
-    (sym same, ap is_dirty (sym same) ∙ dirty-with_own o t 0 left inside piece)
+    let not_first : t ≡ 0 → ⊥ =
+    eqb-false t 0 (not_refused (t == 0) Reserved (none_first (reserved t) _ others)) in (
+      sym same,
+      ap is_dirty (sym same) ∙ dirty-with_own o t 0 left inside piece,
+      omega (arith, not_first),
+    )
+
+-- what could be told of a section has a content
+content_told : (o : Object) (t : ℕ) (x : Items) → data_answer o t 0 ≡ Ok x
+    → no_content o t 0 ≡ None
+unfolding data_refusal
+content_told o t x is =
+    let passed = (data_value o t 0 x is).0 in
+    none_first (no_content o t 0) []
+    (none_rest (no_data o t 0) _ (none_rest (no_section o t) _ passed))
 
 -- ---- GNU's section
 
 -- the order, and the bytes for the symbols in it
 pub record GnuMade (o p : Object) (s g : ℕ) : Type 0 where
-  pub nbuckets : ℕ
+  pub shape : GnuShape
+  pub usable : IsShape shape
+  pub later : 0 < g
+  pub content : no_content o g 0 ≡ None
   pub hashed : hash_refusal o s ≡ None
   pub passed : reorder_refusal o s ≡ None
   pub dirty : is_dirty p ≡ true
   pub bytes : List ℕ
-  pub made : p ≡ with_own (reordered o s (gnu_order_of nbuckets (listed_names o s))) g 0
+  pub built :
+      build_gnu_answer (reordered o s (gnu_order_of shape.nbuckets (listed_names o s))) s shape
+      ≡ Ok bytes
+  pub made : p ≡ with_own (reordered o s (gnu_order_of shape.nbuckets (listed_names o s))) g 0
       (items.Bytes bytes)
 
-gnu_made_of : (o p : Object) (s g : ℕ) → with_gnu o s g ≡ Ok p → GnuMade o p s g
+pub gnu_made_of : (o p : Object) (s g : ℕ) → with_gnu o s g ≡ Ok p → GnuMade o p s g
 unfolding with_gnu gnu_order_answer
 gnu_made_of o p s g is =
     let old = bind_ok (data_answer o g 0) _ p is in
@@ -214,36 +250,42 @@ gnu_made_of o p s g is =
     sorted.1 in
     let bytes = bind_ok (build_gnu_answer sorted.0 s shape) _ p sorted.2 in
     let stored = replaced sorted.0 p g (items.Bytes bytes.0) bytes.2 in
+    let order_sorted : sorted.0
+    ≡ reordered o s (gnu_order_of shape.nbuckets (listed_names o s)) =
+    sorted_is.1 ∙ ap (λ (l : List ℕ). reordered o s l) order_is.1 in
     record {
-      nbuckets = shape.nbuckets;
+      shape = shape;
+      usable = shape_usable o.header.class o.header.order (bytes_of old.0);
+      later = stored.2;
+      content = content_told o g old.0 old.1;
       hashed = order_is.0;
       passed = sorted_is.0;
       bytes = bytes.0;
       dirty = stored.1;
+      built = ap (λ (q : Object). build_gnu_answer q s shape) (sym order_sorted) ∙ bytes.1;
       made = stored.0
-          ∙ ap (λ (q : Object). with_own q g 0 (items.Bytes bytes.0)) sorted_is.1
-          ∙ ap (λ (l : List ℕ). with_own (reordered o s l) g 0 (items.Bytes bytes.0)) order_is.1;
+          ∙ ap (λ (q : Object). with_own q g 0 (items.Bytes bytes.0)) order_sorted;
     }
 
-gnu_aside : IsAside SHT_GNU_HASH
+pub gnu_aside : IsAside SHT_GNU_HASH
 gnu_aside = record { no_strings = refl; no_table = refl; no_rels = refl; no_relas = refl }
 
-sysv_aside : IsAside SHT_HASH
+pub sysv_aside : IsAside SHT_HASH
 sysv_aside = record { no_strings = refl; no_table = refl; no_rels = refl; no_relas = refl }
 
 gnu_goes_on : (o p : Object) (s g : ℕ) → (header_at o s).stype ≡ SHT_DYNSYM
     → gnu_section o s ≡ Some g → with_gnu o s g ≡ Ok p → IsOnTheWay o p s
 gnu_goes_on o p s g is_table found is =
     let made = gnu_made_of o p s g is in
-    let order : List ℕ = gnu_order_of made.nbuckets (listed_names o s) in
+    let order : List ℕ = gnu_order_of made.shape.nbuckets (listed_names o s) in
     let strings = reordered_strings o s order is_table made.passed in
     let few : length order ≤ 2 ^ 32 =
-    omega (arith, order_long o s made.nbuckets is_table made.passed, few_names o s made.hashed) in
+    omega (arith, order_long o s made.shape.nbuckets is_table made.passed, few_names o s made.hashed) in
     let type = gnu_type o g s found in
-    let way : IsOnTheWay o (reordered o s (gnu_order_of made.nbuckets (listed_names o s))) s =
+    let way : IsOnTheWay o (reordered o s (gnu_order_of made.shape.nbuckets (listed_names o s))) s =
     record {
       new = new_index order;
-      renumbered = reordered_renumbers o s made.nbuckets is_table made.passed;
+      renumbered = reordered_renumbers o s made.shape.nbuckets is_table made.passed;
       strings = strings;
       table = inr (table_owns order few o s is_table made.passed);
       rels = λ n type link. inr (rels_own order few o s is_table made.passed n type link);
@@ -260,12 +302,18 @@ gnu_goes_on o p s g is_table found is =
 
 -- the words for the symbols as they stand
 pub record SysvMade (o p : Object) (s h : ℕ) : Type 0 where
+  pub nbucket : ℕ
+  pub some : 0 < nbucket
+  pub few : nbucket < 2 ^ 32
+  pub later : 0 < h
+  pub content : no_content o h 0 ≡ None
   pub hashed : hash_refusal o s ≡ None
   pub dirty : is_dirty p ≡ true
   pub words : List ℕ
+  pub built : build_sysv_answer o s nbucket ≡ Ok words
   pub made : p ≡ with_own o h 0 (items.Word words)
 
-sysv_made_of : (o p : Object) (s h : ℕ) → with_sysv o s h ≡ Ok p → SysvMade o p s h
+pub sysv_made_of : (o p : Object) (s h : ℕ) → with_sysv o s h ≡ Ok p → SysvMade o p s h
 unfolding with_sysv build_sysv_answer
 sysv_made_of o p s h is =
     let old = bind_ok (data_answer o h 0) _ p is in
@@ -273,11 +321,18 @@ sysv_made_of o p s h is =
     let words = bind_ok
     (answered (hash_refusal o s) (sysv_words (sysv_built nbucket (listed_names o s)))) _ p old.2 in
     let stored = replaced o p h (items.Word words.0) words.2 in
+    let fits = nbucket_fits (words_of old.0) in
     record {
+      nbucket = nbucket;
+      some = fits.0;
+      few = fits.1;
+      later = stored.2;
+      content = content_told o h old.0 old.1;
       hashed = (answered_value (hash_refusal o s)
           (sysv_words (sysv_built nbucket (listed_names o s))) words.0 words.1).0;
       dirty = stored.1;
       words = words.0;
+      built = words.1;
       made = stored.0;
     }
 

@@ -12,8 +12,8 @@ use Rattle.elf_xlate.specs.declared.content.Items.{Items}
 use Rattle.elf_object.specs.Object.{Object, section_at}
 use Rattle.elf_object.specs.Answers.{items_at, syms_of, rels_of, relas_of, lend_refusal}
 use Rattle.elf_object.specs.Strings.{is_name}
-use Rattle.command_objects.specs.Words.{header_at}
-use Rattle.command_objects.specs.Listed.{listed_names, find_linear_answer}
+use Rattle.elf_object.specs.Sections.{header_at}
+use Rattle.hash_model.specs.Listed.{listed_names, find_linear_answer}
 use Rattle.command_objects.specs.Laws.{symbol_at, FoundAlike, LooksUpAlike, NamesAlike, rel_symbol, rela_symbol, RehashKeepsLookup}
 use Rattle.hash_build.proofs.ListedLaws.{names_long}
 use Rattle.hash_order.proofs.StoreLaws.{IsSameAt, same_items, same_lend}
@@ -31,25 +31,30 @@ pub record IsRenumbered (before after : Object) (s : ℕ) (new : ℕ → ℕ) : 
   pub relas : (n i : ℕ) → (header_at before n).stype ≡ SHT_RELA → (header_at before n).link ≡ s
       → rela_symbol after n i ≡ option_map new (rela_symbol before n i)
 
+-- an equal symbol stands at each new index
 module _ (before after : Object) (s : ℕ) (new : ℕ → ℕ)
-    (is : IsRenumbered before after s new) where
+    (symbols : (i : ℕ) → i < length (syms_of (items_at before s 0))
+    → symbol_at after s (new i) ≡ symbol_at before s i) where
   found_alike : (r : Option ElfError) (found : Option ℕ)
       → ((i : ℕ) → found ≡ Some i → i < length (syms_of (items_at before s 0)))
       → FoundAlike before after s (answered r found) (answered r (option_map new found))
   found_alike (Some e) found within = refl
   found_alike None None within = tt
-  found_alike None (Some i) within = sym (is.symbols i (within i refl))
+  found_alike None (Some i) within = sym (symbols i (within i refl))
 
-  looks_up : (name : List ℕ) → LooksUpAlike before after s name
+  pub looks_up : lend_refusal after kinds.Sym s 0 ≡ lend_refusal before kinds.Sym s 0
+      → (name : List ℕ) → position (is_name name) (listed_names after s)
+      ≡ option_map new (position (is_name name) (listed_names before s))
+      → LooksUpAlike before after s name
   unfolding find_linear_answer
-  looks_up name =
+  looks_up lent name found =
       let stated : answered (lend_refusal after kinds.Sym s 0)
       (position (is_name name) (listed_names after s))
       ≡ answered (lend_refusal before kinds.Sym s 0)
       (option_map new (position (is_name name) (listed_names before s))) =
       ap (λ (r : Option ElfError). answered r (position (is_name name) (listed_names after s)))
-      is.lent
-      ∙ ap (λ (f : Option ℕ). answered (lend_refusal before kinds.Sym s 0) f) (is.found name) in
+      lent
+      ∙ ap (λ (f : Option ℕ). answered (lend_refusal before kinds.Sym s 0) f) found in
       subst (λ (a : Result (Option ℕ) ElfError). FoundAlike before after s
       (answered (lend_refusal before kinds.Sym s 0)
       (position (is_name name) (listed_names before s))) a) (sym stated)
@@ -63,18 +68,21 @@ module _ (before after : Object) (s : ℕ) (new : ℕ → ℕ)
 
   named : (x : Option ℕ) → NamesAlike before after s x (option_map new x)
   named None = tt
-  named (Some i) = λ below. sym (is.symbols i below)
+  named (Some i) = λ below. sym (symbols i below)
 
-  pub lookup_kept : RehashKeepsLookup before after s
-  lookup_kept = record {
-    lookups = looks_up;
-    rels = λ n i stype link. subst (λ (y : Option ℕ).
-        NamesAlike before after s (rel_symbol before n i) y) (sym (is.rels n i stype link))
-        (named (rel_symbol before n i));
-    relas = λ n i stype link. subst (λ (y : Option ℕ).
-        NamesAlike before after s (rela_symbol before n i) y) (sym (is.relas n i stype link))
-        (named (rela_symbol before n i));
-  }
+  -- a relocation names the symbol at the new index
+  pub still_named : (x y : Option ℕ) → y ≡ option_map new x → NamesAlike before after s x y
+  still_named x y is = subst (λ (z : Option ℕ). NamesAlike before after s x z) (sym is) (named x)
+
+pub lookup_kept : (before after : Object) (s : ℕ) (new : ℕ → ℕ)
+    → IsRenumbered before after s new → RehashKeepsLookup before after s
+lookup_kept before after s new is = record {
+  lookups = λ name. looks_up before after s new is.symbols is.lent name (is.found name);
+  rels = λ n i stype link. still_named before after s new is.symbols (rel_symbol before n i)
+      (rel_symbol after n i) (is.rels n i stype link);
+  relas = λ n i stype link. still_named before after s new is.symbols (rela_symbol before n i)
+      (rela_symbol after n i) (is.relas n i stype link);
+}
 
 -- ---- Tables that stay
 
@@ -128,16 +136,17 @@ module _ (o p : Object) (s : ℕ) (same : SameTables o p s) where
         relas = λ n type link. same_items o p n (at n (same.relas n type));
       }
 
+-- the symbol of a relocation among items
+abbrev pub rel_in : Items → ℕ → Option ℕ
+rel_in items i = elim (slice_get (rels_of items) i) [ None ↦ None | Some r ↦ Some r.sym ]
+
+abbrev pub rela_in : Items → ℕ → Option ℕ
+rela_in items i = elim (slice_get (relas_of items) i) [ None ↦ None | Some r ↦ Some r.sym ]
+
 module _ (before o p : Object) (s : ℕ) (new : ℕ → ℕ) (is : IsRenumbered before o s new)
     (stype : (n : ℕ) → (header_at o n).stype ≡ (header_at before n).stype)
     (links : (n : ℕ) → (header_at o n).link ≡ (header_at before n).link)
     (same : SameItems o p s) where
-  abbrev rel_in : Items → ℕ → Option ℕ
-  rel_in items i = elim (slice_get (rels_of items) i) [ None ↦ None | Some r ↦ Some r.sym ]
-
-  abbrev rela_in : Items → ℕ → Option ℕ
-  rela_in items i = elim (slice_get (relas_of items) i) [ None ↦ None | Some r ↦ Some r.sym ]
-
   pub still_renumbered : IsRenumbered before p s new
   still_renumbered = record {
     lent = same.lent ∙ is.lent;

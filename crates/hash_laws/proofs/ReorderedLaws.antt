@@ -18,8 +18,8 @@ use Rattle.elf_object.specs.Steps.{own_piece, with_own, with_piece_at, with_sect
 use Rattle.elf_object.specs.Due.{all_sections}
 use Rattle.elf_object.proofs.PassedLaws.{none_first, none_rest}
 use Rattle.elf_object.proofs.StepLaws.{same_kind-same, section_at-with_own, section_at-with_own_other, section_count-with_own, piece_count-with_own, piece_at-with_own, items_at-with_own, kind_at-with_own, section_count-with_section, section_at-with_shdr, section_at-with_shdr_other}
-use Rattle.command_objects.specs.Words.{header_at}
-use Rattle.command_objects.specs.Reordered.{in_order, new_index, kind_by_symbols, items_by_symbols, with_signature, reordered_section, reordered, too_few_items, reorder_refusal_of, reorder_refusal}
+use Rattle.elf_object.specs.Sections.{header_at}
+use Rattle.hash_model.specs.Reordered.{in_order, new_index, kind_by_symbols, items_by_symbols, with_signature, reordered_section, reordered, too_few_items, reorder_refusal_of, reorder_refusal}
 use Rattle.hash_laws.proofs.TypeLaws.{apart_types, there_by_type, lent_there, lent_piece}
 use Rattle.hash_order.proofs.StoreLaws.{IsSameAt, same_items, same_lend}
 use Rattle.hash_laws.proofs.SameLaws.{SameStrings, strings_stay, strings_both}
@@ -334,6 +334,21 @@ module _ (o : Object) (s : ℕ) (order : List ℕ) (is_table : (header_at o s).s
       (passes_over s order r.mid s SHT_DYNSYM
       (r.strings.stype s ∙ begun.strings.stype s ∙ is_table) refl refl)
       ∙ r.before
+
+  -- a section of a type that does not go by the symbols stays
+  pub unmoved : (n stype : ℕ) → (header_at o n).stype ≡ stype → (stype == 0) ≡ false
+      → (stype == SHT_GROUP) ≡ false → (stype == SHT_DYNSYM) ≡ false
+      → kind_by_symbols stype ≡ None → section_at (reordered o s order) n ≡ section_at o n
+  unfolding reordered
+  unmoved n stype is some no_group no_table none =
+      let r = reach n (there_by_type o n stype is some) in
+      r.after
+      ∙ ap (λ (p : Object). section_at p n)
+      (passes_over s order r.mid n stype (r.strings.stype n ∙ begun.strings.stype n ∙ is) no_group
+      none)
+      ∙ r.before
+      ∙ begun.others n (λ same. apart_types stype SHT_DYNSYM no_table (header_at o n).stype is
+      (ap (λ (k : ℕ). (header_at o k).stype) same ∙ is_table))
 
   same_symbols : IsSameAt first after s
   same_symbols = record {

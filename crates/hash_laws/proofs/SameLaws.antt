@@ -20,8 +20,8 @@ use Rattle.elf_object.specs.Joined.{aligned_pieces, piece_blocks, pieces_end}
 use Rattle.elf_object.specs.Object.{Object, Section, section_at, home_is_clean}
 use Rattle.elf_object.specs.Answers.{content, items_at, syms_of}
 use Rattle.elf_object.specs.Strings.{holds_strings, has_nul, bytes_from, piece_over, string_refusal_unread, string_refusal, string_answer, readable, symbol_name}
-use Rattle.command_objects.specs.Words.{header_at}
-use Rattle.command_objects.specs.Listed.{not_empty, is_defined_global, listed_name, listed_names}
+use Rattle.elf_object.specs.Sections.{header_at}
+use Rattle.hash_model.specs.Listed.{not_empty, is_defined_global, listed_name, listed_names}
 
 -- ---- Content
 

@@ -10,7 +10,7 @@ use Rattle.elf_object.specs.Object.{Object, Section, section_at, absent_section}
 use Rattle.elf_object.specs.Answers.{piece_count, lend_refusal}
 use Rattle.elf_object.proofs.AnswerLaws.{lend_passed}
 use Rattle.elf_object.proofs.PassedLaws.{not_refused}
-use Rattle.command_objects.specs.Words.{header_at}
+use Rattle.elf_object.specs.Sections.{header_at}
 
 -- ---- Section types
 

@@ -1,14 +1,13 @@
 -- What holds of a section whose data are a hash section as it is built (gABI chapter 5, "Hash
 -- Table"; GNU's hash section).
-use Rattle.std.specs.Prelude.{◌≡◌, ℕ, ◌<◌, ◌^◌, false, List, None, Ok}
+use Rattle.std.specs.Prelude.{◌≡◌, ℕ, ◌<◌, ◌^◌, List, None, Ok}
 use Rattle.elf_types.specs.declared.records.Kind.TheVariants as kinds
 use Rattle.elf_object.specs.Object.{Object}
 use Rattle.elf_object.specs.Answers.{bytes_of, words_of, items_at, lend_refusal}
-use Rattle.command_objects.specs.Listed.{find_linear_answer}
-use Rattle.command_objects.specs.BuiltHashes.{GnuShape, build_sysv_answer, build_gnu_answer}
+use Rattle.hash_model.specs.Listed.{find_linear_answer}
+use Rattle.hash_model.specs.BuiltHashes.{GnuShape, build_sysv_answer, build_gnu_answer}
 use Rattle.command_objects.specs.Laws.{IsShape}
 use Rattle.symbol_lookup.specs.Lookups.{link_of, find_sysv_answer, find_gnu_answer}
-use Rattle.lint_hashes.specs.Hashes.{is_broken_hash, is_broken_gnu_hash}
 
 -- the words of section h are the hash section that is built for the symbol table to which it links
 pub record HoldsSysv (o : Object) (h nbucket : ℕ) : Type 0 where
@@ -23,13 +22,7 @@ pub record HoldsGnu (o : Object) (h : ℕ) (shape : GnuShape) : Type 0 where
   pub readable : lend_refusal o kinds.Bytes h 0 ≡ None
   pub built : build_gnu_answer o (link_of o h) shape ≡ Ok (bytes_of (items_at o h 0))
 
--- neither rule finds anything there
-pub record BuiltHaveNoFinding : Type 0 where
-  pub sysv : (o : Object) (h nbucket : ℕ) → HoldsSysv o h nbucket → is_broken_hash o h ≡ false
-  pub gnu : (o : Object) (h : ℕ) (shape : GnuShape) → HoldsGnu o h shape
-      → is_broken_gnu_hash o h ≡ false
-
--- and every name is found as among all symbols
+-- every name is found as among all symbols
 pub record BuiltAreFound : Type 0 where
   pub sysv : (o : Object) (h nbucket : ℕ) (name : List ℕ) → HoldsSysv o h nbucket
       → find_sysv_answer o h name ≡ find_linear_answer o (link_of o h) name

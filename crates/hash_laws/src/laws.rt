@@ -1,8 +1,8 @@
 //! Laws of hash sections. Each is the contract of a function that does nothing: what it ensures
 //! holds, and is proved.
 
-ghost use Rattle.hash_laws.specs.Built.{BuiltAreFound, BuiltHaveNoFinding};
-ghost use Rattle.hash_laws.specs.Rehash.{RehashedKeepsLookup};
+ghost use Rattle.hash_laws.specs.Built.{BuiltAreFound};
+ghost use Rattle.hash_laws.specs.Rehash.{RehashedKeepsLookup, RehashRebuilds, RehashWrites};
 ghost use Rattle.command_objects.specs.Laws.{BuiltHashesAreWhole, RehashLaw};
 
 use object_laws::laws::{reopen_law, settling_keeps_items};
@@ -12,13 +12,6 @@ use object_laws::laws::{reopen_law, settling_keeps_items};
 #[tactic(auto, using(crate::proofs::BuiltHold::built_are_whole))]
 pub fn built_are_whole()
     ensures { BuiltHashesAreWhole }
-{}
-
-/// A section that holds what is built for the symbol table to which it links has no finding of
-/// elflint's rules 31 and 32.
-#[tactic(auto, using(crate::proofs::BuiltHold::built_have_no_finding))]
-pub fn built_have_no_finding()
-    ensures { BuiltHaveNoFinding }
 {}
 
 /// In a section that holds what is built for the symbol table to which it links, each name finds
@@ -36,10 +29,29 @@ pub fn rehash_keeps_lookup()
     ensures { RehashedKeepsLookup }
 {}
 
-/// The same of an image and of the image that rehash writes of it, where section 0 is of type
-/// `SHT_NULL` (gABI chapter 4, "Sections"): section 0 is written without bytes, whatever it holds.
+/// The same of an image and of what rehash writes of it, opened again, where the table of dynamic
+/// symbols is not section 0, which is written without bytes, whatever it holds: lookups, where the
+/// names are no strings of section 0, and the relocations of each section from 1 on.
+pub fn rehash_writes()
+    ensures { RehashWrites }
+{
+    reopen_law();
+    settling_keeps_items();
+}
+
+/// The same of an image whose section 0 is of type `SHT_NULL`, as it has to be (gABI chapter 4,
+/// "Sections"): each lookup and each relocation.
 pub fn rehash_law()
     ensures { RehashLaw }
+{
+    rehash_writes();
+}
+
+/// In the image that rehash writes, opened again, the hash sections stand under their numbers, and
+/// hold what is built for the symbols to which they link: where the table is not section 0, and its
+/// names are no strings of section 0.
+pub fn rehash_rebuilds()
+    ensures { RehashRebuilds }
 {
     reopen_law();
     settling_keeps_items();

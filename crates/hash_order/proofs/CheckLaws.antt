@@ -8,7 +8,7 @@ use Rattle.elf_object.specs.Object.{Object}
 use Rattle.elf_object.specs.Answers.{lend_refusal}
 use Rattle.elf_object.specs.Due.{all_sections}
 use Rattle.elf_object.proofs.AnswerLaws.{answered_value, answered_refusal}
-use Rattle.command_objects.specs.Reordered.{reorder_refusal, reorder_refusal_of}
+use Rattle.hash_model.specs.Reordered.{reorder_refusal, reorder_refusal_of}
 
 module _ (f : ℕ → Option ElfError) (n : ℕ) where
   -- what is left to check

@@ -1,6 +1,6 @@
 -- How a reordering ends.
 use Rattle.std.proofs.Common.{◌≡◌, ◌+◌, ◌<◌, ℕ, Bool, true, false, List, [], ◌∷◌, length, map, Option, Some, None, Result, Ok, Err, refl, sym, ap, ◌∙◌, subst, arith}
-use Rattle.std.specs.Prelude.{IsTrue, IfErr, OnErr, OnOk, nat_lt, if◌then◌else◌, ◌==◌}
+use Rattle.std.specs.Prelude.{IsTrue, Contains, IfErr, OnErr, OnOk, nat_lt, if◌then◌else◌, ◌==◌}
 use Rattle.std.specs.List.{AllByRecursion}
 use Rattle.std.proofs.lemmas.Bool.{lt-ltb}
 use Rattle.elf_types.specs.declared.records.Kind.{Kind}
@@ -24,8 +24,8 @@ use Rattle.elf_object.proofs.AnswerLaws.{answered_refusal, answers_refused}
 use Rattle.elf_object.proofs.RefusalLaws.{Refuses, test_refuses, first_refuses}
 use Rattle.elf_descriptor.specs.State.{State}
 use Rattle.elf_descriptor.proofs.LendLaws.{lend_there}
-use Rattle.command_objects.specs.Words.{header_at}
-use Rattle.command_objects.specs.Reordered.{kind_by_symbols, in_order, reorder_refusal, reorder_refusal_of, too_few_items}
+use Rattle.elf_object.specs.Sections.{header_at}
+use Rattle.hash_model.specs.Reordered.{kind_by_symbols, in_order, reorder_refusal, reorder_refusal_of, too_few_items}
 use Rattle.hash_order.specs.declared.nexts.Next.{Next}
 use Rattle.hash_order.specs.Plans.{given_by, stored, IsNoItems, IsPlan, BecomesOrdered}
 use Rattle.hash_order.specs.Reading.{MayStop, ReadsHomes, Stores}
@@ -156,6 +156,7 @@ module _ {S : Type 0} (g : Ghosts S) (s : ℕ) (order : List ℕ) (old : State S
       read = no_read e is;
       taken = record { later = omega arith; no_more = omega arith };
     };
+    loads = λ i out. refl;
     stays = λ i loaded. loaded;
   }
     where
@@ -206,6 +207,8 @@ module _ {S : Type 0} (g : Ghosts S) (old mid : State S) (s : ℕ) where
           told = reads.reads.told;
           asks = subst (λ (l : List ℕ). Asks {T = Unit {0}} g (Err e) old.source mid.source
               (homes_due old.o old.loaded l)) (sym (homes_are old s passed)) ends.reads.source;
+          loads = λ i out. reads.reads.loads i
+              (subst (λ (l : List ℕ). ¬ Contains l i) (homes_are old s passed) out);
           stays = reads.reads.stays;
         }
 
@@ -240,6 +243,10 @@ module _ {S : Type 0} (g : Ghosts S) (old mid : State S) (s : ℕ) where
                   no_more = omega (arith, before, second.taken.no_more);
                 };
               });
+          loads = λ i out.
+              done.loads i (subst (λ (o : Object). ¬ Contains (order_homes o s) i) (sym same) out)
+              ∙ reads.reads.loads i
+              (subst (λ (l : List ℕ). ¬ Contains l i) (homes_are old s passed) out);
           stays = λ i loaded. done.stays i (reads.reads.stays i loaded);
         }
 
@@ -291,5 +298,8 @@ module _ {S : Type 0} (g : Ghosts S) (old mid : State S) (s : ℕ) where
                 (omega arith)
                 (asks_both g (Ok (tt {0})) (Ok (tt {0})) old.source mid.source new.source
                 (homes_due old.o old.loaded homes) 0 reads.reads.source stores.asks));
-            stays = λ i loaded. stores.stays i (reads.reads.stays i loaded);
+            loads = λ i out. stores.same i
+                ∙ reads.reads.loads i
+                (subst (λ (l : List ℕ). ¬ Contains l i) (homes_are old s passed) out);
+            stays = λ i loaded. stores.same i ∙ reads.reads.stays i loaded;
           }

@@ -21,8 +21,8 @@ use Rattle.elf_object.specs.Valid.{IsObject}
 use Rattle.elf_object.proofs.AnswerLaws.{lend_passed}
 use Rattle.elf_object.proofs.PassedLaws.{none_first, none_rest}
 use Rattle.object_laws.proofs.KeepLaws.{section_at_is}
-use Rattle.command_objects.specs.Words.{header_at}
-use Rattle.command_objects.specs.Reordered.{kind_by_symbols, items_by_symbols, new_index, too_few_items, reorder_refusal, reorder_refusal_of}
+use Rattle.elf_object.specs.Sections.{header_at}
+use Rattle.hash_model.specs.Reordered.{kind_by_symbols, items_by_symbols, new_index, too_few_items, reorder_refusal, reorder_refusal_of}
 use Rattle.hash_order.specs.declared.nexts.Next.{Next}
 use Rattle.hash_order.specs.declared.nexts.Next.TheVariants as nexts
 use Rattle.hash_order.specs.Kinds.{IsByIndex, CanFollow}

@@ -18,7 +18,7 @@ use Rattle.elf_object.specs.Answers.{items_at, count_at, syms_of, lend_refusal}
 use Rattle.elf_object.proofs.AnswerLaws.{lend_kind}
 use Rattle.elf_object.proofs.ItemCounts.{syms_counted}
 use Rattle.elf_descriptor.specs.State.{State}
-use Rattle.command_objects.specs.Reordered.{in_order, moved_along, with_rel, with_rela, items_by_symbols}
+use Rattle.hash_model.specs.Reordered.{in_order, moved_along, with_rel, with_rela, items_by_symbols}
 use Rattle.hash_order.specs.declared.nexts.Next.TheVariants as nexts
 use Rattle.hash_order.specs.Indexes.{AreBelow, item_or_none}
 use Rattle.hash_order.specs.Kinds.{IsByIndex, CanFollow, MovesBy}

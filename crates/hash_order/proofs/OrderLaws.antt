@@ -11,8 +11,8 @@ use Rattle.elf_xlate.specs.declared.content.Items.TheVariants as items
 use Rattle.elf_object.specs.Object.{Object, Section, section_at}
 use Rattle.elf_object.specs.Answers.{items_at, syms_of}
 use Rattle.elf_object.specs.Steps.{with_own, with_shdr}
-use Rattle.command_objects.specs.Words.{header_at}
-use Rattle.command_objects.specs.Reordered.{kind_by_symbols, items_by_symbols, in_order, new_index, reordered, reordered_section, reorder_refusal}
+use Rattle.elf_object.specs.Sections.{header_at}
+use Rattle.hash_model.specs.Reordered.{kind_by_symbols, items_by_symbols, in_order, new_index, reordered, reordered_section, reorder_refusal}
 use Rattle.hash_order.specs.declared.nexts.Next.{Next}
 use Rattle.hash_order.specs.declared.nexts.Next.TheVariants as nexts
 use Rattle.hash_order.specs.Plans.{planned, gets, stored, given_by, IsNext, IsNoItems, IsPlan, BecomesOrdered}

@@ -12,7 +12,7 @@ use Rattle.elf_object.specs.Answers.{lend_refusal}
 use Rattle.elf_object.specs.Calls.{update_shdr_refusal}
 use Rattle.elf_object.specs.Valid.{IsObject}
 use Rattle.elf_descriptor.specs.State.{State}
-use Rattle.command_objects.specs.Reordered.{new_index}
+use Rattle.hash_model.specs.Reordered.{new_index}
 use Rattle.hash_build.specs.Rows.{IsOrder}
 use Rattle.hash_order.specs.Indexes.{AreBelow}
 use Rattle.hash_order.specs.declared.nexts.Next.{Next}

@@ -1,6 +1,6 @@
 -- What sections get, stored one after another.
-use Rattle.std.proofs.Common.{◌≡◌, ◌+◌, ◌-◌, ◌<◌, ◌≤◌, ◌⊎◌, ℕ, suc, Bool, true, false, not, List, [], ◌∷◌, length, get_or, Option, Some, None, Result, Ok, Err, refl, sym, ap, ◌∙◌, subst, inl, inr, arith}
-use Rattle.std.specs.Prelude.{is_none, is_some, nat_le, unwrap_or, slice_get, ◌==◌, ◌||◌, if◌then◌else◌}
+use Rattle.std.proofs.Common.{◌≡◌, ◌+◌, ◌-◌, ◌<◌, ◌≤◌, ◌⊎◌, ℕ, zero, suc, Bool, true, false, not, List, [], ◌∷◌, length, get_or, Option, Some, None, Result, Ok, Err, refl, sym, ap, ◌∙◌, subst, inl, inr, arith}
+use Rattle.std.specs.Prelude.{Contains, is_none, is_some, nat_le, unwrap_or, slice_get, ◌==◌, ◌||◌, if◌then◌else◌}
 use Rattle.std.proofs.lemmas.Bool.{cases_eq, leb-false, ltb-true}
 use Rattle.std.proofs.lemmas.List.Sums.{sum_by-cons}
 use Rattle.elf_types.specs.declared.records.Class.{Class}
@@ -21,7 +21,7 @@ use Rattle.elf_outside.proofs.AskLemmas.{asks_both, asks_then, asks_fewer}
 use Rattle.elf_object.specs.Words.{Answers}
 use Rattle.elf_object.specs.Object.{Object, Section, Piece, section_at, piece_at, home_piece}
 use Rattle.elf_object.specs.Answers.{content, or_empty, items_at, kind_at, piece_count, same_kind, no_content, lend_refusal, no_section}
-use Rattle.elf_object.specs.Due.{holds_items, home_due, homes_due, unless_refused, when_piece_clean}
+use Rattle.elf_object.specs.Due.{is_loaded, holds_items, home_due, homes_due, is_refused_unread, unless_refused, when_piece_clean}
 use Rattle.elf_object.specs.Steps.{with_own, with_piece_at, with_section, with_shdr}
 use Rattle.elf_object.specs.Calls.{due, update_shdr_refusal}
 use Rattle.elf_object.specs.Calls as calls
@@ -32,7 +32,7 @@ use Rattle.elf_descriptor.specs.Reads.{wanted}
 use Rattle.elf_descriptor.specs.Lends.{IsLent}
 use Rattle.elf_descriptor.specs.Edits.{stepped}
 use Rattle.elf_descriptor.proofs.LendLaws.{lend_there}
-use Rattle.command_objects.specs.Words.{header_at}
+use Rattle.elf_object.specs.Sections.{header_at}
 use Rattle.hash_order.specs.declared.nexts.Next.{Next}
 use Rattle.hash_order.specs.declared.nexts.Next.TheVariants as nexts
 use Rattle.hash_order.specs.Plans.{signed, gets, stored, IsAtHand, IsReady, IsNoItems}
@@ -223,8 +223,8 @@ module _ {S : Type 0} (g : Ghosts S) (old new : State S) (after : Object)
       record {
         passed = same_lend old.o new.o n now kind ∙ hand.passed;
         holds = one.holds_on n (lend_there old.o kind n 0 hand.passed).1 hand.holds;
-        loaded = λ clean. one.stores.stays n
-            (hand.loaded (ap (λ (p : Piece). p.own) (sym (same_piece old.o new.o n now)) ∙ clean));
+        loaded = λ clean. one.stores.same n
+            ∙ hand.loaded (ap (λ (p : Piece). p.own) (sym (same_piece old.o new.o n now)) ∙ clean);
       }
 
   -- of a section that is as it was
@@ -266,7 +266,7 @@ module _ {S : Type 0} (g : Ghosts S) where
     object = refl;
     told = refl;
     asks = asks_none state.source;
-    stays = λ i is. is;
+    same = λ i. refl;
   }
 
   pub one_none : (state : State S) → StoresOne g state state state.o
@@ -279,10 +279,30 @@ module _ {S : Type 0} (g : Ghosts S) where
     told = second.told ∙ first.told;
     asks = asks_fewer g (Ok tt) old.source new.source (0 + 0) 0 (omega arith)
         (asks_both g (Ok tt) (Ok tt) old.source mid.source new.source 0 0 first.asks second.asks);
-    stays = λ i is. second.stays i (first.stays i is);
+    same = λ i. second.same i ∙ first.same i;
   }
 
 -- ---- A list that is lent
+
+no_own : (own : Option Items) → is_none own ≡ true → own ≡ None
+no_own None is = refl
+no_own (Some l) is = cc
+
+no_item : (i : ℕ) → Contains [] i → ⊥
+no_item i found = let below = found.1 in absurd (omega (arith, below))
+
+one_item : (n i : ℕ) → Contains (n ∷ []) i → i ≡ n
+one_item n i found = by found.0 found.1 found.2
+  where
+    by : (k : ℕ) → k < length (n ∷ []) → get_or (n ∷ []) k i ≡ i → i ≡ n
+    by zero below is = sym is
+    by (suc k) below is = absurd (omega (arith, below))
+
+not_there : (n : ℕ) (refused clean : Bool) (i : ℕ) → (clean ≡ true → i ≡ n → ⊥)
+    → ¬ Contains (if refused then [] else (if clean then n ∷ [] else [])) i
+not_there n true clean i other = λ found. no_item i found
+not_there n false true i other = λ found. other refl (one_item n i found)
+not_there n false false i other = λ found. no_item i found
 
 module _ {S : Type 0} (g : Ghosts S) (kind : Kind) (n : ℕ) (old : State S)
     (hand : IsAtHand old n kind) where
@@ -312,6 +332,34 @@ module _ {S : Type 0} (g : Ghosts S) (kind : Kind) (n : ℕ) (old : State S)
       (unless_refused (lend_refusal old.o k n 0) (when_piece_clean old.o n 0))) is
       ∙ hand_due
 
+  -- what is loaded: of a piece that is not own the home is by now
+  lent_alone : {T : Type 0} (r : Result T ElfError) (new : State S) (left : Items)
+      → IsLent g r old new n 0 left → (i : ℕ)
+      → (is_none (piece_at old.o n 0).own ≡ true → i ≡ n → ⊥)
+      → is_loaded new.loaded i ≡ is_loaded old.loaded i
+  unfolding when_piece_clean
+  lent_alone r new left lent i other =
+      lent.reads.loads i
+      (not_there n (is_refused_unread (lend_refusal old.o (items_kind left) n 0))
+      (is_none (piece_at old.o n 0).own) i other)
+
+  lent_loaded : {T : Type 0} (r : Result T ElfError) (new : State S) (left : Items)
+      → IsLent g r old new n 0 left → (i : ℕ)
+      → is_loaded new.loaded i ≡ is_loaded old.loaded i
+  lent_loaded r new left lent i = by (is_none (piece_at old.o n 0).own) refl (cases_eq i n)
+    where
+      by : (clean : Bool) → is_none (piece_at old.o n 0).own ≡ clean → (i ≡ n) ⊎ (i ≡ n → ⊥)
+          → is_loaded new.loaded i ≡ is_loaded old.loaded i
+      by clean own (inr other) = lent_alone r new left lent i (λ is same. other same)
+      by false own (inl same) =
+          lent_alone r new left lent i
+          (λ is at. let never : false ≡ true = sym own ∙ is in cc)
+      by true own (inl same) =
+          let before : is_loaded old.loaded i ≡ true =
+          ap (λ (k : ℕ). is_loaded old.loaded k) same
+          ∙ hand.loaded (no_own (piece_at old.o n 0).own own) in
+          lent.reads.stays i before ∙ sym before
+
   pub lent_stores : {T : Type 0} (r : Result T ElfError) (new : State S) (left : Items)
       → items_kind left ≡ kind → IsLent g r old new n 0 left
       → StoresOne g old new (with_own old.o n 0 left)
@@ -325,7 +373,7 @@ module _ {S : Type 0} (g : Ghosts S) (kind : Kind) (n : ℕ) (old : State S)
               (due (calls.lend n 0 left) old.o old.loaded) 0 (omega (arith, none))
               (asks_then g r (Ok tt) old.source new.source
               (due (calls.lend n 0 left) old.o old.loaded) lent.reads.source tt);
-          stays = lent.reads.stays;
+          same = λ i. lent_loaded r new left lent i;
         };
         holds_on = λ i there held. lent.reads.holds_on i 0 there held;
       }
@@ -383,7 +431,7 @@ shdr_stores {S} g old new n h k passed same is =
         object = refl;
         told = refl;
         asks = asks_none g old.source;
-        stays = λ i loaded. loaded;
+        same = λ i. refl;
       };
       holds_on = λ i there held.
           ap (λ (p : Piece). is_some p.own || unwrap_or (slice_get old.held i) false)

@@ -90,7 +90,7 @@ module _ {S : Type 0} (g : Ghosts S) (first : State S) (plan : List Next)
             told = done.stores.told ∙ are.stores.told;
             asks = (stores_both g first now next now.o (gets now.o n (given n)) are.stores
                 done.stores).asks;
-            stays = λ i is. done.stores.stays i (are.stores.stays i is);
+            same = λ i. done.stores.same i ∙ are.stores.same i;
           };
           count =
               ap (λ (o : Object). length o.sections) done.stores.object
@@ -103,7 +103,7 @@ module _ {S : Type 0} (g : Ghosts S) (first : State S) (plan : List Next)
     object = sym (stored_all given n all now.o past) ∙ are.left;
     told = are.stores.told;
     asks = are.stores.asks;
-    stays = are.stores.stays;
+    same = are.stores.same;
   }
 
 -- ---- The symbols come first

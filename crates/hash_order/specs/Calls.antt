@@ -1,5 +1,5 @@
 -- A symbol table in another order, as a call on an object.
-use Rattle.std.specs.Prelude.{◌≡◌, ℕ, Bool, ◌==◌, not, ◌&&◌, ◌||◌, is_none, nat_lt, true, IsTrue, List, filter, Result, OnOk, OnErr}
+use Rattle.std.specs.Prelude.{◌≡◌, ℕ, Bool, ◌==◌, not, ◌&&◌, ◌||◌, is_none, nat_lt, true, IsTrue, List, Contains, filter, Result, OnOk, OnErr}
 use Rattle.elf_types.specs.declared.errors.ElfError.{ElfError}
 use Rattle.elf_outside.specs.declared.sources.Source.{Ghosts}
 use Rattle.elf_outside.specs.Asks.{Asks}
@@ -7,8 +7,8 @@ use Rattle.elf_object.specs.Words.{Wants}
 use Rattle.elf_object.specs.Object.{Object, piece_at}
 use Rattle.elf_object.specs.Due.{is_loaded, all_sections, homes_due, unless_refused}
 use Rattle.elf_descriptor.specs.State.{State}
-use Rattle.command_objects.specs.Words.{header_at}
-use Rattle.command_objects.specs.Reordered.{kind_by_symbols, reorder_refusal}
+use Rattle.elf_object.specs.Sections.{header_at}
+use Rattle.hash_model.specs.Reordered.{kind_by_symbols, reorder_refusal}
 use Rattle.hash_order.specs.Plans.{BecomesOrdered}
 
 -- the items of section n go by the symbols of section s
@@ -34,7 +34,8 @@ reorder_wants state s = record {
 }
 
 -- What it does to a descriptor. A refusal, want of memory and a failed read leave the object. It
--- asks for at most the homes that it may read, each once; what is loaded stays so.
+-- asks for at most the homes that it may read, each once, and loads no other; what is loaded stays
+-- so.
 pub record Reorders {S T : Type 0} (g : Ghosts S) (s : ℕ) (order : List ℕ)
     (result : Result T ElfError) (old new : State S) : Type 0 where
   pub object : OnOk result (BecomesOrdered old.told old.o new.o s order)
@@ -42,4 +43,6 @@ pub record Reorders {S T : Type 0} (g : Ghosts S) (s : ℕ) (order : List ℕ)
   pub told : new.told ≡ old.told
   pub asks : Asks g result old.source new.source
       (homes_due old.o old.loaded (order_homes old.o s))
+  pub loads : (i : ℕ) → ¬ Contains (order_homes old.o s) i
+      → is_loaded new.loaded i ≡ is_loaded old.loaded i
   pub stays : (i : ℕ) → IsTrue (is_loaded old.loaded i) → IsTrue (is_loaded new.loaded i)

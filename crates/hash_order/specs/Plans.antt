@@ -15,8 +15,8 @@ use Rattle.elf_object.specs.Steps.{with_own, with_shdr}
 use Rattle.elf_object.specs.Calls.{update_shdr_refusal}
 use Rattle.elf_object.specs.Due.{is_loaded, holds_items}
 use Rattle.elf_descriptor.specs.State.{State}
-use Rattle.command_objects.specs.Words.{header_at}
-use Rattle.command_objects.specs.Reordered.{kind_by_symbols, items_by_symbols, new_index, reordered}
+use Rattle.elf_object.specs.Sections.{header_at}
+use Rattle.hash_model.specs.Reordered.{kind_by_symbols, items_by_symbols, new_index, reordered}
 use Rattle.hash_order.specs.declared.nexts.Next.{Next}
 use Rattle.hash_order.specs.declared.nexts.Next.TheVariants as nexts
 use Rattle.hash_order.specs.Kinds.{IsByIndex}

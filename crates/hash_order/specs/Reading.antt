@@ -23,12 +23,12 @@ pub record ReadsHomes {S T : Type 0} (g : Ghosts S) (homes : List ℕ) (result :
   pub reads : Reads g result old new homes homes (homes_due old.o old.loaded homes)
   pub ended : IfErr result (MayStop old homes)
 
--- steps that leave an object, and read nothing; what is loaded stays so
+-- steps that leave an object, and read nothing: what is loaded stays so, and no more is
 pub record Stores {S : Type 0} (g : Ghosts S) (old new : State S) (after : Object) : Type 0 where
   pub object : new.o ≡ after
   pub told : new.told ≡ old.told
   pub asks : Asks {T = Unit {0}} g (Ok tt) old.source new.source 0
-  pub stays : (i : ℕ) → IsTrue (is_loaded old.loaded i) → IsTrue (is_loaded new.loaded i)
+  pub same : (i : ℕ) → is_loaded new.loaded i ≡ is_loaded old.loaded i
 
 -- one of them: a first piece that is there and held its items holds them still
 pub record StoresOne {S : Type 0} (g : Ghosts S) (old new : State S) (after : Object)

@@ -5,7 +5,7 @@ ghost use Rattle.elf_types.specs.Answers.{answered, first_refusal};
 ghost use Rattle.elf_types.specs.declared.records.Kind.TheVariants as kinds;
 ghost use Rattle.elf_object.specs.Answers.{count_at, lend_refusal};
 ghost use Rattle.elf_object.specs.Due.{all_sections};
-ghost use Rattle.command_objects.specs.Reordered.{too_few_items, reorder_refusal, reorder_refusal_of};
+ghost use Rattle.hash_model.specs.Reordered.{too_few_items, reorder_refusal, reorder_refusal_of};
 ghost use Rattle.hash_order.specs.Kinds.{IsByIndex};
 
 use crate::kinds::{has_item_each, kind_by_symbols};

@@ -8,7 +8,7 @@ ghost use Rattle.elf_xlate.specs.Translation.{items_kind};
 ghost use Rattle.elf_object.specs.Object.{piece_at};
 ghost use Rattle.elf_object.specs.Answers.{items_at, count_at, syms_of, lend_refusal};
 ghost use Rattle.elf_object.specs.Words.{result_map};
-ghost use Rattle.command_objects.specs.Reordered.{in_order, items_by_symbols, reorder_refusal};
+ghost use Rattle.hash_model.specs.Reordered.{in_order, items_by_symbols, reorder_refusal};
 ghost use Rattle.hash_build.specs.Rows.{IsOrder};
 ghost use Rattle.hash_order.specs.Indexes.{AreBelow, AreNewIndexes};
 ghost use Rattle.hash_order.specs.Kinds.{IsByIndex, CanFollow, MovesBy};

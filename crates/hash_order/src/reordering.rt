@@ -5,7 +5,7 @@ ghost use Rattle.elf_types.specs.Answers.{answered};
 ghost use Rattle.elf_types.specs.declared.records.Kind.TheVariants as kinds;
 ghost use Rattle.elf_object.specs.Words.{Answers};
 ghost use Rattle.elf_object.specs.Answers.{count_at, items_at, syms_of};
-ghost use Rattle.command_objects.specs.Reordered.{in_order, reorder_refusal};
+ghost use Rattle.hash_model.specs.Reordered.{in_order, reorder_refusal};
 ghost use Rattle.hash_build.specs.Rows.{IsOrder};
 ghost use Rattle.hash_order.specs.Indexes.{AreNewIndexes};
 ghost use Rattle.hash_order.specs.Plans.{IsAtHand};

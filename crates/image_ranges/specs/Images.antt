@@ -1,5 +1,5 @@
 -- An image whose parts are ranges of bytes: what is written of it, and when it is that of an object.
-use Rattle.std.specs.Prelude.{◌≡◌, ℕ, ◌+◌, ◌≤◌, List, length, sum_by, All}
+use Rattle.std.specs.Prelude.{◌≡◌, ℕ, ◌+◌, ◌^◌, ◌<◌, ◌≤◌, List, length, sum_by, All}
 use Rattle.elf_layout.specs.declared.parts.PartAt.{PartAt}
 use Rattle.elf_object.specs.Blocks.{Block}
 use Rattle.elf_object.specs.Object.{Object}
@@ -34,11 +34,11 @@ pub record ArePlanned (k : KeptRanges) (plan : List PartAt) (end : ℕ) : Type 0
   pub long : All (HasLength (ranged_pieces k)) plan
   pub line : AreInLine end 0 (ranged_blocks k plan)
 
--- a part stands behind an end, and ends at another one
-pub record StandsAfter (k : KeptRanges) (part : PartAt) (end after : ℕ) : Type 0 where
+-- a part that is as long as its range stands behind an end, and its own end is a number of 64 bits
+pub record StandsBehind (k : KeptRanges) (part : PartAt) (end : ℕ) : Type 0 where
   pub long : HasLength (ranged_pieces k) part
   pub first : end ≤ part.at
-  pub end_is : after ≡ part.at + part.len
+  pub fits : part.at + part.len < 2 ^ 64
 
 -- it can be written: each range lies in its bytes, and the parts of the plan, each as long as its
 -- range, stand one behind the other before the end

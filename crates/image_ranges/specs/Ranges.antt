@@ -43,6 +43,10 @@ pieces_at held base (Some range) = (1, range_bytes held base range) ∷ []
 abbrev pub LiesInside : List ℕ → List ℕ → Option ByteRange → Type 0
 LiesInside held base range = IfSome range (IsInside held base)
 
+abbrev pub len_at : Option ByteRange → ℕ
+len_at None = 0
+len_at (Some range) = range.len
+
 abbrev pub due_at : Option ByteRange → ℕ
 due_at None = 0
 due_at (Some range) = range_due range

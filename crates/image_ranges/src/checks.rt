@@ -1,26 +1,27 @@
 //! Whether an image can be written.
 
-ghost use Rattle.std.specs.Prelude.{◌≡◌, ◌+◌, ◌≤◌, true, All, IfSome};
-ghost use Rattle.image_ranges.specs.Images.{IsReadyImage, StandsAfter, ArePlanned};
+ghost use Rattle.std.specs.Prelude.{◌≡◌, ◌↔◌, ◌+◌, ◌≤◌, true, All, IsTrue};
+ghost use Rattle.std.specs.Option.{SomeIff};
+ghost use Rattle.image_ranges.specs.Images.{IsReadyImage, StandsBehind, ArePlanned};
 ghost use Rattle.image_ranges.specs.Ranges.{IsInside, AreInside, bytes_of_source, kept_of_parts};
 
 use crate::images::RangedImage;
 use crate::parts::{RangedParts, base_len};
-use crate::ranges::{ByteRange, range_at};
+use crate::ranges::{ByteRange, range_len};
 use elf_layout::PartAt;
 use elf_outside::Source;
 
 /// Whether a range ends within so many bytes.
 fn ends_within(range: ByteRange, len: u64) -> bool
-    ensures { result ≡ true → range.at + range.len ≤ len }
+    ensures { IsTrue result ↔ (range.at + range.len ≤ len) }
 {
     range.at <= len && range.len <= len - range.at
 }
 
 /// Whether a range lies in the bytes that it is one of.
 fn is_inside<S: Source>(parts: &RangedParts<S>, range: ByteRange) -> bool
-    ensures { result ≡ true
-        → IsInside parts.now.held (bytes_of_source S.Source parts.now.source) range }
+    ensures { IsTrue result
+        ↔ IsInside parts.now.held (bytes_of_source S.Source parts.now.source) range }
 {
     if range.held {
         return ends_within(range, parts.held.len());
@@ -30,8 +31,8 @@ fn is_inside<S: Source>(parts: &RangedParts<S>, range: ByteRange) -> bool
 
 /// Whether those of the sections do.
 fn are_sections_inside<S: Source>(parts: &RangedParts<S>) -> bool
-    ensures { result ≡ true
-        → All (IsInside parts.now.held (bytes_of_source S.Source parts.now.source))
+    ensures { IsTrue result
+        ↔ All (IsInside parts.now.held (bytes_of_source S.Source parts.now.source))
         parts.now.ranges.sections }
 {
     for range in parts.ranges.sections.as_slice() {
@@ -44,7 +45,7 @@ fn are_sections_inside<S: Source>(parts: &RangedParts<S>) -> bool
 
 /// Whether those of all parts do.
 fn are_inside<S: Source>(parts: &RangedParts<S>) -> bool
-    ensures { result ≡ true → AreInside (kept_of_parts S.Source parts.now) }
+    ensures { IsTrue result ↔ AreInside (kept_of_parts S.Source parts.now) }
 {
     let header = is_inside(parts, parts.ranges.header);
     let segments = is_inside(parts, parts.ranges.segments);
@@ -62,30 +63,27 @@ fn are_inside<S: Source>(parts: &RangedParts<S>) -> bool
 }
 
 /// The end of a part that stands behind the end so far and is as long as its range; None of any
-/// other one.
+/// other one, and where its end is above 2^64 - 1.
 fn end_behind<S: Source>(parts: &RangedParts<S>, part: PartAt, end: u64) -> Option<u64>
     requires { AreInside (kept_of_parts S.Source parts.now) }
-    ensures { IfSome result (StandsAfter (kept_of_parts S.Source parts.now) part end) }
+    ensures { SomeIff result (StandsBehind (kept_of_parts S.Source parts.now) part end)
+        (part.at + part.len) }
 {
-    match range_at(&parts.ranges, part.part) {
-        Some(range) => {
-            if range.len != part.len {
-                return None;
-            }
-            if part.at < end {
-                return None;
-            }
-            part.at.checked_add(part.len)
-        }
-        None => None,
+    let len = range_len(&parts.ranges, part.part);
+    if len != part.len {
+        return None;
     }
+    if part.at < end {
+        return None;
+    }
+    part.at.checked_add(part.len)
 }
 
 /// Whether the parts of a plan, each as long as its range, stand one behind the other before an
 /// end.
 fn are_planned<S: Source>(parts: &RangedParts<S>, plan: &[PartAt], end: u64) -> bool
     requires { AreInside (kept_of_parts S.Source parts.now) }
-    ensures { result ≡ true → ArePlanned (kept_of_parts S.Source parts.now) plan.now end }
+    ensures { IsTrue result ↔ ArePlanned (kept_of_parts S.Source parts.now) plan.now end }
 {
     let mut from = 0;
     for part in plan {
@@ -98,12 +96,14 @@ fn are_planned<S: Source>(parts: &RangedParts<S>, plan: &[PartAt], end: u64) -> 
 }
 
 impl<S: Source> RangedImage<S> {
-    /// Whether the image can be written: where it says so, each range lies in the bytes that it is
-    /// one of, and the parts of the plan stand one behind the other. It looks at each range and at
-    /// each part once, reads nothing and takes no memory.
+    /// Whether the image can be written: exactly where each range lies in the bytes that it is one
+    /// of, and the parts of the plan, each as long as its range, stand one behind the other. It
+    /// looks at each range and at each part once, reads nothing and takes no memory.
     pub fn is_ready(&self) -> bool
-        ensures { result ≡ true → IsReadyImage (kept_of_parts S.Source self.now.parts) self.now.plan
-            self.now.end }
+        ensures ready { result ≡ true → IsReadyImage (kept_of_parts S.Source self.now.parts)
+            self.now.plan self.now.end }
+        ensures exact { IsReadyImage (kept_of_parts S.Source self.now.parts) self.now.plan
+            self.now.end → result ≡ true }
     {
         if !are_inside(&self.parts) {
             return false;

@@ -1,7 +1,7 @@
 //! Where the bytes of an image's parts are.
 
 ghost use Rattle.std.specs.Prelude.{◌≡◌};
-ghost use Rattle.image_ranges.specs.Ranges.{range_at};
+ghost use Rattle.image_ranges.specs.Ranges.{len_at, range_at};
 
 use elf_types::{List, Part};
 
@@ -41,5 +41,15 @@ pub fn range_at(ranges: &PartRanges, part: Part) -> Option<ByteRange>
         Part::Section(s) => ranges.sections.get(s as u64),
         Part::Object => None,
         Part::Piece(_, _) => None,
+    }
+}
+
+/// The number of bytes of the range of a part; 0 where it has none.
+pub(crate) fn range_len(ranges: &PartRanges, part: Part) -> u64
+    ensures { result ≡ len_at (range_at ranges.now part) }
+{
+    match range_at(ranges, part) {
+        Some(range) => range.len,
+        None => 0,
     }
 }

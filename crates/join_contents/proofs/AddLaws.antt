@@ -12,7 +12,7 @@ use Rattle.elf_object.specs.Answers.{raw_refusal}
 use Rattle.elf_object.specs.Object.{Object, section_at}
 use Rattle.elf_object.specs.Layout.{section_numbers}
 use Rattle.elf_descriptor.specs.State.{State}
-use Rattle.command_objects.specs.Words.{is_allocated, header_at}
+use Rattle.elf_object.specs.Sections.{is_allocated, header_at}
 use Rattle.command_objects.specs.Split.{allocated, counterpart, loaded_header, combined_raw_refusal}
 use Rattle.command_objects.specs.Split.{UnstripFault as stated}
 use Rattle.object_making.specs.Refused.{RefusedBy}

@@ -10,7 +10,7 @@ use Rattle.elf_object.specs.Layout.{section_numbers}
 use Rattle.elf_object.specs.Valid.{IsObject}
 use Rattle.object_laws.proofs.KeepLaws.{section_at_is}
 use Rattle.command_objects.specs.Rebuilt.{made_section}
-use Rattle.command_objects.specs.Words.{header_at}
+use Rattle.elf_object.specs.Sections.{header_at}
 use Rattle.command_objects.specs.Split.{counterpart, loaded_header, combined_section, combined_sections}
 use Rattle.object_making.specs.Making.{sections_by}
 use Rattle.strip_laws.proofs.MadeSections.{bytes_encoded}

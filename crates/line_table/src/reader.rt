@@ -1,6 +1,6 @@
 //! Reading numbers and strings from the front of bytes.
 
-ghost use Rattle.std.specs.Prelude.{◌≡◌, ◌≤◌, ◌<◌, length, OnOk, ◌==◌, position};
+ghost use Rattle.std.specs.Prelude.{◌≡◌, ◌≤◌, ◌<◌, length, OnOk, ◌==◌};
 ghost use Rattle.std.specs.Int.{w16, w32, w64};
 ghost use Rattle.std.specs.Option.{option_copied};
 ghost use Rattle.elf_types.specs.Answers.{FollowsBy};
@@ -9,6 +9,7 @@ ghost use Rattle.line_table.specs.Header.{named_file_at};
 ghost use Rattle.line_table.specs.Outcomes.{why_of};
 
 use crate::faults::{LineWhy, UnitFault};
+use byte_search::find_byte;
 use elf_types::Order;
 use std::marker::Model;
 
@@ -156,7 +157,7 @@ impl<'a> Reader<'a> {
             (string_at self.old) }
         ensures shorter { OnOk result (length self.new < length self.old) }
     {
-        let Some(end) = first_zero(self.rest) else {
+        let Some(end) = find_byte(self.rest, 0) else {
             return Err(UnitFault::Why(LineWhy::Cut));
         };
         let text = &self.rest[..end];
@@ -195,13 +196,6 @@ impl<'a> Reader<'a> {
             _ => Ok(Some(self.read_file()?)),
         }
     }
-}
-
-/// The place of the first byte that is 0.
-fn first_zero(bytes: &[u8]) -> Option<usize>
-    ensures { result ≡ position (λ b. b == 0) bytes.now }
-{
-    bytes.iter().position(|byte| *byte == 0)
 }
 
 /// What a byte of a LEB128 number stands for: its low seven bits, of which bit 6 is the sign in the

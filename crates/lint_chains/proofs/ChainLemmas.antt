@@ -10,7 +10,7 @@ use Rattle.elf_object.specs.Object.{Object}
 use Rattle.elf_object.specs.Answers.{bytes_of, items_at, lend_refusal}
 use Rattle.gelf_view.specs.Calls.{first_place, first_entry_answer}
 use Rattle.gelf_view.specs.Chains.{Chain, ended, broken, leading, entry_then, next_place, notes, verdefs, verneeds}
-use Rattle.command_objects.specs.Words.{header_at}
+use Rattle.elf_object.specs.Sections.{header_at}
 use Rattle.lint_findings.specs.Looking.{is_plain, if_lent, data_bytes}
 use Rattle.lint_chains.specs.Chains.{bad_place, entries_bad, section_bad, is_plain_of, note_bad, verdef_names_bad, verneed_names_bad, version_bad}
 

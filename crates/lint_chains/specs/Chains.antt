@@ -13,7 +13,7 @@ use Rattle.gelf_view.specs.declared.versions.Verdef.{Verdef}
 use Rattle.gelf_view.specs.declared.versions.Verneed.{Verneed}
 use Rattle.gelf_view.specs.Calls.{first_place}
 use Rattle.gelf_view.specs.Chains.{Chain, ended, notes, verdefs, verneeds, verdauxs, vernauxs, first_aux}
-use Rattle.command_objects.specs.Words.{header_at}
+use Rattle.elf_object.specs.Sections.{header_at}
 use Rattle.lint_findings.specs.declared.places.Place.TheVariants.{Section}
 use Rattle.lint_findings.specs.Findings.{Finding, finding}
 use Rattle.lint_findings.specs.Looking.{is_plain, data_bytes}

@@ -10,7 +10,7 @@ use Rattle.elf_types.specs.Answers.{answered, refused_if}
 use Rattle.elf_ident.specs.Front.{zero_shdr}
 use Rattle.elf_object.specs.Object.{Object, Section, section_at, absent_section}
 use Rattle.elf_object.specs.Calls.{shdr_answer}
-use Rattle.command_objects.specs.Words.{header_at}
+use Rattle.elf_object.specs.Sections.{header_at}
 
 -- a section whose header is refused is not there,
 pub refused_header : (o : Object) (s : ℕ) (e : ElfError) → Err e ≡ shdr_answer o s → nat_le (length o.sections) s ≡ true

@@ -14,7 +14,7 @@ use Rattle.elf_xlate.specs.Translation.{is_whole}
 use Rattle.elf_object.specs.Object.{Object, section_at}
 use Rattle.elf_object.specs.Open.{home_len}
 use Rattle.elf_object.specs.Answers.{items_at, lend_refusal, bytes_of, words_of, syms_of, rels_of, relas_of, dyns_of}
-use Rattle.command_objects.specs.Words.{header_at, is_of}
+use Rattle.elf_object.specs.Sections.{header_at, is_of}
 
 -- ---- Sections
 

@@ -7,7 +7,7 @@ ghost use Rattle.elf_xlate.specs.Translation.{is_whole as stated_whole};
 ghost use Rattle.elf_object.specs.Object.{section_at};
 ghost use Rattle.elf_object.specs.Open.{home_len as stated_len};
 ghost use Rattle.elf_object.specs.Answers.{same_kind};
-ghost use Rattle.command_objects.specs.Words.{header_at, is_allocated, is_of, is_relocations, info_is_section};
+ghost use Rattle.elf_object.specs.Sections.{header_at, is_allocated, is_of, is_relocations, info_is_section};
 ghost use Rattle.lint_findings.specs.Looking as looking;
 
 use elf_descriptor::Elf;
@@ -124,7 +124,7 @@ fn are_symbols(kind: Kind) -> bool
 }
 
 /// Whether a section is of a type, with symbols as its items.
-#[tactic(auto, unfolding(command_objects::specs::Words::is_of))]
+#[tactic(auto, unfolding(elf_object::specs::Sections::is_of))]
 fn is_table_of(class: Class, h: &Shdr, stype: u32) -> bool
     ensures { result ≡ is_of stype kinds.Sym h.now }
 {
@@ -153,7 +153,7 @@ pub fn is_string_table(h: &Shdr) -> bool
 /// Whether a section holds relocations.
 ///
 /// Source: gABI chapter 4, "Sections", SHT_REL and SHT_RELA.
-#[tactic(auto, unfolding(command_objects::specs::Words::is_relocations))]
+#[tactic(auto, unfolding(elf_object::specs::Sections::is_relocations))]
 pub fn is_relocations(h: &Shdr) -> bool
     ensures { result ≡ is_relocations h.now }
 {
@@ -163,7 +163,7 @@ pub fn is_relocations(h: &Shdr) -> bool
 /// Whether `sh_info` is a section's number.
 ///
 /// Source: gABI chapter 4, "Section Header", sh_info; "Sections", SHF_INFO_LINK.
-#[tactic(auto, unfolding(command_objects::specs::Words::info_is_section))]
+#[tactic(auto, unfolding(elf_object::specs::Sections::info_is_section))]
 pub fn info_is_section(h: &Shdr) -> bool
     ensures { result ≡ info_is_section h.now }
 {
@@ -173,7 +173,7 @@ pub fn info_is_section(h: &Shdr) -> bool
 /// Whether a section is in memory when the program runs.
 ///
 /// Source: gABI chapter 4, "Sections", SHF_ALLOC.
-#[tactic(auto, unfolding(command_objects::specs::Words::is_allocated))]
+#[tactic(auto, unfolding(elf_object::specs::Sections::is_allocated))]
 pub fn is_allocated(h: &Shdr) -> bool
     ensures { result ≡ is_allocated h.now }
 {

@@ -6,7 +6,7 @@ use Rattle.std.specs.Option.{option_map}
 use Rattle.std.proofs.lemmas.Bool.{le-leb, lt-leb, lt-ltb, leb-true, eq-eqb, ne_eqb, cases_lt, cases_eq}
 use borrow.Author.Tests.{ltb-true}
 use Rattle.std.proofs.lemmas.Option.{slice_get-get_or, slice_get_within}
-use Rattle.command_objects.specs.HashSections.{GnuHash, gnu_word, gnu_chain, gnu_chain_from, is_end, is_on_with, ends}
+use Rattle.hash_model.specs.HashSections.{GnuHash, gnu_word, gnu_chain, gnu_chain_from, is_end, is_on_with, ends}
 use Rattle.lint_hashes.specs.Gnu.{is_marked, ends_before, has_hash, next_start, IsEnd, IsRun}
 
 module _ (h : GnuHash) (count : ℕ) where

@@ -6,8 +6,8 @@ use Rattle.std.proofs.lemmas.List.Folds.{list_all_at}
 use Rattle.std.proofs.Math.Nat.{mod-lt}
 use Rattle.elf_types.specs.declared.records.Class.{Class}
 use Rattle.elf_types.specs.declared.records.Order.{Order}
-use Rattle.command_objects.specs.Hashes.{gnu_hash}
-use Rattle.command_objects.specs.HashSections.{GnuHash, gnu_in, gnu_chain_from, is_found_gnu, is_on_with, is_whole_gnu, ends, passes}
+use Rattle.hash_model.specs.Hashes.{gnu_hash}
+use Rattle.hash_model.specs.HashSections.{GnuHash, gnu_in, gnu_chain_from, is_found_gnu, is_on_with, is_whole_gnu, ends, passes}
 use Rattle.lint_hashes.specs.declared.gnu.GnuTable.{GnuTable}
 use Rattle.lint_hashes.specs.Gnu.{has_parts, section_of, chains_end, is_sound, first_of, is_reached, next_start, run_after, all_are_found, IsTable, IsSound, IsRun, LiesIn}
 use Rattle.lint_hashes.proofs.GnuChains.{reached_is, run_next}

@@ -8,7 +8,7 @@ use Rattle.std.proofs.Math.Nat.{mod-lt}
 use Rattle.elf_types.specs.declared.records.Class.{Class}
 use Rattle.elf_types.specs.declared.records.Order.{Order}
 use Rattle.elf_xlate.specs.Numbers.{number_at}
-use Rattle.command_objects.specs.HashSections.{GnuHash, bloom_bytes, numbers_at, gnu_word, gnu_in, gnu_head, gnu_chains_at}
+use Rattle.hash_model.specs.HashSections.{GnuHash, bloom_bytes, numbers_at, gnu_word, gnu_in, gnu_head, gnu_chains_at}
 use Rattle.lint_hashes.specs.declared.gnu.GnuTable.{GnuTable}
 use Rattle.lint_hashes.specs.Gnu.{has_parts, section_of, IsTable, LiesIn}
 

@@ -12,8 +12,8 @@ use Rattle.elf_types.specs.declared.records.Sym.{Sym}
 use Rattle.elf_object.specs.Object.{Object}
 use Rattle.elf_object.specs.Answers.{items_at, count_at, lend_refusal, syms_of}
 use Rattle.elf_object.specs.Strings.{readable, string_answer, symbol_name}
-use Rattle.command_objects.specs.Words.{header_at}
-use Rattle.command_objects.specs.Listed.{is_defined_global, not_empty, listed_name, listed_names}
+use Rattle.elf_object.specs.Sections.{header_at}
+use Rattle.hash_model.specs.Listed.{is_defined_global, not_empty, listed_name, listed_names}
 use Rattle.object_output.proofs.ListCounts.{syms_counted}
 use Rattle.lint_findings.specs.Looking.{symbols}
 use Rattle.lint_findings.proofs.LentLemmas.{lent_count, symbols_are}

@@ -3,7 +3,7 @@ use Rattle.std.specs.Prelude.{◌≡◌, ℕ, ◌+◌, ◌-◌, ◌*◌, ◌/◌
 use Rattle.elf_types.specs.declared.records.Class.{Class}
 use Rattle.elf_types.specs.declared.records.Order.{Order}
 use Rattle.std.specs.List.{list_all}
-use Rattle.command_objects.specs.HashSections.{GnuHash, bloom_bytes, numbers_at, gnu_in, gnu_chains_at, gnu_chain_from, gnu_word, is_end, passes, ends, each_listed, is_found_gnu}
+use Rattle.hash_model.specs.HashSections.{GnuHash, bloom_bytes, numbers_at, gnu_in, gnu_chains_at, gnu_chain_from, gnu_word, is_end, passes, ends, each_listed, is_found_gnu}
 use Rattle.lint_hashes.specs.declared.gnu.GnuTable.{GnuTable}
 
 -- ---- The numbers at its beginning

@@ -5,9 +5,9 @@ use Rattle.elf_types.specs.declared.constants.TheConstants.{SHT_HASH, SHT_GNU_HA
 use Rattle.elf_types.specs.declared.records.Kind.TheVariants as kinds
 use Rattle.elf_object.specs.Object.{Object}
 use Rattle.elf_object.specs.Due.{all_sections}
-use Rattle.command_objects.specs.Words.{header_at, is_of}
-use Rattle.command_objects.specs.Listed.{listed_names}
-use Rattle.command_objects.specs.HashSections.{is_whole_sysv, is_whole_gnu}
+use Rattle.elf_object.specs.Sections.{header_at, is_of}
+use Rattle.hash_model.specs.Listed.{listed_names}
+use Rattle.hash_model.specs.HashSections.{is_whole_sysv, is_whole_gnu}
 use Rattle.lint_findings.specs.Findings.{Rule, at_sections}
 use Rattle.lint_findings.specs.Looking.{is_plain, links_to_symbols, words, data_bytes}
 

@@ -4,9 +4,9 @@ use Rattle.std.specs.Option.{option_map}
 use Rattle.elf_types.specs.declared.records.Kind.TheVariants as kinds
 use Rattle.elf_object.specs.Object.{Object}
 use Rattle.elf_object.specs.Answers.{lend_refusal}
-use Rattle.command_objects.specs.Words.{header_at}
-use Rattle.command_objects.specs.Listed.{listed_names}
-use Rattle.command_objects.specs.Hashes.{elf_hash, gnu_hash}
+use Rattle.elf_object.specs.Sections.{header_at}
+use Rattle.hash_model.specs.Listed.{listed_names}
+use Rattle.hash_model.specs.Hashes.{elf_hash, gnu_hash}
 use Rattle.lint_hashes.specs.declared.listed.Listed.{Listed}
 use Rattle.lint_hashes.specs.declared.listed.NameHash.{NameHash}
 use Rattle.lint_hashes.specs.declared.listed.NameHash.TheVariants.{Sysv, Gnu}

@@ -1,6 +1,6 @@
 -- What is known of the chains of a hash section of type SHT_HASH, by their symbols.
 use Rattle.std.specs.Prelude.{◌≡◌, ◌⊎◌, ℕ, ◌<◌, ◌≤◌, ◌==◌, ◌||◌, not, Bool, true, List, slice_index_or, Option}
-use Rattle.command_objects.specs.HashSections.{sysv_chain, is_on, ends}
+use Rattle.hash_model.specs.HashSections.{sysv_chain, is_on, ends}
 use Rattle.lint_hashes.specs.declared.sysv.SysvTable.{SysvTable}
 use Rattle.lint_hashes.specs.declared.paths.Paths.{Paths}
 use Rattle.lint_hashes.specs.Sysv.{section_of}

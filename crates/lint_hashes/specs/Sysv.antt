@@ -3,9 +3,9 @@ use Rattle.std.specs.Prelude.{◌≡◌, ℕ, ◌+◌, ◌%◌, ◌<◌, ◌==�
 use Rattle.std.specs.List.{list_all}
 use Rattle.std.specs.Option.{option_map}
 use Rattle.elf_types.specs.declared.records.ScnId.{ScnId}
-use Rattle.command_objects.specs.Hashes.{elf_hash}
-use Rattle.command_objects.specs.HashSections.{SysvHash, sysv_chain, each_listed}
-use Rattle.command_objects.specs.Words.{is_among}
+use Rattle.hash_model.specs.Hashes.{elf_hash}
+use Rattle.hash_model.specs.HashSections.{SysvHash, sysv_chain, each_listed}
+use Rattle.elf_object.specs.Sections.{is_among}
 use Rattle.lint_hashes.specs.declared.sysv.SysvTable.{SysvTable}
 
 -- ---- The two counts

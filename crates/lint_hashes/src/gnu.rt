@@ -10,8 +10,8 @@
 ghost use Rattle.std.specs.Prelude.{◌≡◌, ◌<◌, ◌≤◌, ◌+◌, ◌*◌, ◌/◌, ◌%◌, ◌==◌, ◌&&◌, ◌^◌, length, nat_le, slice_index_or, if◌then◌else◌, IfSome, MatchOption, None, Some, true};
 ghost use Rattle.std.specs.List.{list_all};
 ghost use Rattle.elf_xlate.specs.Numbers.{number_at};
-ghost use Rattle.command_objects.specs.HashSections as sections;
-ghost use Rattle.command_objects.specs.HashSections.{ends, gnu_chain_from, gnu_word, passes};
+ghost use Rattle.hash_model.specs.HashSections as sections;
+ghost use Rattle.hash_model.specs.HashSections.{ends, gnu_chain_from, gnu_word, passes};
 ghost use Rattle.lint_hashes.specs.Gnu as gnu;
 ghost use Rattle.lint_hashes.specs.Gnu.{ends_before, has_hash, section_of, IsEnd, IsSoundIn, IsTableIn, LiesIn};
 
@@ -183,7 +183,7 @@ fn bloom_at(bytes: &[u8], t: &GnuTable, hash: u32) -> u64
 }
 
 /// Whether a hash passes the bloom: both of its bits are set in its word.
-#[tactic(auto, unfolding(command_objects::specs::HashSections::passes, crate::specs::Gnu::section_of))]
+#[tactic(auto, unfolding(hash_model::specs::HashSections::passes, crate::specs::Gnu::section_of))]
 fn passes(bytes: &[u8], t: &GnuTable, hash: u32) -> bool
     requires { LiesIn (length bytes.now) t.now }
     ensures { result ≡ passes t.now.class (section_of t.now bytes.now) hash }

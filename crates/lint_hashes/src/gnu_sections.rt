@@ -1,8 +1,8 @@
 //! GNU's hash section of an object, and whether it is whole.
 
 ghost use Rattle.std.specs.Prelude.{◌≡◌, ◌<◌, length, true, IfOk, IfSome, IsTrue};
-ghost use Rattle.command_objects.specs.HashSections.{is_whole_gnu};
-ghost use Rattle.command_objects.specs.Listed.{listed_names};
+ghost use Rattle.hash_model.specs.HashSections.{is_whole_gnu};
+ghost use Rattle.hash_model.specs.Listed.{listed_names};
 ghost use Rattle.object_output.specs.Steps.{Learns, ReadsElf};
 ghost use Rattle.bytes_at_hand.specs.Strings.{EndsAt};
 ghost use Rattle.lint_findings.specs.Looking.{data_bytes};

@@ -4,7 +4,7 @@ ghost use Rattle.std.specs.Prelude.{◌≡◌};
 ghost use Rattle.elf_types.specs.declared.records.Kind.TheVariants as kinds;
 ghost use Rattle.elf_object.specs.Object.{section_at};
 ghost use Rattle.elf_object.specs.Answers.{same_kind};
-ghost use Rattle.command_objects.specs.Words.{is_of};
+ghost use Rattle.elf_object.specs.Sections.{is_of};
 ghost use Rattle.lint_findings.specs.Steps.{FindsOver};
 ghost use Rattle.lint_hashes.specs.Hashes as rule;
 
@@ -27,7 +27,7 @@ fn are_words(kind: Kind) -> bool
 }
 
 /// Whether a section is of type `SHT_HASH`, with words as its items.
-#[tactic(auto, unfolding(command_objects::specs::Words::is_of))]
+#[tactic(auto, unfolding(elf_object::specs::Sections::is_of))]
 fn is_hash_of_words(class: Class, h: &Shdr) -> bool
     ensures { result ≡ is_of SHT_HASH kinds.Word h.now }
 {

@@ -2,8 +2,8 @@
 
 ghost use Rattle.std.specs.Prelude.{◌≡◌, ◌<◌, ◌==◌, ◌&&◌, not, length, is_some, slice_get, IfOk, IfSome, IsTrue, Some};
 ghost use Rattle.std.specs.Option.{option_map};
-ghost use Rattle.command_objects.specs.Listed.{is_defined_global, listed_name, not_empty};
-ghost use Rattle.command_objects.specs.Words.{header_at};
+ghost use Rattle.hash_model.specs.Listed.{is_defined_global, listed_name, not_empty};
+ghost use Rattle.elf_object.specs.Sections.{header_at};
 ghost use Rattle.object_output.specs.Steps.{Learns, ReadsElf};
 ghost use Rattle.bytes_at_hand.specs.Strings.{EndsAt};
 ghost use Rattle.lint_findings.specs.Looking.{links_to_symbols, symbols};
@@ -119,7 +119,7 @@ pub fn end_of_names<S: Source>(elf: &mut Elf<S>, l: Listed) -> Result<Option<u64
 
 /// The hash of the name of symbol `i`, which was looked at, where it is listed. A name that begins
 /// where names end can not be read, and is not looked for.
-#[tactic(auto, unfolding(command_objects::specs::Listed::listed_name, elf_object::specs::Strings::symbol_name))]
+#[tactic(auto, unfolding(hash_model::specs::Listed::listed_name, elf_object::specs::Strings::symbol_name))]
 fn hash_if_listed<S: Source>(
     elf: &mut Elf<S>,
     by: NameHash,

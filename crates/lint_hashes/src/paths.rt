@@ -5,7 +5,7 @@
 ghost use Rattle.std.specs.Prelude.{◌≡◌, ◌<◌, ℕ, length, is_some, replicate, slice_get, slice_index_or, slice_set, IfErr, IfOk, IfSome, IsTrue, Some, true};
 ghost use Rattle.std.specs.List.{list_all};
 ghost use Rattle.elf_types.specs.declared.errors.ElfError.TheVariants.{Memory};
-ghost use Rattle.command_objects.specs.HashSections.{is_on};
+ghost use Rattle.hash_model.specs.HashSections.{is_on};
 ghost use Rattle.lint_hashes.specs.Sysv as sysv;
 ghost use Rattle.lint_hashes.specs.Sysv.{section_of, TakesUp};
 ghost use Rattle.lint_hashes.specs.Paths.{chain_from, is_known, ArePaths, IsBehind};

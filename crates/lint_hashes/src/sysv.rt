@@ -6,8 +6,8 @@
 
 ghost use Rattle.std.specs.Prelude.{◌≡◌, ℕ, ◌<◌, ◌+◌, ◌++◌, ◌∷◌, [], length, slice_get, IfErr, IfOk, IfSome, IsTrue};
 ghost use Rattle.std.specs.Option.{option_map};
-ghost use Rattle.command_objects.specs.HashSections.{is_whole_sysv};
-ghost use Rattle.command_objects.specs.Listed.{listed_names};
+ghost use Rattle.hash_model.specs.HashSections.{is_whole_sysv};
+ghost use Rattle.hash_model.specs.Listed.{listed_names};
 ghost use Rattle.object_output.specs.Steps.{Learns};
 ghost use Rattle.bytes_at_hand.specs.Strings.{EndsAt};
 ghost use Rattle.lint_findings.specs.Looking.{words};

@@ -6,7 +6,7 @@ use Rattle.elf_types.specs.declared.constants.TheConstants.{SHN_UNDEF}
 use Rattle.elf_object.specs.Object.{Object}
 use Rattle.elf_object.specs.Due.{all_sections}
 use Rattle.elf_object.specs.Strings.{string_answer, readable, section_name}
-use Rattle.command_objects.specs.Words.{header_at}
+use Rattle.elf_object.specs.Sections.{header_at}
 use Rattle.bytes_at_hand.specs.Strings.{EndsAt}
 use Rattle.bytes_at_hand.proofs.Ends.{unreadable_test}
 use Rattle.lint_findings.specs.Findings.{at_sections}

@@ -11,7 +11,7 @@ use Rattle.elf_types.specs.Kinds.{section_kind}
 use Rattle.elf_xlate.specs.Items.{item_size}
 use Rattle.elf_object.specs.Object.{Object}
 use Rattle.elf_object.specs.Due.{all_sections}
-use Rattle.command_objects.specs.Words.{header_at, is_allocated, info_is_section}
+use Rattle.elf_object.specs.Sections.{header_at, is_allocated, info_is_section}
 use Rattle.lint_findings.specs.Findings.{Rule, at_sections}
 use Rattle.lint_findings.specs.Looking.{is_out, is_ragged, is_intact, is_looked_at, is_no_section}
 

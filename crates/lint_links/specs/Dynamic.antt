@@ -5,7 +5,7 @@ use Rattle.elf_types.specs.declared.constants.TheConstants.{SHT_DYNAMIC}
 use Rattle.elf_types.specs.declared.records.Dyn.{Dyn}
 use Rattle.elf_object.specs.Object.{Object}
 use Rattle.elf_object.specs.Due.{all_sections}
-use Rattle.command_objects.specs.Words.{header_at}
+use Rattle.elf_object.specs.Sections.{header_at}
 use Rattle.lint_findings.specs.Findings.{Rule, at_sections}
 use Rattle.lint_findings.specs.Looking.{is_plain, dyns}
 

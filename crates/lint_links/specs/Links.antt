@@ -6,7 +6,7 @@ use Rattle.elf_types.specs.declared.constants.TheConstants.{SHN_UNDEF, SHT_HASH,
 use Rattle.elf_types.specs.declared.records.Shdr.{Shdr}
 use Rattle.elf_object.specs.Object.{Object}
 use Rattle.elf_object.specs.Due.{all_sections}
-use Rattle.command_objects.specs.Words.{header_at, is_relocations}
+use Rattle.elf_object.specs.Sections.{header_at, is_relocations}
 use Rattle.lint_findings.specs.Findings.{Rule, at_sections}
 use Rattle.lint_findings.specs.Looking.{is_looked_at, is_symbol_table, is_string_table, linked_header}
 

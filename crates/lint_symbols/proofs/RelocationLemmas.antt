@@ -11,7 +11,7 @@ use Rattle.elf_types.specs.declared.records.Rela.{Rela}
 use Rattle.elf_types.specs.declared.errors.ElfError.{ElfError}
 use Rattle.elf_object.specs.Object.{Object}
 use Rattle.elf_object.specs.Answers.{items_at, rels_of, relas_of, lend_refusal}
-use Rattle.command_objects.specs.Words.{header_at}
+use Rattle.elf_object.specs.Sections.{header_at}
 use Rattle.lint_findings.specs.declared.places.Place.TheVariants.{Item}
 use Rattle.lint_findings.specs.Findings.{Finding, at_items, finding, found_if}
 use Rattle.lint_findings.specs.Looking.{if_lent, is_symbol_table, linked_header, links_to_symbols, symbols, rels, relas}

@@ -5,7 +5,7 @@ use Rattle.elf_types.specs.declared.records.Rel.{Rel}
 use Rattle.elf_types.specs.declared.records.Rela.{Rela}
 use Rattle.elf_object.specs.Object.{Object}
 use Rattle.elf_object.specs.Due.{all_sections}
-use Rattle.command_objects.specs.Words.{header_at, is_relocations}
+use Rattle.elf_object.specs.Sections.{header_at, is_relocations}
 use Rattle.lint_symbols.specs.declared.by_relocation.Relocations.{Relocations}
 use Rattle.lint_findings.specs.Findings.{Finding, at_items}
 use Rattle.lint_findings.specs.Looking.{is_plain, links_to_symbols, symbols, rels, relas}

@@ -9,7 +9,7 @@ use Rattle.elf_object.specs.Object.{Object}
 use Rattle.elf_object.specs.Answers.{lend_refusal}
 use Rattle.elf_object.specs.Due.{all_sections}
 use Rattle.elf_object.specs.Strings.{symbol_name}
-use Rattle.command_objects.specs.Words.{header_at}
+use Rattle.elf_object.specs.Sections.{header_at}
 use Rattle.lint_symbols.specs.declared.by_symbol.Table.{Table}
 use Rattle.lint_findings.specs.Findings.{Finding, Rule, at_items}
 use Rattle.lint_findings.specs.Looking.{is_plain, is_symbol_table, is_string_table, is_no_section, linked_header, symbols}

@@ -10,3 +10,5 @@ mod hashes;
 mod linear;
 #[cfg(test)]
 mod questions;
+#[cfg(test)]
+mod small;

@@ -134,7 +134,7 @@ module _ {S O E : Type 0} (g : SourceGhosts S) (o : SinkGhosts O) (e : SinkGhost
     on_image : (r : Result Bool Stop) (t u : Outputs O E) (held : Option (List ℕ)) (size : ℕ)
         → IfSome held (λ image. opened image ≡ Ok (begun f image))
         → (IsTrue (is_some held)
-            → Reports o e r t u (report name (begun f (source_bytes held size))))
+        → Reports o e r t u (report name (begun f (source_bytes held size))))
         → IfSome held (λ image. Reports o e r t u (image_report command report name image))
     on_image r t u None size is h = tt
     on_image r t u (Some image) size is h = rw (image_nm command report name f image is) (h refl)

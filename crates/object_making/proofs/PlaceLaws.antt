@@ -25,7 +25,7 @@ use Rattle.object_laws.proofs.ImageLaws.{length-joined}
 use Rattle.object_laws.proofs.StandLaws.{file_bytes_when}
 use Rattle.elf_descriptor.specs.State.{State}
 use Rattle.elf_descriptor.specs.Edits.{stepped, StepsTo}
-use Rattle.command_objects.specs.Words.{is_allocated, header_at}
+use Rattle.elf_object.specs.Sections.{is_allocated, header_at}
 use Rattle.command_objects.specs.Arranged.{movable, parts_from, section_from, placed_from, table_place_from, tail_refusal, arranged}
 use Rattle.object_making.specs.Placing.{is_movable, end_with, FitsBehind, MayStand, with_place, made_of, placed_state}
 

@@ -27,7 +27,7 @@ use Rattle.object_laws.proofs.PlacedLaws.{ehdr_fits_each, ehdr_fits_all, shdr_fi
 use Rattle.object_laws.proofs.KeepLaws.{section_at_is}
 use Rattle.elf_descriptor.specs.State.{State}
 use Rattle.elf_descriptor.specs.Edits.{stepped}
-use Rattle.command_objects.specs.Words.{is_allocated, header_at}
+use Rattle.elf_object.specs.Sections.{is_allocated, header_at}
 use Rattle.command_objects.specs.Arranged.{parts_from, place_from, section_from, placed_from, table_place_from}
 use Rattle.update_plan.proofs.RowLaws.{ok_is}
 use Rattle.object_making.specs.Placing.{is_movable, end_below, end_with, FitsBehind, MayStand, with_place, sections_from, placed_state}

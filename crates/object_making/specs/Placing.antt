@@ -9,7 +9,7 @@ use Rattle.elf_object.specs.Object.{Object, Section, is_null}
 use Rattle.elf_object.specs.Layout.{section_part}
 use Rattle.elf_object.specs.Steps.{with_shdr}
 use Rattle.elf_descriptor.specs.State.{State}
-use Rattle.command_objects.specs.Words.{is_allocated, header_at}
+use Rattle.elf_object.specs.Sections.{is_allocated, header_at}
 use Rattle.command_objects.specs.Arranged.{Rebuilt, section_from, placed_from, tail_refusal}
 
 -- ---- Which sections are placed, and the ends after them

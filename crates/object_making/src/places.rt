@@ -9,7 +9,7 @@ ghost use Rattle.elf_object.specs.Joined.{pieces_end};
 ghost use Rattle.elf_object.specs.Layout as stated;
 ghost use Rattle.elf_object.specs.Calls as calls;
 ghost use Rattle.elf_descriptor.specs.Edits.{StepsTo, stepped};
-ghost use Rattle.command_objects.specs.Words.{is_allocated, header_at};
+ghost use Rattle.elf_object.specs.Sections.{is_allocated, header_at};
 ghost use Rattle.command_objects.specs.Arranged.{arranged, parts_from, table_place_from, tail_refusal};
 ghost use Rattle.object_making.specs.Placing.{is_movable, end_with, FitsBehind, MayStand, with_place, sections_from, made_of, arranged_refusal, placed_state, arranged_state};
 

@@ -5,7 +5,7 @@ use crate::visits::{Told, Way, is_visited};
 use elf_outside::{Attempt, Failure, Files, RealFiles, RealSink};
 use std::fs::Permissions;
 use std::io::ErrorKind;
-use std::os::unix::fs::{MetadataExt, PermissionsExt};
+use std::os::unix::fs::{MetadataExt, PermissionsExt, symlink};
 use std::{env, fs, process};
 
 /// Where a file is.
@@ -34,6 +34,8 @@ pub enum Act {
     RemoveFolder,
     /// It gets another name in the folder for files that do not last.
     Link(&'static str),
+    /// A link of that name, in this folder, leads to it, whether it is there or not.
+    Symlink(&'static str),
     /// These of its permissions are those.
     Mode(u32, u32),
     /// It gets permissions.
@@ -91,6 +93,14 @@ fn is_linked(rt: &HostRuntime, path: &str, name: &str) -> bool {
     }
 }
 
+/// Whether a link is made that leads to a file.
+fn is_pointed_at(rt: &HostRuntime, path: &str, name: &str) -> bool {
+    match own_path(rt, name) {
+        Some(link) => symlink(rt, path, link.as_str()).is_ok(),
+        None => false,
+    }
+}
+
 /// Whether these permissions of a file are those.
 fn has_mode(rt: &HostRuntime, path: &str, of: u32, mode: u32) -> bool {
     match fs::metadata(rt, path) {
@@ -130,6 +140,7 @@ fn is_done_alone(rt: &HostRuntime, path: &str, act: Act) -> bool {
         Act::MakeFolder => fs::create_dir(rt, path).is_ok(),
         Act::RemoveFolder => fs::remove_dir(rt, path).is_ok(),
         Act::Link(name) => is_linked(rt, path, name),
+        Act::Symlink(name) => is_pointed_at(rt, path, name),
         Act::Mode(of, mode) => has_mode(rt, path, of, mode),
         Act::SetMode(mode) => fs::set_permissions(rt, path, Permissions::from_mode(mode)).is_ok(),
         Act::Hole(len) => is_hole(rt, path, len),

@@ -4,15 +4,16 @@ use crate::scripts::{Act, Held, Place, Step, are_taken, are_taken_while};
 use crate::steps::Step::{Append, AppendZeros, Read, SetLen, Write};
 use crate::steps::{puts_all, zeros_all};
 use crate::visits::Way;
-use elf_outside::{Attempt, OpenFault, RealSink};
+use elf_outside::{Attempt, OpenFault, RealSink, take_streams};
 use std::fs;
 use std::io::ErrorKind;
 
 /// A file.
 const FILE: Place = Place::Own("file");
 
-/// It is made, read, changed, made anew and removed, and then is not there.
-static FILE_STEPS: [Step; 8] = [
+/// It is cut to nothing, written, read, changed, not made anew and removed, and then is not there.
+static FILE_STEPS: [Step; 9] = [
+    (FILE, Act::Stream(&[(b"what was there before", true)])),
     (
         FILE,
         Act::Visit(
@@ -45,8 +46,8 @@ static FILE_STEPS: [Step; 8] = [
             Ok(&[Append(b"?", true), Read(7, 2, Some(b"!?"))]),
         ),
     ),
-    (FILE, Act::Visit(Way::Create, Ok(&[Append(b"z", true)]))),
-    (FILE, Act::Visit(Way::Open, Ok(&[Read(0, 1, Some(b"z"))]))),
+    (FILE, Act::Visit(Way::Create, Err(OpenFault::Failed))),
+    (FILE, Act::Holds(b"abXYef\0!?")),
     (FILE, Act::Remove),
     (FILE, Act::Visit(Way::Open, Err(OpenFault::NotThere))),
     (FILE, Act::Visit(Way::Edit, Err(OpenFault::NotThere))),
@@ -93,8 +94,8 @@ fn a_gap_of_zeros_in_a_file_is_a_hole(rt: HostRuntime) {
 }
 
 /// A file whose length is told as 0 is read to its end as it is opened. What has no length gets its
-/// zeros written, and gives none of them.
-static NO_LENGTH: [Step; 3] = [
+/// zeros written, gives none of them, and may be made again and again.
+static NO_LENGTH: [Step; 4] = [
     (
         Place::At("/proc/version"),
         Act::Visit(Way::Open, Ok(&[Read(0, 5, Some(b"Linux"))])),
@@ -109,6 +110,10 @@ static NO_LENGTH: [Step; 3] = [
     (
         Place::At("/dev/null"),
         Act::Visit(Way::Open, Ok(&[Read(0, 0, Some(b""))])),
+    ),
+    (
+        Place::At("/dev/null"),
+        Act::Visit(Way::Create, Ok(&[Append(b"a", true)])),
     ),
 ];
 
@@ -203,7 +208,7 @@ const OPEN: Place = Place::Own("open");
 /// Its other name.
 const OTHER: Place = Place::Own("link");
 
-/// A file that is open is not made anew under another name, and is once it was closed.
+/// A file that is open is not made anew under another name, and neither is it once it was closed.
 static LINKED: Held = Held {
     before: &[
         (OPEN, Act::Visit(Way::Create, Ok(&[Append(b"abc", true)]))),
@@ -219,8 +224,8 @@ static LINKED: Held = Held {
             OTHER,
             Act::Visit(Way::Open, Ok(&[Read(0, 3, Some(b"abc"))])),
         ),
-        (OTHER, Act::Visit(Way::Create, Ok(&[Append(b"z", true)]))),
-        (OTHER, Act::Visit(Way::Open, Ok(&[Read(0, 1, Some(b"z"))]))),
+        (OTHER, Act::Visit(Way::Create, Err(OpenFault::Failed))),
+        (OTHER, Act::Holds(b"abc")),
         (OPEN, Act::Remove),
         (OTHER, Act::Remove),
     ],
@@ -229,6 +234,89 @@ static LINKED: Held = Held {
 #[test]
 fn an_open_file_is_not_made_anew_under_another_name(rt: HostRuntime) {
     assert!(rt; are_taken_while(&rt, &LINKED));
+}
+
+/// A file that was made, another name of it, and a link that leads to it.
+const FIRST: Place = Place::Own("first");
+
+const FIRST_LINK: Place = Place::Own("first-link");
+
+const FIRST_POINTER: Place = Place::Own("first-pointer");
+
+/// A file that was made, under its own name or by a link to it, and closed, is not made anew under
+/// any name.
+static MADE_STEPS: [Step; 13] = [
+    (FIRST, Act::Symlink("first-pointer")),
+    (
+        FIRST_POINTER,
+        Act::Visit(Way::Create, Ok(&[Append(b"abc", true)])),
+    ),
+    (FIRST, Act::Holds(b"abc")),
+    (FIRST, Act::Visit(Way::Create, Err(OpenFault::Failed))),
+    (FIRST, Act::Said(Attempt::Create, ErrorKind::InvalidInput)),
+    (FIRST, Act::Link("first-link")),
+    (FIRST_LINK, Act::Visit(Way::Create, Err(OpenFault::Failed))),
+    (
+        FIRST_POINTER,
+        Act::Visit(Way::Create, Err(OpenFault::Failed)),
+    ),
+    (FIRST_POINTER, Act::Holds(b"abc")),
+    (FIRST_LINK, Act::Holds(b"abc")),
+    (FIRST_POINTER, Act::Remove),
+    (FIRST_LINK, Act::Remove),
+    (FIRST, Act::Remove),
+];
+
+/// A file that is read, another name of it, and a link that leads to it.
+const READ: Place = Place::Own("read");
+
+const READ_LINK: Place = Place::Own("read-link");
+
+const READ_POINTER: Place = Place::Own("read-pointer");
+
+/// A file that was read and closed is not made anew under any name, and can be changed under each.
+static READ_STEPS: [Step; 13] = [
+    (READ, Act::Stream(&[(b"abc", true)])),
+    (READ, Act::Link("read-link")),
+    (READ, Act::Symlink("read-pointer")),
+    (READ, Act::Visit(Way::Open, Ok(&[Read(0, 3, Some(b"abc"))]))),
+    (READ, Act::Visit(Way::Create, Err(OpenFault::Failed))),
+    (READ_LINK, Act::Visit(Way::Create, Err(OpenFault::Failed))),
+    (
+        READ_POINTER,
+        Act::Visit(Way::Create, Err(OpenFault::Failed)),
+    ),
+    (READ, Act::Holds(b"abc")),
+    (
+        READ_POINTER,
+        Act::Visit(Way::Edit, Ok(&[Append(b"d", true)])),
+    ),
+    (READ_LINK, Act::Holds(b"abcd")),
+    (READ_POINTER, Act::Remove),
+    (READ_LINK, Act::Remove),
+    (READ, Act::Remove),
+];
+
+#[test]
+fn a_file_that_was_made_or_read_is_not_made_anew_under_another_name(rt: HostRuntime) {
+    assert!(rt; are_taken(&rt, &MADE_STEPS));
+    assert!(rt; are_taken(&rt, &READ_STEPS));
+}
+
+/// A file that is made after the streams were taken.
+const LATER: Place = Place::Own("later");
+
+/// It is made and read back.
+static LATER_STEPS: [Step; 3] = [
+    (LATER, Act::Visit(Way::Create, Ok(&[Append(b"abc", true)]))),
+    (LATER, Act::Holds(b"abc")),
+    (LATER, Act::Remove),
+];
+
+#[test]
+fn files_are_handed_out_once_the_streams_are_taken(rt: HostRuntime) {
+    assert!(rt; take_streams(&rt).is_ok());
+    assert!(rt; are_taken(&rt, &LATER_STEPS));
 }
 
 /// A program, and a file that is made while it is open.

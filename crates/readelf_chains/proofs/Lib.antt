@@ -1,3 +1,4 @@
 mod ChainLemmas
 mod NoteLemmas
 mod EntryLemmas
+mod HexLemmas

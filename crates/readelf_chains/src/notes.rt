@@ -1,6 +1,6 @@
 //! The lines of the notes.
 
-ghost use Rattle.std.specs.Prelude.{◌≡◌, ◌++◌, ◌+◌, ◌<◌, ◌≤◌, length, None, flat_map, OnOk, IfErr};
+ghost use Rattle.std.specs.Prelude.{◌≡◌, ◌++◌, ◌+◌, ◌≤◌, length, None, flat_map, OnOk, IfErr};
 ghost use Rattle.elf_types.specs.Writers.{WantsMemory};
 ghost use Rattle.elf_types.specs.declared.records.Kind.TheVariants as kinds;
 ghost use Rattle.elf_object.specs.Answers.{lend_refusal, count_at};
@@ -14,34 +14,19 @@ use crate::chains::{Records, refuse_records, show_records};
 use elf_descriptor::Elf;
 use elf_outside::{Sink, Source};
 use elf_types::constants::SHT_NOTE;
-use elf_types::{DataId, ElfError, Octets, ScnId, put_bytes, put_hex, put_text};
+use elf_types::{DataId, ElfError, Octets, ScnId, put_bytes, put_text};
 use gelf_view::{NoteAt, bytes, note, string_in};
+use number_columns::put_hex_pairs;
 use object_output::stop_for;
 use readelf_rows::{SectionPart, each_plain, put_decimal_column};
 use tool_output::{FileName, Line, Outputs, Stop};
 
-/// Appends a byte as two hexadecimal digits.
-#[tactic(auto, using(elf_types::proofs::Writers::kept), unfolding(crate::specs::Notes::hex_byte))]
-fn put_hex_byte(page: &mut Octets, b: u8) -> Result<(), ElfError>
-    ensures ok { OnOk result (page.new ≡ page.old ++ hex_byte b) }
-    ensures err { IfErr result (WantsMemory page.old page.new) }
-{
-    if b < 16 {
-        put_text(page, "0")?;
-    }
-    put_hex(page, u64::from(b))
-}
-
 /// Appends bytes in hexadecimal digits.
-#[tactic(auto, using(elf_types::proofs::Writers::kept))]
 fn put_hex_bytes(page: &mut Octets, bytes: &[u8]) -> Result<(), ElfError>
     ensures ok { OnOk result (page.new ≡ page.old ++ flat_map hex_byte bytes.now) }
     ensures err { IfErr result (WantsMemory page.old page.new) }
 {
-    for b in bytes {
-        put_hex_byte(page, *b)?;
-    }
-    Ok(())
+    put_hex_pairs(page, bytes)
 }
 
 /// Appends ` desc HEX`, where there are bytes.

@@ -21,10 +21,10 @@ use Rattle.elf_descriptor.specs.State.{State}
 use Rattle.elf_descriptor.specs.Edits.{stepped}
 use Rattle.elf_descriptor.specs.Reads.{Looks}
 use Rattle.elf_descriptor.specs.Rests.{GivesItems}
-use Rattle.command_objects.specs.Words.{edited}
-use Rattle.command_objects.specs.BuiltHashes.{hash_refusal, gnu_order_answer}
-use Rattle.command_objects.specs.Listed.{listed_names}
-use Rattle.command_objects.specs.Reordered.{reordered, reorder_refusal}
+use Rattle.elf_object.specs.Sections.{edited}
+use Rattle.hash_model.specs.BuiltHashes.{hash_refusal, gnu_order_answer}
+use Rattle.hash_model.specs.Listed.{listed_names}
+use Rattle.hash_model.specs.Reordered.{reordered, reorder_refusal}
 use Rattle.command_objects.specs.Rehashed.{shape_of, nbucket_of, with_gnu, with_sysv}
 use Rattle.hash_build.specs.Rows.{IsOrder}
 use Rattle.hash_build.proofs.CallLaws.{lend_of, counted}

@@ -1,5 +1,5 @@
 -- Both hash sections, built anew.
-use Rattle.std.proofs.Common.{◌≡◌, ℕ, true, false, Option, Some, None, Result, Ok, Err, refl, sym, ap, ◌∙◌}
+use Rattle.std.proofs.Common.{◌≡◌, ℕ, Bool, true, false, Option, Some, None, Result, Ok, Err, refl, sym, ap, ◌∙◌}
 use Rattle.std.specs.Prelude.{IfSome, is_none, ◌&&◌}
 use Rattle.elf_types.specs.declared.errors.ElfError.{ElfError}
 use Rattle.elf_types.specs.Answers.{◌>>=◌}
@@ -83,6 +83,13 @@ module _ (o : Object) (s : ℕ) (gnu words : Option ℕ)
   both_refused None is = tt
   both_refused (Some d) is =
       either o s gnu words there ∙ ap (λ (r : Result Object ElfError). or_fault r) is
+
+-- an answer that sections were built anew, and a refusal, do not say that none is there
+pub never_done : ◌≡◌ {A = Result Bool ElfError} (Ok true) (Ok false) → ⊥
+never_done is = cc
+
+pub never_refused : (e : ElfError) → ◌≡◌ {A = Result Bool ElfError} (Err e) (Ok false) → ⊥
+never_refused e is = cc
 
 -- ---- The whole
 

@@ -3,7 +3,7 @@ use Rattle.std.specs.Prelude.{◌<◌, Bool, ◌==◌, ◌&&◌}
 use Rattle.elf_types.specs.declared.constants.TheConstants.{SHT_DYNSYM, SHT_HASH, SHT_GNU_HASH}
 use Rattle.elf_types.specs.declared.records.Kind.TheVariants as kinds
 use Rattle.elf_types.specs.declared.records.Shdr.{Shdr}
-use Rattle.command_objects.specs.Words.{is_of}
+use Rattle.elf_object.specs.Sections.{is_of}
 use Rattle.hash_build.specs.declared.shape.GnuShape.{GnuShape}
 use Rattle.rehash_tool.specs.declared.sections.Sought.{Sought}
 use Rattle.rehash_tool.specs.declared.sections.Sought.TheVariants as sought

@@ -9,9 +9,9 @@ use Rattle.elf_object.specs.Object.{Object}
 use Rattle.elf_object.specs.Answers.{bytes_of, words_of}
 use Rattle.elf_object.specs.Calls.{data_answer, replace}
 use Rattle.elf_descriptor.specs.State.{State}
-use Rattle.command_objects.specs.Words.{edited}
-use Rattle.command_objects.specs.BuiltHashes.{GnuShape, gnu_order_answer, build_gnu_answer, build_sysv_answer}
-use Rattle.command_objects.specs.Reordered.{reordered, reorder_refusal}
+use Rattle.elf_object.specs.Sections.{edited}
+use Rattle.hash_model.specs.BuiltHashes.{GnuShape, gnu_order_answer, build_gnu_answer, build_sysv_answer}
+use Rattle.hash_model.specs.Reordered.{reordered, reorder_refusal}
 use Rattle.command_objects.specs.Rehashed.{shape_of, nbucket_of, with_gnu, with_sysv, where_there, laid_out, RehashFault, rehashed}
 use Rattle.command_objects.specs.Rehashed.RehashFault.{NoDynamicHash, Refused}
 
@@ -88,7 +88,9 @@ IsRehashed (Ok true) stated o = stated ≡ Ok o
 IsRehashed (Ok false) stated o = stated ≡ Err NoDynamicHash
 IsRehashed (Err e) stated o = IfSome (stated_refusal e) (λ d. stated ≡ Err (Refused d))
 
+-- where none is there nothing is done
 pub record Rehashes {S : Type 0} (g : Ghosts S) (result : Result Bool ElfError)
     (old new : State S) : Type 0 where
   pub keeps : Keeps g result old new
   pub rehashed : IsTrue old.told → IsRehashed result (rehashed old.o) new.o
+  pub none : result ≡ Ok false → new ≡ old

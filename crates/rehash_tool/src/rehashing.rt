@@ -1,6 +1,6 @@
 //! The hash sections of the dynamic symbols, built anew.
 
-ghost use Rattle.std.specs.Prelude.{◌≡◌, ◌&&◌, is_none, IsTrue};
+ghost use Rattle.std.specs.Prelude.{◌≡◌, ◌&&◌, false, is_none, IsTrue, Ok};
 ghost use Rattle.command_objects.specs.Rehashed.{rehashed_at};
 ghost use Rattle.rehash_tool.specs.Steps.{both_hashes, words_laid_out, IsRehashed, Keeps, Turns, Rehashes};
 
@@ -62,6 +62,7 @@ fn rehash_at<S: Source>(
     ensures keeps { Keeps S.Source result elf.old elf.new }
     ensures rehashed { IsTrue elf.old.told
         → IsRehashed result (rehashed_at elf.old.o s.0 gnu words) elf.new.o }
+    ensures none { result ≡ Ok false → elf.new ≡ elf.old }
 {
     if are_absent(gnu, words) {
         return Ok(false);

@@ -4,7 +4,7 @@ ghost use Rattle.std.specs.Prelude.{◌≡◌, ◌<◌, ◌==◌, ◌&&◌, leng
 ghost use Rattle.elf_types.specs.declared.constants.TheConstants.{SHT_HASH};
 ghost use Rattle.elf_types.specs.declared.records.Kind.TheVariants as kinds;
 ghost use Rattle.elf_object.specs.Answers.{same_kind};
-ghost use Rattle.command_objects.specs.Words.{is_of};
+ghost use Rattle.elf_object.specs.Sections.{is_of};
 ghost use Rattle.command_objects.specs.Rehashed.{dynamic_symbols, gnu_section, sysv_section};
 ghost use Rattle.rehash_tool.specs.Sections.{is_sought};
 
@@ -33,7 +33,7 @@ fn are_words(kind: Kind) -> bool
 }
 
 /// Whether a section is a hash section of words.
-#[tactic(auto, unfolding(command_objects::specs::Words::is_of))]
+#[tactic(auto, unfolding(elf_object::specs::Sections::is_of))]
 fn is_word_hash(h: &Shdr) -> bool
     ensures { result ≡ is_of SHT_HASH kinds.Word h.now }
 {

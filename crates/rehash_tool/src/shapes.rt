@@ -2,7 +2,7 @@
 
 ghost use Rattle.std.specs.Prelude.{◌≡◌, ◌<◌, ◌≤◌, ◌+◌, ◌*◌, true, length, if◌then◌else◌};
 ghost use Rattle.elf_object.specs.Answers.{bytes_of, words_of};
-ghost use Rattle.command_objects.specs.HashSections.{gnu_head};
+ghost use Rattle.hash_model.specs.HashSections.{gnu_head};
 ghost use Rattle.command_objects.specs.Rehashed.{is_moderate, is_usable, nbucket_of, shape_at, shape_of, smallest_shape};
 ghost use Rattle.hash_build.specs.Calls.{stated};
 ghost use Rattle.rehash_tool.specs.Sections.{IsUsable};
@@ -16,7 +16,7 @@ use symbol_hashes::word_in;
 const MOST: u32 = 0x10_0000;
 
 /// Number `i` of the four with which GNU's hash section begins.
-#[tactic(auto, unfolding(command_objects::specs::HashSections::gnu_head))]
+#[tactic(auto, unfolding(hash_model::specs::HashSections::gnu_head))]
 fn head_at(bytes: &[u8], i: u64, order: Order) -> u32
     requires { 4 * i + 4 ≤ length bytes.now }
     ensures { result ≡ gnu_head order bytes.now i }

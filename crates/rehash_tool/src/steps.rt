@@ -3,7 +3,7 @@
 ghost use Rattle.std.specs.Prelude.{◌≡◌, ◌<◌, IfOk};
 ghost use Rattle.elf_object.specs.Answers.{count_at};
 ghost use Rattle.elf_object.specs.Calls as calls;
-ghost use Rattle.command_objects.specs.Words.{edited};
+ghost use Rattle.elf_object.specs.Sections.{edited};
 ghost use Rattle.command_objects.specs.Rehashed.{with_gnu, with_sysv, where_there};
 ghost use Rattle.hash_build.specs.Calls.{stated};
 ghost use Rattle.hash_build.specs.Rows.{IsOrder};

@@ -16,7 +16,7 @@ use Rattle.elf_descriptor.specs.State.{State}
 use Rattle.elf_descriptor.specs.Reads.{Looks, wanted}
 use Rattle.symbol_lookup.specs.Lookups as calls
 use Rattle.symbol_lookup.specs.Lookups.{linear_needs, linear_refusal, link_of, table_homes}
-use Rattle.command_objects.specs.Listed.{find_linear_answer}
+use Rattle.hash_model.specs.Listed.{find_linear_answer}
 use Rattle.command_objects.specs.Generated.{numbered_name, symbols_in, five_lines, told_lines}
 use Rattle.tool_output.specs.declared.stops.Stop.{Stop}
 use Rattle.tool_output.specs.Names.{Name}

@@ -8,7 +8,7 @@ use Rattle.elf_types.specs.Text.{error_text}
 use Rattle.elf_object.specs.Object.{Object}
 use Rattle.elf_object.specs.Answers.{items_at, syms_of}
 use Rattle.elf_object.specs.Strings.{is_name}
-use Rattle.command_objects.specs.Listed.{listed_names}
+use Rattle.hash_model.specs.Listed.{listed_names}
 use Rattle.command_objects.specs.Generated.{line_of, found_text, told_lines}
 use Rattle.tool_output.specs.Names.{Name, file_name}
 use Rattle.tool_output.specs.Reports.{Report, shown, refusal_report}

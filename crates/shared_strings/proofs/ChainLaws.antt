@@ -1,6 +1,7 @@
 -- How the chains grow with the names, and what a walk along one finds.
-use Rattle.std.proofs.Common.{◌≡◌, ◌+◌, ◌<◌, ◌≤◌, ℕ, Bool, true, false, cond, eqb, Option, Some, None, refl, sym, ap, ◌∙◌, subst, arith, ⊎_elim}
-use Rattle.std.proofs.lemmas.Bool.{cases_lt, eqb-true, eqb-false}
+use Rattle.std.proofs.Common.{◌≡◌, ◌+◌, ◌<◌, ◌≤◌, ℕ, Bool, true, false, cond, eqb, Option, Some, None, refl, sym, ap, ◌∙◌, subst, arith, inl, inr, ⊎_elim}
+use Rattle.std.specs.Prelude.{◌⊎◌}
+use Rattle.std.proofs.lemmas.Bool.{cases_lt, eq-eqb, eqb-true, eqb-false}
 use Rattle.shared_strings.specs.Chains.{past, IsLast, Follows, FollowsWith, IsIndexed}
 
 none_some : {A : Type 0} (x : A) → ◌≡◌ {A = Option A} None (Some x) → ⊥
@@ -45,16 +46,91 @@ module _ (count count' : ℕ) (hash hash' digest digest' : ℕ → ℕ)
   split i C lt before at =
       ⊎_elim before (λ ge. at (omega (arith, more, lt, ge))) (cases_lt i count)
 
+  -- the chain of a digest after it: the name is its last one, or the chain is as it was
+  abbrev Heads : (ℕ → Option ℕ) → (ℕ → Option ℕ) → ℕ → Type 0
+  Heads first' newest' d =
+      (FollowsWith first' hash' digest' d count × (newest' d ≡ Some count))
+      ⊎ ((FollowsWith first' hash' digest' d count → ⊥) × (newest' d ≡ newest d))
+
+  -- whether its hash is a new one or not
+  module _ (first' newest' : ℕ → Option ℕ)
+      (same_first : (i : ℕ) → i < count → first' (hash' i) ≡ first (hash i))
+      (noted : first' (hash' count) ≡ None → ⊥)
+      (below' : (h i : ℕ) → first' h ≡ Some i → i < count')
+      (head : (d : ℕ) → Heads first' newest' d)
+      (linked : Follows first' hash' count → older' count ≡ newest (digest' count)) where
+    to : (d i : ℕ) → i < count → FollowsWith first hash digest d i
+        → FollowsWith first' hash' digest' d i
+    to d i lt f = (λ is. f.0 (sym (same_first i lt) ∙ is), same_digest i lt ∙ f.1)
+
+    from : (d i : ℕ) → i < count → FollowsWith first' hash' digest' d i
+        → FollowsWith first hash digest d i
+    from d i lt f = (λ is. f.0 (same_first i lt ∙ is), sym (same_digest i lt) ∙ f.1)
+
+    -- the last one of those before, among these
+    before : (d bound : ℕ) → bound ≤ count → (o o' : Option ℕ) → o' ≡ o
+        → IsLast (FollowsWith first hash digest d) bound o
+        → IsLast (FollowsWith first' hash' digest' d) bound o'
+    before d bound le o o' is last =
+        subst (IsLast (FollowsWith first' hash' digest' d) bound) (sym is)
+        (last_as (FollowsWith first hash digest d) (FollowsWith first' hash' digest' d) bound o
+        (λ i lt. to d i (omega (arith, lt, le))) (λ i lt. from d i (omega (arith, lt, le)))
+        last)
+
+    known' : (i : ℕ) → i < count' → first' (hash' i) ≡ None → ⊥
+    known' i lt none =
+        split i ⊥ lt (λ l. old.known i l (sym (same_first i l) ∙ none))
+        (λ at. noted (ap (λ (j : ℕ). first' (hash' j)) (sym at) ∙ none))
+
+    heads' : (d : ℕ) → IsLast (FollowsWith first' hash' digest' d) count' (newest' d)
+    heads' d = ⊎_elim here other (head d)
+      where
+        here : FollowsWith first' hash' digest' d count × (newest' d ≡ Some count)
+            → IsLast (FollowsWith first' hash' digest' d) count' (newest' d)
+        here h = record {
+          one = λ i found. let same : count ≡ i = some_same count i (sym h.1 ∙ found) in (
+            omega (arith, more, same),
+            subst (FollowsWith first' hash' digest' d) same h.0,
+          );
+          others = λ i lt f. let past_is = ap past h.1 in omega (arith, more, lt, past_is);
+        }
+
+        other : (FollowsWith first' hash' digest' d count → ⊥) × (newest' d ≡ newest d)
+            → IsLast (FollowsWith first' hash' digest' d) count' (newest' d)
+        other h =
+            let last = before d count (omega arith) (newest d) (newest' d) h.1 (old.heads d) in
+            record {
+              one = λ i found. let one = last.one i found in (
+                omega (arith, more, one.0),
+                one.1,
+              );
+              others = λ i lt f. split i (i < past (newest' d)) lt (λ l. last.others i l f)
+                  (λ at. absurd (h.0 (subst (FollowsWith first' hash' digest' d) at f)));
+            }
+
+    links' : (i : ℕ) → i < count' → Follows first' hash' i
+        → IsLast (FollowsWith first' hash' digest' (digest' i)) i (older' i)
+    links' i lt f =
+        split i (IsLast (FollowsWith first' hash' digest' (digest' i)) i (older' i)) lt
+        (λ l. subst (λ (d : ℕ). IsLast (FollowsWith first' hash' digest' d) i (older' i))
+        (sym (same_digest i l)) (before (digest i) i (omega (arith, l)) (older i) (older' i)
+        (same_older i l) (old.links i l (λ is. f (same_first i l ∙ is)))))
+        (λ at. subst (λ (j : ℕ). IsLast (FollowsWith first' hash' digest' (digest' j)) j
+        (older' j)) (sym at) (before (digest' count) count (omega arith)
+        (newest (digest' count)) (older' count) (linked (subst (Follows first' hash') at f))
+        (old.heads (digest' count))))
+
+    indexed_more : IsIndexed count' hash' digest' older' first' newest'
+    indexed_more = record { known = known'; below = below'; heads = heads'; links = links' }
+
   -- its hash is a new one
   module _ (first' : ℕ → Option ℕ) (free : first (hash' count) ≡ None)
       (noted : (q : ℕ) → first' q ≡ cond (eqb (hash' count) q) (Some count) (first q)) where
     first_there : first' (hash' count) ≡ Some count
-    first_there = noted (hash' count) ∙ at (eqb (hash' count) (hash' count)) refl
-      where
-        at : (b : Bool) → eqb (hash' count) (hash' count) ≡ b
-            → cond b (Some count) (first (hash' count)) ≡ Some count
-        at true is = refl
-        at false is = absurd (eqb-false (hash' count) (hash' count) is refl)
+    first_there =
+        noted (hash' count)
+        ∙ ap (λ b. cond b (Some count) (first (hash' count)))
+        (eq-eqb (hash' count) (hash' count) refl)
 
     first_same : (i : ℕ) → i < count → first' (hash' i) ≡ first (hash i)
     first_same i lt =
@@ -67,151 +143,37 @@ module _ (count count' : ℕ) (hash hash' digest digest' : ℕ → ℕ)
             ∙ sym (eqb-true (hash' count) (hash' i) is)) ∙ free))
         at false is = refl
 
-    to : (d i : ℕ) → i < count → FollowsWith first hash digest d i
-        → FollowsWith first' hash' digest' d i
-    to d i lt f = (
-      λ is. f.0 (sym (first_same i lt) ∙ is),
-      same_digest i lt ∙ f.1,
-    )
-
-    from : (d i : ℕ) → i < count → FollowsWith first' hash' digest' d i
-        → FollowsWith first hash digest d i
-    from d i lt f = (
-      λ is. f.0 (first_same i lt ∙ is),
-      sym (same_digest i lt) ∙ f.1,
-    )
-
-    below' : (h i : ℕ) → first' h ≡ Some i → i < count'
-    below' h i is = at (eqb (hash' count) h) (sym (noted h) ∙ is)
+    first_below : (h i : ℕ) → first' h ≡ Some i → i < count'
+    first_below h i is = at (eqb (hash' count) h) (sym (noted h) ∙ is)
       where
         at : (b : Bool) → cond b (Some count) (first h) ≡ Some i → i < count'
         at true is = let same : count ≡ i = cc in omega (arith, more, same)
         at false is = let lt = old.below h i is in omega (arith, more, lt)
 
-    known' : (i : ℕ) → i < count' → first' (hash' i) ≡ None → ⊥
-    known' i lt none =
-        split i ⊥ lt (λ l. old.known i l (sym (first_same i l) ∙ none))
-        (λ at. none_some count (sym none ∙ ap (λ (j : ℕ). first' (hash' j)) at ∙ first_there))
-
-    heads' : (d : ℕ) → IsLast (FollowsWith first' hash' digest' d) count' (newest d)
-    heads' d = record {
-      one = λ i is. let found = (old.heads d).one i is in (
-        omega (arith, more, found.0),
-        to d i found.0 found.1,
-      );
-      others = λ i lt f. split i (i < past (newest d)) lt
-          (λ l. (old.heads d).others i l (from d i l f))
-          (λ at. absurd (f.0 (ap (λ (j : ℕ). first' (hash' j)) at ∙ first_there
-          ∙ ap (λ (j : ℕ). Some j) (sym at))));
-    }
-
-    links' : (i : ℕ) → i < count' → Follows first' hash' i
-        → IsLast (FollowsWith first' hash' digest' (digest' i)) i (older' i)
-    links' i lt f =
-        split i (IsLast (FollowsWith first' hash' digest' (digest' i)) i (older' i)) lt
-        (λ l. link_as i l (older' i) (same_older i l) (old.links i l
-        (λ is. f (first_same i l ∙ is))))
-        (λ at. absurd (f (ap (λ (j : ℕ). first' (hash' j)) at ∙ first_there
-        ∙ ap (λ (j : ℕ). Some j) (sym at))))
-      where
-        link_as : (i : ℕ) → i < count → (o : Option ℕ) → o ≡ older i
-            → IsLast (FollowsWith first hash digest (digest i)) i (older i)
-            → IsLast (FollowsWith first' hash' digest' (digest' i)) i o
-        link_as i l o is link =
-            subst (λ (d : ℕ). IsLast (FollowsWith first' hash' digest' d) i o)
-            (sym (same_digest i l))
-            (subst (IsLast (FollowsWith first' hash' digest' (digest i)) i) (sym is)
-            (last_as (FollowsWith first hash digest (digest i))
-            (FollowsWith first' hash' digest' (digest i)) i (older i)
-            (λ k lt. to (digest i) k (omega (arith, lt, l)))
-            (λ k lt. from (digest i) k (omega (arith, lt, l))) link))
-
     pub indexed_first : IsIndexed count' hash' digest' older' first' newest
-    indexed_first = record { known = known'; below = below'; heads = heads'; links = links' }
+    indexed_first =
+        indexed_more first' newest first_same (λ none. none_some count (sym none ∙ first_there))
+        first_below (λ d. inr (λ f. f.0 first_there, refl)) (λ f. absurd (f first_there))
 
   -- its hash is noted for another one
   module _ (newest' : ℕ → Option ℕ) (taken : first (hash' count) ≡ None → ⊥)
       (linked : older' count ≡ newest (digest' count))
       (noted : (q : ℕ) → newest' q ≡ cond (eqb (digest' count) q) (Some count) (newest q)) where
-    first_same-2 : (i : ℕ) → i < count → first (hash' i) ≡ first (hash i)
-    first_same-2 i lt = ap first (same_hash i lt)
-
     follows : Follows first hash' count
     follows is = let lt = old.below (hash' count) count is in omega (arith, lt)
 
-    to-2 : (d i : ℕ) → i < count → FollowsWith first hash digest d i
-        → FollowsWith first hash' digest' d i
-    to-2 d i lt f = (
-      λ is. f.0 (sym (first_same-2 i lt) ∙ is),
-      same_digest i lt ∙ f.1,
-    )
-
-    from-2 : (d i : ℕ) → i < count → FollowsWith first hash' digest' d i
-        → FollowsWith first hash digest d i
-    from-2 d i lt f = (
-      λ is. f.0 (first_same-2 i lt ∙ is),
-      sym (same_digest i lt) ∙ f.1,
-    )
-
-    -- the last one of those before, among these
-    before : (d bound : ℕ) → bound ≤ count → (o o' : Option ℕ) → o' ≡ o
-        → IsLast (FollowsWith first hash digest d) bound o
-        → IsLast (FollowsWith first hash' digest' d) bound o'
-    before d bound le o o' is last =
-        subst (IsLast (FollowsWith first hash' digest' d) bound) (sym is)
-        (last_as (FollowsWith first hash digest d) (FollowsWith first hash' digest' d) bound o
-        (λ i lt. to-2 d i (omega (arith, lt, le))) (λ i lt. from-2 d i (omega (arith, lt, le)))
-        last)
-
-    heads-2 : (d : ℕ) → IsLast (FollowsWith first hash' digest' d) count' (newest' d)
-    heads-2 d = at (eqb (digest' count) d) refl (noted d)
+    followed : (d : ℕ) → Heads first newest' d
+    followed d = at (eqb (digest' count) d) refl (noted d)
       where
         at : (b : Bool) → eqb (digest' count) d ≡ b
-            → newest' d ≡ cond b (Some count) (newest d)
-            → IsLast (FollowsWith first hash' digest' d) count' (newest' d)
-        at true is new = record {
-          one = λ i found. let same : count ≡ i = some_same count i (sym new ∙ found) in (
-            omega (arith, more, same),
-            subst (FollowsWith first hash' digest' d) same (
-              follows,
-              eqb-true (digest' count) d is,
-            ),
-          );
-          others = λ i lt f. let past_is = ap past new in
-              omega (arith, more, lt, past_is);
-        }
-        at false is new =
-            let last = before d count (omega arith) (newest d) (newest' d) new (old.heads d) in
-            record {
-              one = λ i found. let one = last.one i found in (
-                omega (arith, more, one.0),
-                one.1,
-              );
-              others = λ i lt f. split i (i < past (newest' d)) lt (λ l. last.others i l f)
-                  (λ here. absurd (eqb-false (digest' count) d is
-                  (ap digest' (sym here) ∙ f.1)));
-            }
-
-    links-2 : (i : ℕ) → i < count' → Follows first hash' i
-        → IsLast (FollowsWith first hash' digest' (digest' i)) i (older' i)
-    links-2 i lt f =
-        split i (IsLast (FollowsWith first hash' digest' (digest' i)) i (older' i)) lt
-        (λ l. subst (λ (d : ℕ). IsLast (FollowsWith first hash' digest' d) i (older' i))
-        (sym (same_digest i l)) (before (digest i) i (omega (arith, l)) (older i) (older' i)
-        (same_older i l) (old.links i l (λ is. f (first_same-2 i l ∙ is)))))
-        (λ here. subst (λ (j : ℕ). IsLast (FollowsWith first hash' digest' (digest' j)) j (older' j))
-        (sym here) (before (digest' count) count (omega arith) (newest (digest' count))
-        (older' count) linked (old.heads (digest' count))))
+            → newest' d ≡ cond b (Some count) (newest d) → Heads first newest' d
+        at true is new = inl ((follows, eqb-true (digest' count) d is), new)
+        at false is new = inr (λ f. eqb-false (digest' count) d is f.1, new)
 
     pub indexed_follower : IsIndexed count' hash' digest' older' first newest'
-    indexed_follower = record {
-      known = λ i lt none. split i ⊥ lt
-          (λ l. old.known i l (sym (first_same-2 i l) ∙ none))
-          (λ here. taken (ap (λ (j : ℕ). first (hash' j)) (sym here) ∙ none));
-      below = λ h i is. let lt = old.below h i is in omega (arith, more, lt);
-      heads = heads-2;
-      links = links-2;
-    }
+    indexed_follower =
+        indexed_more first newest' (λ i lt. ap first (same_hash i lt)) taken
+        (λ h i is. let lt = old.below h i is in omega (arith, more, lt)) followed (λ f. linked)
 
 -- ---- A walk along a chain
 

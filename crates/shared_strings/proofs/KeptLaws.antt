@@ -4,15 +4,14 @@ use Rattle.std.specs.List.{list_any}
 use Rattle.std.specs.Ordering.{nat_cmp}
 use Rattle.std.specs.BTreeMap.{get}
 use Rattle.std.specs.Str.{bytes_eq}
-use Rattle.std.specs.Prelude.{MatchOption}
 use Rattle.std.proofs.lemmas.Bool.{false_from_ne_true, or_from}
 use Rattle.std.proofs.lemmas.List.{get_or-map, length-map}
 use Rattle.std.proofs.lemmas.Simd.{map-map}
-use Rattle.strtab_build.specs.Names.{unclosed, entry_after, entries_after, names_in as stated_names, IsHeld, IsNew}
+use Rattle.strtab_build.specs.Names.{unclosed, entries_after, names_in as stated_names, IsNew}
 use Rattle.strtab_build.specs.Table.{place_of}
 use Rattle.strtab_build.proofs.DistinctLemmas.{same_refl, same_true}
 use Rattle.strtab_build.proofs.KeptLemmas.{IsTable-nil}
-use Rattle.strtab_build.proofs.NamesLemmas.{get_or-entries_after, length-entries_after, names_in_is}
+use Rattle.strtab_build.proofs.NamesLemmas.{keyed_after, get_or-entries_after, length-entries_after, names_in_is}
 use Rattle.strtab_build.proofs.TableLemmas.{unclosed-through}
 use Rattle.shared_strings.specs.declared.entries.Entry.{Entry}
 use Rattle.shared_strings.specs.declared.parts.Parts.{Parts}
@@ -92,7 +91,7 @@ unfolding names_in
 entry_at bytes entries first newest names i e k lt read =
     let count = count_is bytes entries first newest names k in
     let whole = length-entries_after [] names in
-    let stated = entry_after (take i names) (get_or names i []) in
+    let stated = keyed_after (take i names) (get_or names i []) in
     let spans : span e ≡ stated_span stated =
     ap span read ∙ sym (get_or-map span entries i e (span e) (omega (arith, count, lt)))
     ∙ ap (λ l. get_or l i (span e)) k.spans_are
@@ -200,7 +199,8 @@ walking_ends p name walk i lt follows is =
 -- ---- A name that is new
 
 unused : (n : List ℕ) (names : List (List ℕ))
-    → ((i : ℕ) → i < length names → name_at names i ≡ n → ⊥) → list_any (bytes_eq n) names ≡ false
+    → ((i : ℕ) → i < length names → name_at names i ≡ n → ⊥)
+    → list_any (bytes_eq n) names ≡ false
 unused n [] none = refl
 unused n (m ∷ names) none =
     or_from (bytes_eq n m) (list_any (bytes_eq n) names)
@@ -218,12 +218,10 @@ new_hash p n k not_empty none = record {
 }
 
 -- the first name with a hash is another, and no other one is this
-pub no_other : (p : Parts) (n : List ℕ) (j : ℕ) (r : Option ℕ) → (length n == 0) ≡ false
+pub no_other : (p : Parts) (n : List ℕ) (j : ℕ) → (length n == 0) ≡ false
     → get nat_cmp p.first (hash_of n) ≡ Some j → bytes_eq n (name_at (names_of p) j) ≡ false
-    → MatchOption r (IsNoFollower n p) (IsHeld n (names_of p))
-    → MatchOption r (IsNew n (names_of p)) (IsHeld n (names_of p))
-no_other p n j (Some o) not_empty first differ found = found
-no_other p n j None not_empty first differ found = record {
+    → IsNoFollower n p → IsNew n (names_of p)
+no_other p n j not_empty first differ found = record {
   not_empty = not_empty;
   unused = unused n (names_of p) (λ i lt is. found i lt
       (λ (here : get nat_cmp p.first (hash_at (names_of p) i) ≡ Some i).

@@ -1,7 +1,7 @@
 -- A name that is put last, and what is kept then.
 use Rattle.std.proofs.Common.{◌≡◌, ◌+◌, ◌<◌, ◌≤◌, ◌^◌, ◌==◌, ℕ, Bool, true, false, cond, eqb, List, [], ◌∷◌, ◌++◌, length, map, Option, Some, None, Result, Ok, Err, refl, sym, ap, ◌∙◌, subst, arith, inl, inr, ⊎_elim}
 use Rattle.std.specs.Prelude.{◌≢◌, ◌-◌, ◌↔◌, All, MatchOption, IfOk, IfErr, IsErrOf, OnOk, OnErr}
-use Rattle.std.specs.Option.{is_some, ok_or}
+use Rattle.std.specs.Option.{ok_or}
 use Rattle.std.specs.Result.{IsErr}
 use Rattle.std.specs.Ordering.{nat_cmp}
 use Rattle.std.specs.BTreeMap.{BTreeMap, Updates, get}
@@ -12,11 +12,11 @@ use Rattle.std.proofs.lemmas.Bool.{cases_lt, eqb-true, false_from_ne_true}
 use Rattle.std.proofs.lemmas.List.{get_or_append_left, get_or_push, length_push, map-append}
 use Rattle.elf_types.specs.declared.errors.ElfError.{ElfError}
 use Rattle.elf_types.specs.declared.errors.ElfError.TheVariants.{Memory, TooLarge}
-use Rattle.strtab_build.specs.Names.{unclosed, entry_after, entries_after, IsHeld, IsNew, IsTable}
+use Rattle.strtab_build.specs.Names.{unclosed, entries_after, IsHeld, IsNew, IsTable}
 use Rattle.strtab_build.specs.Table.{distinct, table, place_of, string_at}
 use Rattle.strtab_build.proofs.DistinctLemmas.{distinct-push, with_name}
 use Rattle.strtab_build.proofs.KeptLemmas.{IsHeld-empty, IsTable-push, distinct-new, place_of-new}
-use Rattle.strtab_build.proofs.NamesLemmas.{entries_after-push}
+use Rattle.strtab_build.proofs.NamesLemmas.{keyed_after, entries_after-push}
 use Rattle.strtab_build.proofs.TableLemmas.{length-table, length-unclosed-push, string_at-added, table_same, unclosed-push}
 use Rattle.shared_strings.specs.declared.entries.Entry.{Entry}
 use Rattle.shared_strings.specs.declared.parts.Parts.{Parts}
@@ -61,14 +61,15 @@ module _ (p : Parts) (name : List ℕ) (e : Entry) (entries : List Entry) (kept 
   pub with_new_hash : (first : ℕ → Option ℕ) → get nat_cmp p.first (hash_of name) ≡ None
       → ((q : ℕ) → first q
       ≡ cond (eqb (hash_of name) q) (Some (length held)) (get nat_cmp p.first q))
-      → IsIndexed (length held_more) (hash_at held_more) (digest_at held_more) (older_at entries) first
-      (get nat_cmp p.newest)
+      → IsIndexed (length held_more) (hash_at held_more) (digest_at held_more) (older_at entries)
+      first (get nat_cmp p.newest)
   with_new_hash first free noted =
       let here = ap hash_of last_name in
-      indexed_first (length held) (length held_more) (hash_at held) (hash_at held_more) (digest_at held)
-      (digest_at held_more) (older_at p.entries.items) (older_at entries) (get nat_cmp p.first)
-      (get nat_cmp p.newest) (length_push held name) (λ i lt. ap hash_of (same_name i lt))
-      (λ i lt. ap digest_of (same_name i lt)) same_older kept.indexed first
+      indexed_first (length held) (length held_more) (hash_at held) (hash_at held_more)
+      (digest_at held) (digest_at held_more) (older_at p.entries.items) (older_at entries)
+      (get nat_cmp p.first) (get nat_cmp p.newest) (length_push held name)
+      (λ i lt. ap hash_of (same_name i lt)) (λ i lt. ap digest_of (same_name i lt)) same_older
+      kept.indexed first
       (ap (get nat_cmp p.first) here ∙ free)
       (λ q. noted q ∙ ap (λ (h : ℕ). cond (eqb h q) (Some (length held)) (get nat_cmp p.first q))
       (sym here))
@@ -119,7 +120,7 @@ module _ (p : Parts) (name : List ℕ) (older : Option ℕ) (first newest : ℕ 
             (record { start = start; len = length name; older = older } ∷ [])
             ∙ (λ j. kept.spans_are j ++ (at j, length name) ∷ [])
             ∙ sym (map-append stated_span (entries_after [] (names_of p))
-            (entry_after (names_of p) name ∷ []))
+            (keyed_after (names_of p) name ∷ []))
             ∙ ap (map stated_span) (sym (entries_after-push [] (names_of p) name));
         indexed = indexed entries start e;
       }
@@ -211,15 +212,9 @@ places_none p new name (Ok o) err kept same = cc
 places_none p new name (Err x) err kept same =
     record { kept = kept; names = tt; place = tt; left = inl same }
 
-pub not_some : {A : Type 0} (o : Option A) → is_some o ≡ false → o ≡ None
-not_some (Some x) is = cc
-not_some None is = refl
-
--- one was noted
-pub taken_by : (first : ℕ → Option ℕ) (h i : ℕ) (o : Option ℕ) → is_some o ≡ true
-    → o ≡ first h → (q : ℕ) → with_first first h i q ≡ first q
-taken_by first h i (Some j) some noted q = noted_taken first h i j q (sym noted)
-taken_by first h i None some noted q = cc
+-- what is noted is there
+pub noted_some : (o : Option ℕ) (j : ℕ) → o ≡ Some j → o ≡ None → ⊥
+noted_some o j some none = let bad : ◌≡◌ {A = Option ℕ} (Some j) None = sym some ∙ none in cc
 
 -- a name that is held
 pub places_held : (p : Parts) (name : List ℕ) (offset : ℕ) → AreKept p

@@ -1,6 +1,6 @@
--- What finds the names of a table in the making, each by the index of its first use: the first name
--- with each hash is noted by its hash, and each other one, which follows it, stands in a chain by its
--- digest.
+-- What finds the names of a table in the making, each by the index of its first use: the first
+-- name with each hash is noted by its hash, and each other one, which follows it, stands in a chain
+-- by its digest.
 use Rattle.std.specs.Prelude.{◌≡◌, ℕ, suc, ◌<◌, Option, Some, None}
 
 -- one past an index, or 0 for none

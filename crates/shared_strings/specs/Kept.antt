@@ -16,8 +16,8 @@ use Rattle.shared_strings.specs.Chains.{Follows, IsIndexed}
 abbrev pub span : Entry → ℕ × ℕ
 span e = (e.start, e.len)
 
-abbrev pub stated_span : Stated → ℕ × ℕ
-stated_span e = (e.start, e.len)
+abbrev pub stated_span : (ℕ × ℕ) × Stated → ℕ × ℕ
+stated_span keyed = (keyed.1.start, keyed.1.len)
 
 -- the bytes of an entry's name
 abbrev pub name_in : List ℕ → Entry → List ℕ

@@ -1,8 +1,11 @@
 //! How a name is found in a table in the making.
 
-ghost use Rattle.std.specs.Prelude.{◌≡◌, ◌+◌, ◌≤◌, length, take, drop, MatchOption};
+ghost use Rattle.std.specs.Prelude.{◌≡◌, ◌+◌, ◌≤◌, ◌==◌, Some, false, length, take, drop, MatchOption, IfOk, IfErr, OnErr};
+ghost use Rattle.std.specs.BTreeMap.{get};
+ghost use Rattle.std.specs.Ordering.{nat_cmp};
 ghost use Rattle.std.specs.Str.{bytes_eq};
 ghost use Rattle.strtab_build.specs.Names.{IsHeld, IsNew};
+ghost use Rattle.shared_strings.specs.Hashes.{hash_of, digest_of};
 ghost use Rattle.shared_strings.specs.Kept.{names_of, AreKept, IsNoFollower};
 
 use crate::entries::Entry;
@@ -21,14 +24,15 @@ fn is_at(bytes: &SharedBytes, entry: Entry, name: &[u8]) -> bool
     bytes.has_at(u64::from(entry.start), name)
 }
 
-/// The offset of a name among those that are not the first with their hash.
-fn find_follower(parts: &Parts, name: &[u8]) -> Option<u32>
-    requires { AreKept parts.now }
+/// The offset of a name with a digest among those that are not the first with their hash.
+fn find_follower(parts: &Parts, name: &[u8], digest: u64) -> Option<u32>
+    requires kept { AreKept parts.now }
+    requires digest { digest ≡ digest_of name.now }
     ensures { MatchOption result (IsNoFollower name.now parts.now)
         (IsHeld name.now (names_of parts.now)) }
 {
     // The names with this digest, the newest first.
-    let mut next = parts.newest.get(&digest_of(name)).copied();
+    let mut next = parts.newest.get(&digest).copied();
     while let Some(index) = next {
         let entry = parts.entries[index as usize];
         if is_at(&parts.bytes, entry, name) {
@@ -37,6 +41,27 @@ fn find_follower(parts: &Parts, name: &[u8]) -> Option<u32>
         next = entry.older;
     }
     None
+}
+
+/// The offset of a name that the table holds, by the first index with its hash; the digest of a new
+/// one.
+pub(crate) fn find_hashed(parts: &Parts, name: &[u8], first: u32) -> Result<u32, u64>
+    requires kept { AreKept parts.now }
+    requires full { (length name.now == 0) ≡ false }
+    requires first { get nat_cmp parts.now.first (hash_of name.now) ≡ Some first }
+    ensures held { IfOk result (IsHeld name.now (names_of parts.now)) }
+    ensures new { OnErr result (IsNew name.now (names_of parts.now)) }
+    ensures digest { IfErr result (λ digest. digest ≡ digest_of name.now) }
+{
+    let entry = parts.entries[first as usize];
+    if is_at(&parts.bytes, entry, name) {
+        return Ok(entry.start);
+    }
+    let digest = digest_of(name);
+    match find_follower(parts, name, digest) {
+        Some(offset) => Ok(offset),
+        None => Err(digest),
+    }
 }
 
 /// The offset of a name that the table holds, or of the empty one.
@@ -49,9 +74,8 @@ pub(crate) fn find(parts: &Parts, name: &[u8]) -> Option<u32>
         return Some(0);
     }
     let first = parts.first.get(&hash_of(name)).copied()?;
-    let entry = parts.entries[first as usize];
-    if is_at(&parts.bytes, entry, name) {
-        return Some(entry.start);
+    match find_hashed(parts, name, first) {
+        Ok(offset) => Some(offset),
+        Err(_digest) => None,
     }
-    find_follower(parts, name)
 }

@@ -1,17 +1,25 @@
 //! How a name is put into a table in the making.
 
-ghost use Rattle.std.specs.Prelude.{◌≡◌, ◌+◌, ◌<◌, ◌^◌, ℕ, None, length, OnOk, OnErr, IfOk, IfErr};
+ghost use Rattle.std.specs.Prelude.{◌≡◌, ◌+◌, ◌<◌, ◌^◌, ◌==◌, ℕ, Some, false, length, OnOk, OnErr, IfOk, IfErr};
 ghost use Rattle.std.specs.Ordering.{nat_cmp};
 ghost use Rattle.std.specs.BTreeMap.{get};
 ghost use Rattle.elf_types.specs.declared.errors.ElfError.TheVariants.{Memory};
 ghost use Rattle.shared_strings.specs.Hashes.{hash_of};
-ghost use Rattle.shared_strings.specs.Kept.{with_first, AreKept, Places};
+ghost use Rattle.shared_strings.specs.Kept.{with_first, names_of, AreKept, Places};
 
-use crate::finding::find;
-use crate::hashes::{digest_of, hash_of};
+use crate::finding::find_hashed;
+use crate::hashes::hash_of;
 use crate::parts::{Parts, put_last};
 use elf_types::ElfError;
 use std::collections::BTreeMap;
+
+/// The index of the next name.
+fn next_index(parts: &Parts) -> u32
+    requires { AreKept parts.now }
+    ensures { result ≡ length (names_of parts.now) }
+{
+    parts.entries.len() as u32
+}
 
 /// Notes an index for a hash, unless one is noted, and answers that one. It refuses `Memory` alone,
 /// and then all is as before.
@@ -34,20 +42,21 @@ fn note_first(
     Ok(noted)
 }
 
-/// The offset of a name whose hash another one may have; a new one is put last.
-fn place_follower(parts: &mut Parts, name: &[u8], near: u64) -> Result<u32, ElfError>
+/// The offset of a name whose hash the name at an index has; a new one is put last.
+fn place_follower(parts: &mut Parts, name: &[u8], first: u32, near: u64) -> Result<u32, ElfError>
     requires kept { AreKept parts.old }
+    requires full { (length name.now == 0) ≡ false }
     requires fits { length parts.old.bytes + length name.now + 2 < 2 ^ 32 }
-    requires hashed { get nat_cmp parts.old.first (hash_of name.now) ≡ None → ⊥ }
+    requires first { get nat_cmp parts.old.first (hash_of name.now) ≡ Some first }
     ensures places { Places name.now result parts.old parts.new }
     ensures err { IfErr result (λ e. e ≡ Memory) }
 {
-    if let Some(offset) = find(parts, name) {
-        return Ok(offset);
-    }
-    let older = parts
-        .newest
-        .insert(digest_of(name), parts.entries.len() as u32)?;
+    let digest = match find_hashed(parts, name, first) {
+        Ok(offset) => return Ok(offset),
+        Err(digest) => digest,
+    };
+    let index = next_index(parts);
+    let older = parts.newest.insert(digest, index)?;
     put_last(parts, name, older, near)
 }
 
@@ -62,10 +71,10 @@ pub(crate) fn place(parts: &mut Parts, name: &[u8], near: u64) -> Result<u32, El
     if name.is_empty() {
         return Ok(0);
     }
-    let index = parts.entries.len() as u32;
+    let index = next_index(parts);
     let noted = note_first(&mut parts.first, hash_of(name), index)?;
-    if noted.is_some() {
-        return place_follower(parts, name, near);
+    match noted {
+        Some(first) => place_follower(parts, name, first, near),
+        None => put_last(parts, name, None, near),
     }
-    put_last(parts, name, None, near)
 }

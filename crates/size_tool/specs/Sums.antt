@@ -8,7 +8,7 @@ use Rattle.elf_types.specs.Answers.{◌>>=◌}
 use Rattle.elf_types.specs.Kinds.{has_flag}
 use Rattle.elf_object.specs.Object.{Section}
 use Rattle.elf_object.specs.Open.{opened}
-use Rattle.command_objects.specs.Words.{is_allocated}
+use Rattle.elf_object.specs.Sections.{is_allocated}
 use Rattle.size_tool.specs.declared.sums.Sums.{Sums}
 
 -- in memory, but not in the file

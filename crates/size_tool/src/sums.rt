@@ -1,7 +1,7 @@
 //! The sums of the sizes of sections.
 
 ghost use Rattle.std.specs.Prelude.{◌≡◌, ◌+◌, ◌<◌, ◌≤◌, ◌^◌, ◌/◌, ◌%◌, ◌==◌, ℕ, [], length};
-ghost use Rattle.command_objects.specs.Words.{is_allocated};
+ghost use Rattle.elf_object.specs.Sections.{is_allocated};
 ghost use Rattle.size_tool.specs.Sums.{is_bss, is_fixed, is_text, is_data, size_if, header_sums, sums_of, with_section, AreWithin};
 
 use elf_descriptor::Elf;
@@ -24,7 +24,7 @@ pub struct Sums {
 /// Whether a section takes memory in a process.
 ///
 /// Source: gABI chapter 4, "Sections", SHF_ALLOC.
-#[tactic(auto, unfolding(command_objects::specs::Words::is_allocated))]
+#[tactic(auto, unfolding(elf_object::specs::Sections::is_allocated))]
 fn is_allocated(h: &Shdr) -> bool
     ensures { result ≡ is_allocated h.now }
 {

@@ -7,11 +7,13 @@ use Rattle.elf_types.specs.Text.{error_text}
 use Rattle.elf_types.specs.declared.errors.ElfError.{ElfError}
 use Rattle.elf_types.specs.declared.errors.ElfError.TheVariants.{TooLarge}
 use Rattle.elf_outside.specs.Names.{Map}
+use Rattle.elf_ident.specs.Front.{zero_shdr}
 use Rattle.elf_ident.proofs.Refusals.{bind_ok}
 use Rattle.elf_object.specs.Object.{Object}
 use Rattle.elf_object.specs.Open.{opened}
 use Rattle.elf_object.specs.Image.{image}
 use Rattle.elf_object.specs.Refusal.{refusal}
+use Rattle.elf_object.specs.Sections.{header_at}
 use Rattle.elf_object.specs.Settled.{settle}
 use Rattle.elf_object.specs.Valid.{as_opened}
 use Rattle.object_laws.specs.Laws.{ReopenLaw}
@@ -174,19 +176,20 @@ joined_ends whole s d out stripped debug again opens = by_combined (unstripped s
 
 rejoined : (image : List ℕ) (whole : Object) (later : Map) (out stripped debug : List ℕ)
     (r : Result Done Complaint) → AlikeImagesAnswerAlike → opened image ≡ Ok whole
+    → record (header_at whole 0) { size = 0; link = 0; info = 0 } ≡ zero_shdr
     → unstrip_done later out stripped debug ≡ r → EndsAs whole out stripped r
     → (unstrip_outcome later out stripped debug ≡ too_large_outcome stripped)
     ⊎ Rejoins whole out (unstrip_outcome later out stripped debug)
 unfolding unstrip_outcome
-rejoined image whole later out stripped debug r alike is_whole e (inl large) =
+rejoined image whole later out stripped debug r alike is_whole first e (inl large) =
     inl (ap (λ (x : Result Done Complaint). written_outcome (codes "unstrip") x) (e ∙ large))
-rejoined image whole later out stripped debug r alike is_whole e (inr back) = inr (record {
+rejoined image whole later out stripped debug r alike is_whole first e (inr back) = inr (record {
   bytes = back.bytes;
   is = ap (λ (x : Result Done Complaint). written_outcome (codes "unstrip") x) (e ∙ back.is);
   object = back.object;
   opens = back.opens;
   same = back.same;
-  answers = alike image back.bytes whole back.object is_whole back.opens back.same;
+  answers = alike image back.bytes whole back.object is_whole back.opens first back.same;
 })
 
 -- ---- The law
@@ -239,6 +242,7 @@ split_files_rejoin reopens combine law alike options named file image whole late
     } in
     rejoined image whole later out stripped debug (joined out stripped debug s d) alike
     was.is_whole
+    was.first
     (joined_as later out stripped debug s d
     (held_opens later stripped files.bytes s stripped_held one)
     (held_opens later debug files.debug_bytes d debug_held other))

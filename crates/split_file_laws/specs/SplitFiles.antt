@@ -7,7 +7,7 @@ use Rattle.elf_outside.specs.Names.{Map}
 use Rattle.elf_ident.specs.Front.{zero_shdr}
 use Rattle.elf_object.specs.Object.{Object}
 use Rattle.elf_object.specs.Open.{opened}
-use Rattle.command_objects.specs.Words.{header_at}
+use Rattle.elf_object.specs.Sections.{header_at}
 use Rattle.command_objects.specs.KeepingLaws.{SameButPlaces}
 use Rattle.split_laws.specs.Getters.{SameAnswers}
 use Rattle.tool_text.specs.declared.commands.StripOptions.{StripOptions}

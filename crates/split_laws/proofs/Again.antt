@@ -26,7 +26,7 @@ use Rattle.object_laws.specs.Laws.{ReopenLaw}
 use Rattle.object_laws.proofs.ImageLaws.{section_at-placed, joined-none, placed-dirty}
 use Rattle.object_laws.proofs.SettledLaws.{settle-dirty}
 use Rattle.object_laws.proofs.StandLaws.{where_some, section_count-placed, joined-placed, file_bytes_when}
-use Rattle.command_objects.specs.Words.{header_at}
+use Rattle.elf_object.specs.Sections.{header_at}
 use Rattle.command_objects.specs.Rebuilt.{made_section}
 use Rattle.command_objects.specs.Files.{file_of}
 use Rattle.command_objects.specs.KeepingLaws.{SameHeader}

@@ -19,7 +19,7 @@ use Rattle.elf_object.specs.Valid.{as_opened}
 use Rattle.object_laws.specs.Laws.{ReopenLaw}
 use Rattle.object_laws.proofs.OpenLaws.{opened_is, opened_phdrs}
 use Rattle.object_laws.proofs.StandLaws.{section_at-past}
-use Rattle.command_objects.specs.Words.{is_allocated, is_program, header_at, is_among}
+use Rattle.elf_object.specs.Sections.{is_allocated, is_program, header_at, is_among}
 use Rattle.command_objects.specs.Arranged.{Rebuilt}
 use Rattle.command_objects.specs.Split.{allocated, combine_fault, unstripped}
 use Rattle.command_objects.specs.Files.{file_of}

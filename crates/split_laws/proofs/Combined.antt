@@ -8,7 +8,7 @@ use Rattle.elf_types.specs.declared.records.Phdr.{Phdr}
 use Rattle.elf_xlate.specs.declared.content.Items.TheVariants as items
 use Rattle.elf_ident.specs.Front.{zero_shdr}
 use Rattle.elf_object.specs.Object.{Object, Section, absent_section, new_section, section_at}
-use Rattle.command_objects.specs.Words.{is_program, header_at}
+use Rattle.elf_object.specs.Sections.{is_program, header_at}
 use Rattle.command_objects.specs.Arranged.{Rebuilt, placed_from, arranged}
 use Rattle.command_objects.specs.Split.{allocated, combined_section, combined_sections, combined_tail, combined_object}
 use Rattle.command_objects.specs.KeepingLaws.{SameHeader}

@@ -7,7 +7,7 @@ use Rattle.elf_types.specs.declared.records.Shdr.{Shdr}
 use Rattle.elf_types.specs.declared.constants.TheConstants.{SHT_NOBITS}
 use Rattle.elf_xlate.specs.declared.content.Items.TheVariants as items
 use Rattle.elf_object.specs.Object.{Object, new_section, section_at, occupies_file}
-use Rattle.command_objects.specs.Words.{is_allocated, is_program, header_at}
+use Rattle.elf_object.specs.Sections.{is_allocated, is_program, header_at}
 use Rattle.command_objects.specs.Rebuilt.{made_section}
 use Rattle.command_objects.specs.Split.{is_loaded_from_file, allocated, counterpart, loaded_header, combined_section}
 use Rattle.split_laws.specs.Halves.{without_place, debug_header, origin_number, KeepsForDebug, KeepsAllocated}

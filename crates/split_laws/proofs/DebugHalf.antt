@@ -20,7 +20,7 @@ use Rattle.elf_object.specs.Valid.{as_opened}
 use Rattle.elf_object.proofs.PassedLaws.{none_first, none_rest}
 use Rattle.object_laws.specs.Laws.{ReopenLaw}
 use Rattle.object_laws.proofs.OpenLaws.{opened_is, opened_phdrs}
-use Rattle.command_objects.specs.Words.{header_at}
+use Rattle.elf_object.specs.Sections.{header_at}
 use Rattle.command_objects.specs.Arranged.{over_base}
 use Rattle.command_objects.specs.Rebuilt.{made_section, index_refusal}
 use Rattle.command_objects.specs.Split.{is_loaded_from_file, debug_section, debug_sections, debug_half, debug_raw_refusal, debug_refusal, debug_of}

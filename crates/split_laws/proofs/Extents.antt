@@ -22,7 +22,7 @@ use Rattle.elf_object.specs.Steps.{stored_ehdr, with_ehdr}
 use Rattle.object_laws.proofs.ImageLaws.{joined-none}
 use Rattle.object_laws.proofs.PlaceLaws.{in_order}
 use Rattle.object_laws.proofs.StandLaws.{file_bytes_when, length-in_order}
-use Rattle.command_objects.specs.Words.{is_allocated}
+use Rattle.elf_object.specs.Sections.{is_allocated}
 use Rattle.command_objects.specs.Arranged.{movable, table_parts, parts_from, place_from, table_place_from, section_from, placed_from}
 use Rattle.strip_laws.proofs.MadeSections.{header_made, made_bytes, bytes_encoded, section_placed, section_moved}
 use Rattle.split_laws.proofs.Overlaps.{NoneShared, SameExtent, none_shared_back, ordered_at, ordered_as}

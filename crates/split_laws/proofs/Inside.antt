@@ -17,7 +17,7 @@ use Rattle.object_laws.specs.Laws.{ReopenLaw}
 use Rattle.object_laws.proofs.ByteLaws.{image_are}
 use Rattle.object_laws.proofs.KeepLaws.{section_at_is}
 use Rattle.object_laws.proofs.OpenLaws.{opened_is}
-use Rattle.command_objects.specs.Words.{header_at}
+use Rattle.elf_object.specs.Sections.{header_at}
 use Rattle.command_objects.specs.Followed.{kept_sections}
 use Rattle.command_objects.specs.Rebuilt.{rebuilt_items}
 use Rattle.command_objects.specs.Split.{is_loaded_from_file}

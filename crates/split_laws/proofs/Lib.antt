@@ -16,4 +16,7 @@ pub mod TailBounds
 pub mod LaidParts
 pub mod ProgramParts
 pub mod SplitLaws
+pub mod AlikeSections
 pub mod Getters
+pub mod Lookups
+pub mod AlikeImages

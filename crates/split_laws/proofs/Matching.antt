@@ -17,7 +17,7 @@ use Rattle.elf_types.specs.declared.records.Shdr.{Shdr}
 use Rattle.elf_types.specs.declared.constants.TheConstants.{SHT_NOBITS, SHF_ALLOC}
 use Rattle.elf_object.specs.Object.{Object}
 use Rattle.elf_object.specs.Layout.{section_numbers}
-use Rattle.command_objects.specs.Words.{is_allocated, header_at, is_among}
+use Rattle.elf_object.specs.Sections.{is_allocated, header_at, is_among}
 use Rattle.command_objects.specs.Followed.{kept_sections, kept_from_1}
 use Rattle.command_objects.specs.Split.{is_loaded_from_file, removed_allocated, same_class, same_order, same_header, same_phdr, same_loaded, allocated, allocated_headers, matches}
 use Rattle.command_objects.specs.KeepingLaws.{SameHeader, IsSplit}

@@ -17,7 +17,7 @@ use Rattle.elf_object.specs.Object.{Object, Section, section_at, is_null}
 use Rattle.elf_object.specs.Layout.{section_numbers}
 use Rattle.elf_object.specs.Open.{created_over}
 use Rattle.elf_object.specs.Steps.{stored_ehdr, with_ehdr, with_phdrs}
-use Rattle.command_objects.specs.Words.{is_allocated, is_program, header_at}
+use Rattle.elf_object.specs.Sections.{is_allocated, is_program, header_at}
 use Rattle.command_objects.specs.Arranged.{base_end, tail_of, over_base, movable, parts_from, place_from, table_place_from, section_from, placed_from}
 use Rattle.command_objects.specs.Rebuilt.{made_section, assembled}
 use Rattle.command_objects.specs.KeepingLaws.{SameHeader}

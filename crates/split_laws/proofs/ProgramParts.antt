@@ -17,7 +17,7 @@ use Rattle.elf_object.specs.Object.{Object, Section, section_at, occupies_file, 
 use Rattle.elf_object.specs.Layout.{header_part, segments_part, section_part, table_part, parts_of}
 use Rattle.object_laws.proofs.PlaceLaws.{Pairs}
 use Rattle.object_laws.proofs.StandLaws.{length-row}
-use Rattle.command_objects.specs.Words.{is_allocated, is_program, header_at}
+use Rattle.elf_object.specs.Sections.{is_allocated, is_program, header_at}
 use Rattle.command_objects.specs.Followed.{followed_header}
 use Rattle.command_objects.specs.Arranged.{base_end, movable, place_from, placed_from}
 use Rattle.command_objects.specs.Rebuilt.{rebuilt_header}

@@ -14,7 +14,7 @@ use Rattle.elf_object.specs.Steps.{with_ehdr, with_phdrs}
 use Rattle.object_laws.specs.Laws.{ReopenLaw}
 use Rattle.object_laws.proofs.OpenLaws.{opened_is}
 use Rattle.object_laws.proofs.PlaceLaws.{Pairs}
-use Rattle.command_objects.specs.Words.{is_program}
+use Rattle.elf_object.specs.Sections.{is_program}
 use Rattle.command_objects.specs.Arranged.{Rebuilt, base_end, tail_of, over_base, placed_from, tail_refusal, arranged}
 use Rattle.command_objects.specs.Rebuilt.{assembled}
 use Rattle.command_objects.specs.Removed.{removed_sections}

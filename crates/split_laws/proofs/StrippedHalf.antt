@@ -25,7 +25,7 @@ use Rattle.elf_object.specs.Valid.{as_opened}
 use Rattle.elf_object.proofs.PassedLaws.{none_first, none_rest}
 use Rattle.object_laws.specs.Laws.{ReopenLaw}
 use Rattle.object_laws.proofs.OpenLaws.{opened_is, opened_phdrs}
-use Rattle.command_objects.specs.Words.{is_allocated, is_program, header_at, is_among}
+use Rattle.elf_object.specs.Sections.{is_allocated, is_program, header_at, is_among}
 use Rattle.command_objects.specs.Followed.{kept_sections, kept_from_1, followed_header}
 use Rattle.command_objects.specs.Arranged.{Rebuilt, placed_from}
 use Rattle.command_objects.specs.Rebuilt.{rebuilt_index, items_follow, kept_refusal, made_section, rebuilt_items, rebuilt_header, rebuilt_section, rebuilt_sections, rebuilt_tail, rebuilt_object, rebuilt, assembled}

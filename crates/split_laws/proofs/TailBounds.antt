@@ -7,7 +7,7 @@ use Rattle.elf_types.specs.declared.records.Shdr.{Shdr}
 use Rattle.elf_xlate.specs.Headers.{ehdr_size, phdr_size}
 use Rattle.elf_object.specs.Object.{Object, Section, absent_section, section_at, occupies_file}
 use Rattle.elf_object.specs.Open.{home_of, opened_section, opened}
-use Rattle.command_objects.specs.Words.{is_allocated, greatest, header_at}
+use Rattle.elf_object.specs.Sections.{is_allocated, greatest, header_at}
 use Rattle.command_objects.specs.Arranged.{segment_end, loaded_end, base_end}
 use Rattle.split_laws.proofs.Whole.{section_opened, home_opened}
 

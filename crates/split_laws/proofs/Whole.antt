@@ -19,7 +19,7 @@ use Rattle.elf_object.specs.Valid.{IsObject}
 use Rattle.elf_object.proofs.PassedLaws.{none_first, none_rest, not_refused}
 use Rattle.object_laws.proofs.KeepLaws.{section_at_is}
 use Rattle.object_laws.proofs.OpenLaws.{front_known, known_fits}
-use Rattle.command_objects.specs.Words.{header_at}
+use Rattle.elf_object.specs.Sections.{header_at}
 use Rattle.command_objects.specs.KeepingLaws.{SameHeader}
 use Rattle.strip_laws.specs.Made.{FitsClass}
 use Rattle.strip_laws.proofs.WritableLaws.{begun_fits_class}

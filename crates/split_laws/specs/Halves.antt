@@ -8,7 +8,7 @@ use Rattle.elf_types.specs.declared.errors.ElfError.TheVariants.{TooLarge}
 use Rattle.elf_types.specs.declared.constants.TheConstants.{SHT_NOBITS}
 use Rattle.elf_object.specs.Object.{Object, section_at}
 use Rattle.elf_object.specs.Open.{opened}
-use Rattle.command_objects.specs.Words.{is_allocated, is_program, header_at, is_among}
+use Rattle.elf_object.specs.Sections.{is_allocated, is_program, header_at, is_among}
 use Rattle.command_objects.specs.Followed.{kept_sections}
 use Rattle.command_objects.specs.Arranged.{Rebuilt}
 use Rattle.command_objects.specs.Rebuilt.{rebuilt}

@@ -58,8 +58,9 @@ pub fn split_law()
     halves_combine();
 }
 
-/// Two images that are the same but for places and derived values answer each getter alike that
-/// looks at neither, and name their sections alike. Section 0 is aside.
+/// Two images that are the same but for places and derived values, and whose section 0 is all zero
+/// but for size, link and info, answer each getter alike that tells neither, of every section, and
+/// each lookup of a name.
 pub fn alike_images_answer_alike()
     ensures { AlikeImagesAnswerAlike }
 {}

@@ -24,7 +24,7 @@ use Rattle.command_objects.specs.Arranged.{Rebuilt, over_base, placed_from, arra
 use Rattle.command_objects.specs.Files.{file_of, file_made}
 use Rattle.command_objects.specs.Followed.{kept_from_1}
 use Rattle.command_objects.specs.Rebuilt.{assembled, rebuilt, rebuilt_tail}
-use Rattle.command_objects.specs.Words.{is_among}
+use Rattle.elf_object.specs.Sections.{is_among}
 use Rattle.strip_laws.specs.Made.{FitsClass}
 use Rattle.strip_laws.proofs.RebuiltLaws.{rebuilt_is_object}
 use Rattle.strip_laws.proofs.WritableLaws.{rebuilt_is_writable}

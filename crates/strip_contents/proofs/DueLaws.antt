@@ -7,7 +7,7 @@ use Rattle.std.proofs.lemmas.List.Sums.{sum_by-cons}
 use Rattle.elf_object.specs.Object.{Object, is_dirty}
 use Rattle.elf_object.specs.Due.{homes_due}
 use Rattle.elf_object.specs.Valid.{IsObject}
-use Rattle.command_objects.specs.Words.{is_among}
+use Rattle.elf_object.specs.Sections.{is_among}
 use Rattle.command_objects.specs.Followed.{kept_from_1}
 use Rattle.command_objects.specs.Rebuilt.{renews_names, items_follow}
 use Rattle.strip_removed.specs.Calls.{names_home}

@@ -1,7 +1,7 @@
 //! The links of a section.
 
 ghost use Rattle.std.specs.Prelude.{◌≡◌, if◌then◌else◌};
-ghost use Rattle.command_objects.specs.Words.{info_is_section};
+ghost use Rattle.elf_object.specs.Sections.{info_is_section};
 ghost use Rattle.command_objects.specs.Followed as rules;
 
 use crate::numbering::Numbering;
@@ -12,7 +12,7 @@ use strip_removed::is_relocations;
 /// Whether `sh_info` is a section's number.
 ///
 /// Source: gABI chapter 4, "Section Header", sh_info; "Sections", SHF_INFO_LINK.
-#[tactic(auto, unfolding(command_objects::specs::Words::info_is_section))]
+#[tactic(auto, unfolding(elf_object::specs::Sections::info_is_section))]
 fn info_is_section(h: &Shdr) -> bool
     ensures { result ≡ info_is_section h.now }
 {

@@ -2,7 +2,7 @@
 
 ghost use Rattle.std.specs.Prelude.{◌≡◌, ◌+◌, ◌^◌, ◌<◌, ◌≤◌, false, true, IfOk, IfErr, IfSome, OnOk, [], length, slice_index, if◌then◌else◌};
 ghost use Rattle.elf_types.specs.declared.errors.ElfError.TheVariants.{Memory};
-ghost use Rattle.command_objects.specs.Words.{is_among, number_or_0};
+ghost use Rattle.elf_object.specs.Sections.{is_among, number_or_0};
 ghost use Rattle.command_objects.specs.Followed.{is_section_number, renumbered, followed};
 ghost use Rattle.strip_items.specs.Numbers.{IsNumbering, numbering_of, numbering_without, numbers_without};
 

@@ -11,7 +11,7 @@ use Rattle.elf_types.specs.declared.records.Kind.TheVariants as kinds
 use Rattle.elf_types.specs.declared.constants.TheConstants.{SHT_SYMTAB_SHNDX}
 use Rattle.elf_object.specs.Object.{Object}
 use Rattle.elf_object.specs.Layout.{section_numbers}
-use Rattle.command_objects.specs.Words.{is_loose, header_at, is_among, first_of, number_or_0}
+use Rattle.elf_object.specs.Sections.{is_loose, header_at, is_among, first_of, number_or_0}
 use Rattle.command_objects.specs.Followed.{extended_table, kept_from_1, has_indexes_of}
 use Rattle.strip_removed.specs.Steps.{links_to}
 use Rattle.strip_removed.proofs.SetLaws.{filter_filter, range_more}

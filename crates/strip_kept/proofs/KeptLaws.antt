@@ -6,7 +6,7 @@ use Rattle.std.proofs.lemmas.Bool.{ne_eqb, lt-ltb, and_from, and_parts, and_left
 use Rattle.elf_types.specs.declared.constants.TheConstants.{SHT_STRTAB}
 use Rattle.elf_object.specs.Object.{Object, section_at}
 use Rattle.elf_object.specs.Layout.{section_numbers}
-use Rattle.command_objects.specs.Words.{is_allocated, header_at, is_among}
+use Rattle.elf_object.specs.Sections.{is_allocated, header_at, is_among}
 use Rattle.command_objects.specs.Removed.{linking_to}
 use Rattle.command_objects.specs.Followed.{kept_from_1}
 use Rattle.command_objects.specs.Rebuilt.{has_names_alone, renews_names}

@@ -2,7 +2,7 @@
 use Rattle.std.specs.Prelude.{ℕ, nat_lt, Bool, not, ◌==◌, ◌&&◌, List, length}
 use Rattle.elf_types.specs.declared.constants.TheConstants.{SHT_STRTAB}
 use Rattle.elf_object.specs.Object.{Object, section_at}
-use Rattle.command_objects.specs.Words.{is_allocated, header_at, is_among}
+use Rattle.elf_object.specs.Sections.{is_allocated, header_at, is_among}
 
 -- a section from 1 on that is not removed
 unfoldable pub is_left : Object → List ℕ → ℕ → Bool

@@ -5,7 +5,7 @@ ghost use Rattle.elf_types.specs.Kinds.{section_kind};
 ghost use Rattle.elf_types.specs.declared.constants.TheConstants.{SHT_SYMTAB, SHT_GROUP, SHT_SYMTAB_SHNDX};
 ghost use Rattle.elf_types.specs.declared.records.Kind.TheVariants as kinds;
 ghost use Rattle.elf_object.specs.Answers.{same_kind};
-ghost use Rattle.command_objects.specs.Words.{is_loose};
+ghost use Rattle.elf_object.specs.Sections.{is_loose};
 
 use elf_types::constants::{SHT_GROUP, SHT_SYMTAB, SHT_SYMTAB_SHNDX};
 use elf_types::{Class, Kind, Shdr, kind_of};
@@ -30,7 +30,7 @@ fn has_words(h: &Shdr) -> bool
 /// Whether a section is a symbol table of `SHT_SYMTAB` without `SHF_ALLOC`. It takes no memory.
 ///
 /// Source: gABI chapter 4, "Symbol Table".
-#[tactic(auto, unfolding(command_objects::specs::Words::is_loose, command_objects::specs::Words::is_of))]
+#[tactic(auto, unfolding(elf_object::specs::Sections::is_loose, elf_object::specs::Sections::is_of))]
 pub fn is_symbol_table(h: &Shdr) -> bool
     ensures { result ≡ is_loose SHT_SYMTAB kinds.Sym h.now }
 {
@@ -40,7 +40,7 @@ pub fn is_symbol_table(h: &Shdr) -> bool
 /// Whether a section is a group without `SHF_ALLOC`. It takes no memory.
 ///
 /// Source: gABI chapter 4, "Section Groups".
-#[tactic(auto, unfolding(command_objects::specs::Words::is_loose, command_objects::specs::Words::is_of))]
+#[tactic(auto, unfolding(elf_object::specs::Sections::is_loose, elf_object::specs::Sections::is_of))]
 pub fn is_group(h: &Shdr) -> bool
     ensures { result ≡ is_loose SHT_GROUP kinds.Word h.now }
 {
@@ -50,7 +50,7 @@ pub fn is_group(h: &Shdr) -> bool
 /// Whether a section is a table of extended indexes without `SHF_ALLOC`. It takes no memory.
 ///
 /// Source: gABI chapter 4, SHT_SYMTAB_SHNDX.
-#[tactic(auto, unfolding(command_objects::specs::Words::is_loose, command_objects::specs::Words::is_of))]
+#[tactic(auto, unfolding(elf_object::specs::Sections::is_loose, elf_object::specs::Sections::is_of))]
 pub fn is_index_table(h: &Shdr) -> bool
     ensures { result ≡ is_loose SHT_SYMTAB_SHNDX kinds.Word h.now }
 {

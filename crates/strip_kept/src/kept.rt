@@ -1,7 +1,7 @@
 //! The sections that are kept.
 
 ghost use Rattle.std.specs.Prelude.{◌≡◌};
-ghost use Rattle.command_objects.specs.Words.{is_among};
+ghost use Rattle.elf_object.specs.Sections.{is_among};
 ghost use Rattle.command_objects.specs.Followed.{kept_from_1};
 ghost use Rattle.strip_kept.specs.Kept.{is_left};
 

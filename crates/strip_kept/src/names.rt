@@ -4,7 +4,7 @@ ghost use Rattle.std.specs.Prelude.{◌≡◌, ◌<◌, ◌==◌, ◌&&◌, not,
 ghost use Rattle.std.specs.List.{list_any};
 ghost use Rattle.elf_object.specs.Object.{section_at};
 ghost use Rattle.elf_object.specs.Layout.{section_numbers};
-ghost use Rattle.command_objects.specs.Words.{is_among};
+ghost use Rattle.elf_object.specs.Sections.{is_among};
 ghost use Rattle.command_objects.specs.Rebuilt as rules;
 ghost use Rattle.strip_removed.specs.Steps.{links_to};
 ghost use Rattle.strip_kept.specs.Kept.{is_loose_strings};

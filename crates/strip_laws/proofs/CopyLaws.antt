@@ -24,7 +24,7 @@ use Rattle.elf_object.specs.Valid.{IsSection, IsObject, KeepsObject}
 use Rattle.elf_object.proofs.PassedLaws.{not_refused, step_ok}
 use Rattle.object_laws.proofs.KeepLaws.{zero_shdr_is, section_at_is, with_own_is, newscn_keeps, update_shdr_keeps, newdata_keeps, replace_keeps}
 use Rattle.object_laws.proofs.PlacedLaws.{each_row}
-use Rattle.command_objects.specs.Words.{header_at, edited, in_turn}
+use Rattle.elf_object.specs.Sections.{header_at, edited, in_turn}
 use Rattle.command_objects.specs.Removed.{removed_by_name}
 use Rattle.command_objects.specs.Arranged.{Rebuilt, arranged}
 use Rattle.command_objects.specs.Rebuilt.{rebuilt, renews_names, table_refusal}

@@ -33,7 +33,7 @@ use Rattle.object_laws.proofs.ItemLaws.{row_none}
 use Rattle.object_laws.proofs.KeepLaws.{section_at_is}
 use Rattle.object_laws.proofs.PlaceLaws.{zero_fits}
 use Rattle.object_laws.proofs.StandLaws.{file_bytes_when}
-use Rattle.command_objects.specs.Words.{is_allocated, is_of, is_loose, header_at}
+use Rattle.elf_object.specs.Sections.{is_allocated, is_of, is_loose, header_at}
 use Rattle.command_objects.specs.Followed.{Renumbering, renumbering, renumbered, is_section_number, without_section, followed_sym, followed_extended, followed_by_word, word_counts, followed_syms, followed_words, followed_group, symbols_follow, members_follow, indexes_follow, words_for, syms_in}
 use Rattle.command_objects.specs.Rebuilt.{renews_names, kept_names, kept_items, rebuilt_items}
 use Rattle.strip_laws.specs.Made.{FitsClass}

@@ -27,7 +27,7 @@ use Rattle.elf_object.proofs.PassedLaws.{none_first, none_rest}
 use Rattle.object_laws.proofs.KeepLaws.{new_section_is, section_at_is}
 use Rattle.object_laws.proofs.PlacedLaws.{shdr_fits_each, shdr_fits_all}
 use Rattle.object_laws.proofs.RangeLaws.{each_made}
-use Rattle.command_objects.specs.Words.{header_at}
+use Rattle.elf_object.specs.Sections.{header_at}
 use Rattle.command_objects.specs.Arranged.{Rebuilt, over_base, arranged}
 use Rattle.command_objects.specs.Rebuilt.{made_section, assembled, index_refusal}
 use Rattle.command_objects.specs.Split.{is_loaded_from_file, debug_section, debug_sections, debug_half, debug_raw_refusal, debug_refusal, debug_of, same_class, same_header, matches, counterpart, loaded_header, combined_section, combined_sections, combined_tail, combined_object, combined_raw_refusal, combine_fault, or_elf, unstripped}

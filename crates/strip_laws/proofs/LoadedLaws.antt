@@ -18,7 +18,7 @@ use Rattle.elf_object.specs.Image.{image as image_of}
 use Rattle.elf_object.proofs.PassedLaws.{not_refused}
 use Rattle.object_laws.proofs.OpenLaws.{front_known, known_fits, opened_is}
 use Rattle.writing_laws.specs.Based.{BeginningsAreBased}
-use Rattle.command_objects.specs.Words.{greatest}
+use Rattle.elf_object.specs.Sections.{greatest}
 use Rattle.command_objects.specs.Removed.{removed_sections}
 use Rattle.command_objects.specs.Followed.{kept_sections}
 use Rattle.command_objects.specs.Arranged.{Rebuilt, segment_end, loaded_end, base_end, tail_of, placed_from, tail_refusal, arranged}

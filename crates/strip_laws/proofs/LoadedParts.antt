@@ -33,7 +33,7 @@ use Rattle.object_laws.proofs.StandLaws.{covered_from, where_some, some_of, sect
 use Rattle.writing_laws.specs.Based.{IsBased}
 use Rattle.writing_laws.specs.Lines.{StandsAt}
 use Rattle.writing_laws.proofs.HeldLaws.{stands_byte, held_byte}
-use Rattle.command_objects.specs.Words.{is_allocated, is_among, header_at}
+use Rattle.elf_object.specs.Sections.{is_allocated, is_among, header_at}
 use Rattle.command_objects.specs.Followed.{kept_from_1}
 use Rattle.command_objects.specs.Arranged.{place_from, section_from}
 use Rattle.command_objects.specs.Rebuilt.{kept_refusal, rebuilt_items, rebuilt_header, rebuilt_sections, made_section}

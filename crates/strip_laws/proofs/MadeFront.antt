@@ -21,7 +21,7 @@ use Rattle.elf_object.specs.Layout.{places_of, segments_place, placed_header}
 use Rattle.elf_object.proofs.PassedLaws.{passed_one}
 use Rattle.object_laws.proofs.OpenLaws.{IsFrontOf}
 use Rattle.object_laws.proofs.StandLaws.{where_some}
-use Rattle.command_objects.specs.Words.{is_among}
+use Rattle.elf_object.specs.Sections.{is_among}
 use Rattle.command_objects.specs.Followed.{kept_sections}
 use Rattle.command_objects.specs.Laws.{IsUsual}
 use Rattle.command_objects.specs.Rebuilt.{rebuilt_section, rebuilt_sections}

@@ -33,7 +33,7 @@ use Rattle.elf_object.proofs.PassedLaws.{none_first, none_rest, not_refused}
 use Rattle.object_laws.proofs.ItemLaws.{alone_spread}
 use Rattle.object_laws.proofs.StandLaws.{file_bytes_when}
 use Rattle.writing_laws.specs.Lines.{StandsAt}
-use Rattle.command_objects.specs.Words.{is_allocated, is_loose, is_among, first_of, header_at}
+use Rattle.elf_object.specs.Sections.{is_allocated, is_loose, is_among, first_of, header_at}
 use Rattle.command_objects.specs.Followed.{kept_sections, kept_from_1, followed_header, has_indexes_of, extended_table, is_the, symbols_follow, members_follow, indexes_follow}
 use Rattle.command_objects.specs.Arranged.{place_from, section_from, table_place_from, placed_from}
 use Rattle.command_objects.specs.Rebuilt.{has_names_alone, renews_names, items_follow, kept_items, kept_refusal, made_section, rebuilt_items, rebuilt_header, rebuilt_section, rebuilt_sections, assembled}

@@ -23,8 +23,8 @@ use Rattle.elf_object.specs.Valid.{IsObject}
 use Rattle.elf_object.proofs.PassedLaws.{step_ok}
 use Rattle.object_laws.proofs.KeepLaws.{section_at_is, with_own_is, update_shdr_keeps}
 use Rattle.object_laws.proofs.StandLaws.{section_at-past}
-use Rattle.command_objects.specs.Words.{header_at}
-use Rattle.command_objects.specs.Reordered.{in_order, new_index, kind_by_symbols, items_by_symbols, with_signature, reordered_section, reordered}
+use Rattle.elf_object.specs.Sections.{header_at}
+use Rattle.hash_model.specs.Reordered.{in_order, new_index, kind_by_symbols, items_by_symbols, with_signature, reordered_section, reordered}
 use Rattle.strip_laws.proofs.SectionLaws.{relinked_is}
 
 fold_keeps : {A B : Type 0} (P : A → Type 0) (f : A → B → A)

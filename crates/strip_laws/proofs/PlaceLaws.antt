@@ -15,7 +15,7 @@ use Rattle.elf_object.specs.Layout.{header_part, section_part, table_part, secti
 use Rattle.elf_object.specs.Image.{image_length}
 use Rattle.object_laws.proofs.PlaceLaws.{rounded_up-ge, length_from-ge}
 use Rattle.object_laws.proofs.StandLaws.{row_left, row_last, length-row}
-use Rattle.command_objects.specs.Words.{is_allocated, header_at}
+use Rattle.elf_object.specs.Sections.{is_allocated, header_at}
 use Rattle.command_objects.specs.Arranged.{movable, table_parts, parts_from, place_from, table_place_from}
 
 -- ---- The caller's places

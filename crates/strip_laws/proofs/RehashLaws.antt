@@ -23,11 +23,11 @@ use Rattle.elf_object.specs.Steps.{with_layout, with_flags}
 use Rattle.elf_object.specs.Valid.{IsObject}
 use Rattle.elf_object.proofs.PassedLaws.{none_first, none_rest, not_refused, step_ok}
 use Rattle.object_laws.proofs.KeepLaws.{replace_keeps, flag_keeps}
-use Rattle.command_objects.specs.Words.{is_program}
-use Rattle.command_objects.specs.Hashes.{gnu_hash}
-use Rattle.command_objects.specs.Listed.{listed_name, listed_names}
-use Rattle.command_objects.specs.BuiltHashes.{buckets_of, order_key, gnu_order_of, hash_refusal, gnu_order_answer, build_gnu_answer, build_sysv_answer}
-use Rattle.command_objects.specs.Reordered.{reordered, reorder_refusal}
+use Rattle.elf_object.specs.Sections.{is_program}
+use Rattle.hash_model.specs.Hashes.{gnu_hash}
+use Rattle.hash_model.specs.Listed.{listed_name, listed_names}
+use Rattle.hash_model.specs.BuiltHashes.{buckets_of, order_key, gnu_order_of, hash_refusal, gnu_order_answer, build_gnu_answer, build_sysv_answer}
+use Rattle.hash_model.specs.Reordered.{reordered, reorder_refusal}
 use Rattle.command_objects.specs.Rehashed.RehashFault.{NoDynamicHash}
 use Rattle.command_objects.specs.Rehashed.{dynamic_symbols, gnu_section, sysv_section, shape_of, nbucket_of, with_gnu, with_sysv, where_there, laid_out, RehashFault, or_fault, rehashed_at, rehashed}
 use Rattle.strip_laws.proofs.CopyLaws.{edited_keeps}

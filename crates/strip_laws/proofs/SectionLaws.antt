@@ -18,7 +18,7 @@ use Rattle.elf_object.specs.Valid.{IsPiece, OthersOwn, IsSection, IsObject}
 use Rattle.elf_object.proofs.PassedLaws.{not_refused}
 use Rattle.elf_object.proofs.PieceLaws.{own_piece_is}
 use Rattle.object_laws.proofs.KeepLaws.{new_section_is, section_at_is}
-use Rattle.command_objects.specs.Words.{header_at, info_is_section}
+use Rattle.elf_object.specs.Sections.{header_at, info_is_section}
 use Rattle.command_objects.specs.Followed.{renumbering, followed, followed_header}
 use Rattle.command_objects.specs.Rebuilt.{renews_names, kept_names, made_section, rebuilt_items, rebuilt_name, rebuilt_header, rebuilt_section, table_refusal}
 use Rattle.strip_laws.proofs.NameLaws.{place_within}

@@ -26,7 +26,7 @@ use Rattle.elf_object.specs.Calls.{newphdr_refusal}
 use Rattle.elf_object.specs.Valid.{IsObject}
 use Rattle.elf_object.proofs.PassedLaws.{not_refused}
 use Rattle.object_laws.proofs.PlacedLaws.{each_row}
-use Rattle.command_objects.specs.Words.{is_among}
+use Rattle.elf_object.specs.Sections.{is_among}
 use Rattle.command_objects.specs.Followed.{kept_sections}
 use Rattle.command_objects.specs.Arranged.{Rebuilt, over_base, place_from, table_place_from, section_from, placed_from}
 use Rattle.command_objects.specs.Rebuilt.{rebuilt_items, rebuilt_header, rebuilt_section, made_section, rebuilt_sections, rebuilt_index, rebuilt_tail, rebuilt_object, assembled}

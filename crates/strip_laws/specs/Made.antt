@@ -7,7 +7,7 @@ use Rattle.elf_object.specs.Object.{Object, is_dirty}
 use Rattle.elf_object.specs.Open.{begun}
 use Rattle.elf_object.specs.Refusal.{unfit_segment, unfit_item, content_refusal, placing_refusal, refusal}
 use Rattle.elf_object.specs.Valid.{IsObject}
-use Rattle.command_objects.specs.Words.{is_among}
+use Rattle.elf_object.specs.Sections.{is_among}
 use Rattle.command_objects.specs.Removed.{removed_sections, removed_by_name}
 use Rattle.command_objects.specs.Arranged.{Rebuilt}
 use Rattle.command_objects.specs.Rebuilt.{rebuilt}

@@ -13,7 +13,7 @@ use Rattle.strtab_build.proofs.DistinctLemmas.{same_refl, distinct-append, disti
 use Rattle.strtab_build.proofs.TableLemmas.{place_of-append, place_of-distinct, table_same}
 use Rattle.elf_object.specs.Object.{Object}
 use Rattle.elf_object.specs.Strings.{section_name, or_empty_name}
-use Rattle.command_objects.specs.Words.{is_among}
+use Rattle.elf_object.specs.Sections.{is_among}
 use Rattle.command_objects.specs.Followed.{kept_from_1}
 use Rattle.command_objects.specs.Rebuilt.{kept_names}
 use Rattle.strip_removed.proofs.SetLaws.{range_more}

@@ -8,7 +8,7 @@ use Rattle.strtab_build.specs.Table.{distinct, table, place_of}
 use Rattle.elf_object.specs.Object.{Object}
 use Rattle.elf_object.specs.Due.{all_sections}
 use Rattle.elf_object.specs.Strings.{section_name, or_empty_name, readable, string_answer}
-use Rattle.command_objects.specs.Words.{is_among}
+use Rattle.elf_object.specs.Sections.{is_among}
 use Rattle.command_objects.specs.Followed.{kept_from_1}
 use Rattle.command_objects.specs.Rebuilt.{kept_names}
 use Rattle.strip_names.specs.Known.{AreHeld}

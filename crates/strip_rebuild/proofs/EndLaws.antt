@@ -12,7 +12,7 @@ use Rattle.elf_types.specs.Answers.{answered}
 use Rattle.elf_object.specs.Calls.{home_answer}
 use Rattle.elf_xlate.specs.Headers.{ehdr_size, phdr_size}
 use Rattle.elf_object.specs.Object.{Object, Section, section_at, header_of}
-use Rattle.command_objects.specs.Words.{is_among, greatest}
+use Rattle.elf_object.specs.Sections.{is_among, greatest}
 use Rattle.command_objects.specs.Arranged.{segment_end, loaded_end, base_end, tail_of}
 use Rattle.command_objects.specs.Followed.{kept_sections}
 use Rattle.command_objects.specs.Rebuilt.{rebuilt_tail}

@@ -19,7 +19,7 @@ use Rattle.elf_object.specs.Answers.{raw_refusal, words_of, syms_of}
 use Rattle.elf_object.specs.Valid.{IsObject}
 use Rattle.elf_descriptor.specs.State.{State}
 use Rattle.object_laws.proofs.KeepLaws.{section_at_is}
-use Rattle.command_objects.specs.Words.{header_at, is_among, is_loose}
+use Rattle.elf_object.specs.Sections.{header_at, is_among, is_loose}
 use Rattle.command_objects.specs.Followed.{Renumbering, kept_from_1, followed_header, followed_group, followed_syms, followed_words, symbols_follow, members_follow}
 use Rattle.strip_names.specs.declared.building.NewNames.{NewNames}
 use Rattle.strip_rebuild.specs.declared.naming.Names.{Names}

@@ -24,7 +24,7 @@ use Rattle.elf_object.specs.Calls.{newphdr_refusal, update_ehdr_refusal}
 use Rattle.elf_object.specs.Steps.{stored_ehdr}
 use Rattle.elf_object.specs.Valid.{IsObject}
 use Rattle.elf_object.proofs.PassedLaws.{not_refused}
-use Rattle.command_objects.specs.Words.{header_at, is_allocated, is_among, is_loose, is_of, number_or_0}
+use Rattle.elf_object.specs.Sections.{header_at, is_allocated, is_among, is_loose, is_of, number_or_0}
 use Rattle.command_objects.specs.Followed.{Renumbering, followed, kept_from_1, extended_table, has_indexes_of, is_the, indexes_follow, symbols_follow, members_follow}
 use Rattle.command_objects.specs.Rebuilt.{made_section, has_names_alone, renews_names, items_follow, kept_refusal, index_refusal, rebuilt_section, rebuilt_sections, rebuilt_index}
 use Rattle.object_making.specs.Making.{sections_by}

@@ -8,7 +8,7 @@ use Rattle.std.proofs.lemmas.List.FromFn.{get_or-range_with_len, length-range_wi
 use Rattle.elf_object.specs.Object.{Object}
 use Rattle.elf_object.specs.Due.{all_sections}
 use Rattle.elf_object.specs.Layout.{section_numbers}
-use Rattle.command_objects.specs.Words.{is_among}
+use Rattle.elf_object.specs.Sections.{is_among}
 use Rattle.command_objects.specs.Followed.{kept_from_1, kept_sections, renumbering}
 use Rattle.strip_items.specs.Numbers.{numbering_without}
 use Rattle.strip_removed.specs.Steps.{IsRemovable}

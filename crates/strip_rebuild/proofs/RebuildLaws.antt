@@ -23,7 +23,7 @@ use Rattle.elf_object.proofs.StepLaws.{first_refusal-met, first_refusal-more}
 use Rattle.elf_descriptor.specs.State.{State}
 use Rattle.elf_descriptor.specs.Edits.{StepsTo}
 use Rattle.command_objects.specs.Arranged.{Rebuilt, over_base, base_end, tail_of, tail_refusal, placed_from, arranged}
-use Rattle.command_objects.specs.Words.{is_among, is_program}
+use Rattle.elf_object.specs.Sections.{is_among, is_program}
 use Rattle.command_objects.specs.Followed.{kept_from_1}
 use Rattle.command_objects.specs.Rebuilt.{assembled, rebuilt, rebuild_refusal, rebuilt_object, rebuilt_sections, rebuilt_index, rebuilt_tail, renews_names, kept_names, table_refusal, kept_refusal, items_follow, index_refusal}
 use Rattle.object_making.specs.Based.{IsMadeOver}

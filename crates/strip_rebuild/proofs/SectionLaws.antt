@@ -21,7 +21,7 @@ use Rattle.elf_object.specs.Answers.{content, or_empty, items_at, words_of, syms
 use Rattle.elf_object.specs.Strings.{section_name, or_empty_name}
 use Rattle.elf_object.specs.Valid.{IsObject}
 use Rattle.elf_object.proofs.PassedLaws.{none_first, not_refused}
-use Rattle.command_objects.specs.Words.{header_at, is_among, is_loose}
+use Rattle.elf_object.specs.Sections.{header_at, is_among, is_loose}
 use Rattle.command_objects.specs.Followed.{renumbering, Renumbering, kept_from_1, followed_header, followed_group, followed_syms, followed_words, symbols_follow, members_follow, indexes_follow, extended_table, is_the, words_for, syms_in}
 use Rattle.command_objects.specs.Rebuilt.{made_section, renews_names, kept_names, kept_refusal, kept_items, items_follow, rebuilt_items, rebuilt_name, rebuilt_header, rebuilt_section, rebuilt_sections}
 use Rattle.object_making.specs.Making.{sections_by}

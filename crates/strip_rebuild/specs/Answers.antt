@@ -14,7 +14,7 @@ use Rattle.elf_object.specs.Due.{homes_due}
 use Rattle.elf_object.specs.Steps.{with_sections}
 use Rattle.elf_descriptor.specs.State.{State}
 use Rattle.command_objects.specs.Arranged.{Rebuilt}
-use Rattle.command_objects.specs.Words.{header_at, number_or_0}
+use Rattle.elf_object.specs.Sections.{header_at, number_or_0}
 use Rattle.command_objects.specs.Followed.{kept_from_1, symbols_follow, members_follow, indexes_follow, extended_table}
 use Rattle.command_objects.specs.Rebuilt.{assembled, rebuilt, kept_refusal, index_refusal, rebuilt_sections, rebuilt_index, rebuilt_tail}
 use Rattle.object_making.specs.Making.{sections_by}

@@ -4,7 +4,7 @@ use Rattle.elf_types.specs.declared.records.Phdr.{Phdr}
 use Rattle.elf_types.specs.declared.records.Shdr.{Shdr}
 use Rattle.elf_types.specs.declared.constants.TheConstants.{PT_NULL}
 use Rattle.elf_object.specs.Object.{Object, section_at}
-use Rattle.command_objects.specs.Words.{is_allocated, is_among}
+use Rattle.elf_object.specs.Sections.{is_allocated, is_among}
 use Rattle.command_objects.specs.Arranged.{loaded_end}
 
 -- a number, and 2^64 - 1 where it is more

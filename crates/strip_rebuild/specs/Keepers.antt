@@ -9,7 +9,7 @@ use Rattle.elf_xlate.specs.declared.content.Items.{Items}
 use Rattle.elf_xlate.specs.declared.content.Items.TheVariants as items
 use Rattle.elf_object.specs.Object.{Object}
 use Rattle.elf_object.specs.Answers.{raw_refusal, words_of, syms_of}
-use Rattle.command_objects.specs.Words.{header_at, is_among}
+use Rattle.elf_object.specs.Sections.{header_at, is_among}
 use Rattle.command_objects.specs.Followed.{renumbering, kept_from_1, followed, followed_header, followed_group, followed_syms, followed_words, symbols_follow, members_follow}
 use Rattle.command_objects.specs.Rebuilt.{renews_names, kept_names, table_refusal}
 use Rattle.strip_kept.specs.Tables.{extended_tables}

@@ -3,7 +3,7 @@
 ghost use Rattle.std.specs.Prelude.{◌≡◌, ◌==◌, ◌<◌, ◌∷◌, [], length, slice_index, None, IfSome};
 ghost use Rattle.elf_xlate.specs.declared.content.Items.TheVariants as items;
 ghost use Rattle.elf_object.specs.Answers.{syms_of};
-ghost use Rattle.command_objects.specs.Words.{header_at};
+ghost use Rattle.elf_object.specs.Sections.{header_at};
 ghost use Rattle.command_objects.specs.Followed.{followed_syms, followed_words};
 ghost use Rattle.strip_rebuild.specs.Homes.{home_items, home_refusal, syms_found};
 ghost use Rattle.strip_rebuild.specs.Makes.{Makes, FitsAs};

@@ -3,7 +3,7 @@
 ghost use Rattle.std.specs.Prelude.{◌≡◌, ◌⊎◌, [], false, IfOk, IfErr};
 ghost use Rattle.elf_types.specs.declared.errors.ElfError.TheVariants.{Memory, Read};
 ghost use Rattle.elf_object.specs.Due.{homes_due};
-ghost use Rattle.command_objects.specs.Words.{is_among};
+ghost use Rattle.elf_object.specs.Sections.{is_among};
 ghost use Rattle.strip_removed.specs.Calls.{names_home};
 ghost use Rattle.strip_rebuild.specs.Keepers.{KeepsFor};
 ghost use Rattle.strip_rebuild.specs.Makes.{AsksFor};

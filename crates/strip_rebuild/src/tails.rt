@@ -4,7 +4,7 @@ ghost use Rattle.std.specs.Prelude.{◌≡◌, ◌<◌, ◌+◌, ◌*◌, length
 ghost use Rattle.elf_xlate.specs.Headers.{phdr_size};
 ghost use Rattle.elf_object.specs.Object.{section_at};
 ghost use Rattle.command_objects.specs.Arranged.{segment_end, loaded_end};
-ghost use Rattle.command_objects.specs.Words.{greatest};
+ghost use Rattle.elf_object.specs.Sections.{greatest};
 ghost use Rattle.command_objects.specs.Followed.{kept_sections};
 ghost use Rattle.command_objects.specs.Rebuilt.{rebuilt_tail};
 ghost use Rattle.strip_rebuild.specs.Ends.{at_most_word, is_bare, home_end, kept_end};

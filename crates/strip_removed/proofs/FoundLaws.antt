@@ -7,7 +7,7 @@ use Rattle.elf_types.specs.declared.errors.ElfError.{ElfError}
 use Rattle.elf_object.specs.Object.{Object}
 use Rattle.elf_object.specs.Words.{Wants, Answers}
 use Rattle.elf_object.specs.Strings.{section_name, is_name}
-use Rattle.command_objects.specs.Words.{is_allocated, header_at, is_among}
+use Rattle.elf_object.specs.Sections.{is_allocated, header_at, is_among}
 use Rattle.command_objects.specs.Removed.{is_named, is_debug_data, has_debug_name, is_debug_name}
 use Rattle.sought_names.specs.Names.{is_sought}
 use Rattle.strip_removed.specs.Steps.{goes_by_name, goes, may_go, AreApart}

@@ -2,7 +2,7 @@
 use Rattle.std.specs.Prelude.{◌≡◌, ℕ, Bool, true, not, ◌==◌, ◌&&◌, ◌||◌, List}
 use Rattle.elf_types.specs.declared.constants.TheConstants.{SHT_SYMTAB, SHT_STRTAB, SHT_GROUP}
 use Rattle.elf_object.specs.Object.{Object}
-use Rattle.command_objects.specs.Words.{is_allocated, is_relocations, header_at, is_among}
+use Rattle.elf_object.specs.Sections.{is_allocated, is_relocations, header_at, is_among}
 use Rattle.strip_removed.specs.Steps.{linked_by}
 
 -- ---- Step 3

@@ -4,7 +4,7 @@ ghost use Rattle.std.specs.Prelude.{◌≡◌, ◌<◌, ◌≤◌, ◌+◌, ◌+
 ghost use Rattle.std.specs.Option.{option_copied};
 ghost use Rattle.elf_types.specs.declared.errors.ElfError.TheVariants.{Memory};
 ghost use Rattle.elf_object.specs.Due.{all_sections};
-ghost use Rattle.command_objects.specs.Words.{is_allocated, header_at};
+ghost use Rattle.elf_object.specs.Sections.{is_allocated, header_at};
 ghost use Rattle.command_objects.specs.Removed as rules;
 ghost use Rattle.strip_removed.specs.Steps.{IsRemovable, AreApart, goes, goes_by_name, may_go};
 ghost use Rattle.elf_object.specs.Words.{Answers};

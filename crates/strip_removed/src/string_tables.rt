@@ -3,7 +3,7 @@
 ghost use Rattle.std.specs.Prelude.{◌≡◌, true, not, IfOk, IfErr};
 ghost use Rattle.elf_types.specs.declared.errors.ElfError.TheVariants.{Memory};
 ghost use Rattle.command_objects.specs.Removed as rules;
-ghost use Rattle.command_objects.specs.Words.{is_among};
+ghost use Rattle.elf_object.specs.Sections.{is_among};
 ghost use Rattle.strip_removed.specs.Users.{is_left_by, AreUsers};
 
 use crate::headers::is_allocated;

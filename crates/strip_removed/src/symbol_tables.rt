@@ -4,7 +4,7 @@ ghost use Rattle.std.specs.Prelude.{◌≡◌, ◌==◌, ◌&&◌, not, IfOk, If
 ghost use Rattle.elf_types.specs.declared.errors.ElfError.TheVariants.{Memory};
 ghost use Rattle.elf_types.specs.declared.constants.TheConstants.{SHT_SYMTAB};
 ghost use Rattle.command_objects.specs.Removed as rules;
-ghost use Rattle.command_objects.specs.Words as words;
+ghost use Rattle.elf_object.specs.Sections as words;
 ghost use Rattle.strip_removed.specs.Users.{needs_some, is_unneeded_by};
 
 use crate::headers::{is_allocated, is_relocations};

@@ -18,7 +18,7 @@ use Rattle.elf_object.specs.Joined.{aligned_pieces, piece_blocks, pieces_end, fi
 use Rattle.elf_object.specs.Object.{Object, Section, section_at, absent_section, has_file_bytes, header_of}
 use Rattle.elf_object.specs.Steps.{with_ehdr, stored_ehdr}
 use Rattle.elf_object.specs.Layout.{section_part, table_part, table_alignment}
-use Rattle.command_objects.specs.Words.{header_at}
+use Rattle.elf_object.specs.Sections.{header_at}
 use Rattle.command_objects.specs.Arranged.{place_from, section_from, parts_from, placed_from, table_place_from, tail_refusal}
 use Rattle.object_making.specs.Placing.{is_movable, end_below, sections_from, MayStand}
 use Rattle.object_making.proofs.TailLaws.{walk_begins, walk_goes_on, walk_stops, section_stands, section_keeps, first_keeps, table_found}

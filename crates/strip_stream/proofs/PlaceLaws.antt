@@ -8,7 +8,7 @@ use Rattle.elf_object.specs.Joined.{pieces_end}
 use Rattle.elf_object.specs.Layout.{section_part}
 use Rattle.object_laws.proofs.ImageLaws.{length-joined}
 use Rattle.object_laws.proofs.StandLaws.{file_bytes_when}
-use Rattle.command_objects.specs.Words.{is_allocated, header_at}
+use Rattle.elf_object.specs.Sections.{is_allocated, header_at}
 use Rattle.object_making.specs.Placing.{is_movable, FitsBehind, MayStand}
 use Rattle.object_making.proofs.PlaceLaws.{limit_small, stays_behind, goes_behind}
 use Rattle.listed_layout.specs.Listing.{IsRow}

@@ -5,7 +5,7 @@ use Rattle.elf_types.specs.declared.records.Shdr.{Shdr}
 use Rattle.elf_layout.specs.Layout.{place_of}
 use Rattle.elf_object.specs.Object.{Object}
 use Rattle.elf_object.specs.Layout.{section_part}
-use Rattle.command_objects.specs.Words.{header_at}
+use Rattle.elf_object.specs.Sections.{header_at}
 use Rattle.object_making.specs.Placing.{is_movable, end_with, MayStand}
 
 -- the header with its place behind an end, where the section is placed

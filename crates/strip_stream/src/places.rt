@@ -5,7 +5,7 @@ ghost use Rattle.std.specs.Option.{SomeIff};
 ghost use Rattle.elf_layout.specs.Layout.{place_of, end_after, limit_of};
 ghost use Rattle.elf_object.specs.Object.{Object, is_null};
 ghost use Rattle.elf_object.specs.Layout as stated;
-ghost use Rattle.command_objects.specs.Words.{is_allocated};
+ghost use Rattle.elf_object.specs.Sections.{is_allocated};
 ghost use Rattle.object_making.specs.Placing.{is_movable, FitsBehind};
 ghost use Rattle.listed_layout.specs.Listing.{IsRow};
 ghost use Rattle.strip_stream.specs.Places.{IsArranged};

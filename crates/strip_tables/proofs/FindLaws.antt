@@ -25,7 +25,7 @@ use Rattle.elf_object.proofs.AnswerLaws.{piece_kind_value}
 use Rattle.elf_object.proofs.PassedLaws.{none_first, none_rest}
 use Rattle.object_laws.proofs.KeepLaws.{section_at_is}
 use Rattle.object_making.proofs.RefusedLaws.{alone, passes_first}
-use Rattle.command_objects.specs.Words.{header_at}
+use Rattle.elf_object.specs.Sections.{header_at}
 use Rattle.command_objects.specs.Followed.{followed_syms, followed_words, symbols_follow, members_follow}
 use Rattle.strip_rebuild.specs.declared.naming.Names.{Names}
 use Rattle.strip_rebuild.specs.declared.naming.Names.TheVariants.{Stay, Anew, TooLarge}

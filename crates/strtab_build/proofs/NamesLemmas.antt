@@ -1,152 +1,257 @@
--- How the entries and the chains grow with the names, and what a chain finds.
-use Rattle.std.proofs.Common.{◌≡◌, ◌+◌, ◌<◌, ◌≤◌, ℕ, zero, suc, Bool, true, false, cond, eqb, List, [], ◌∷◌, ◌++◌, length, get_or, take, drop, map, Option, Some, None, refl, sym, ap, subst, ◌∙◌, arith, append_assoc, append-nil, drop-cons}
+-- How the entries and the chains grow with the names, and what a walk along a chain finds.
+use Rattle.std.proofs.Common.{◌≡◌, ◌+◌, ◌<◌, ◌≤◌, ◌&&◌, ◌==◌, ℕ, zero, suc, Bool, true, false, cond, eqb, List, [], ◌∷◌, ◌++◌, length, get_or, take, drop, map, Option, Some, None, refl, sym, ap, subst, ◌∙◌, arith, append_assoc, append-nil, length-append}
+use Rattle.std.specs.Prelude.{MatchOption}
 use Rattle.std.specs.List.{list_any}
-use Rattle.std.specs.Option.{option_map_or}
+use Rattle.std.specs.Map.{lookup}
 use Rattle.std.specs.Str.{bytes_eq}
-use Rattle.std.proofs.lemmas.Bool.{eqb-true, eqb-false, false_from_ne_true, or_from}
-use Rattle.std.proofs.lemmas.List.{drop-drop, drop_at, take_at, take_all, drop_all, drop-append-le, take-append-drop, get_or-take, length-take}
+use Rattle.std.proofs.lemmas.Bool.{eqb-true, eq-eqb, ne_eqb, or_from}
+use Rattle.std.proofs.lemmas.List.{drop-drop, drop_at, take_at, take_all, take_more}
+use Rattle.std.proofs.lemmas.List.Elements.{filter-append}
 use Rattle.std.proofs.lemmas.List.Folds.{list_any-append}
-use Rattle.strtab_build.specs.Names.{unclosed, entry_after, entries_after, hash_of, later, name_in, names_in, newest_of}
+use Rattle.std.proofs.lemmas.List.Sums.{count_by-le-length, length-filter}
+use Rattle.std.proofs.lemmas.Map.Views.{any-filter_same}
+use Rattle.strtab_build.specs.Names.{unclosed, chain_of, key_after, entry_after, entries_after, hash_of, name_in, names_in}
 use Rattle.strtab_build.specs.declared.entries.Entry.{Entry}
 use Rattle.strtab_build.proofs.DistinctLemmas.{same_true}
 use Rattle.strtab_build.proofs.TableLemmas.{unclosed-push}
 
+-- a name's key and its entry
+abbrev pub keyed_after : List (List ℕ) → List ℕ → (ℕ × ℕ) × Entry
+keyed_after earlier name = (key_after earlier name, entry_after earlier name)
+
 -- one more name has one more entry
-pub entries_after-push : (earlier names : List (List ℕ)) (n : List ℕ) → entries_after earlier (names ++ n ∷ []) ≡ entries_after earlier names ++ entry_after (earlier ++ names) n ∷ []
+pub entries_after-push : (earlier names : List (List ℕ)) (n : List ℕ)
+    → entries_after earlier (names ++ n ∷ [])
+    ≡ entries_after earlier names ++ keyed_after (earlier ++ names) n ∷ []
 unfolding entries_after
-entries_after-push earlier [] n = ap (λ d. entry_after d n ∷ []) (sym (append-nil earlier))
+entries_after-push earlier [] n = ap (λ d. keyed_after d n ∷ []) (sym (append-nil earlier))
 entries_after-push earlier (m ∷ names) n =
-    ap (λ d. entry_after earlier m ∷ d) (entries_after-push (earlier ++ m ∷ []) names n ∙ ap (λ d. entries_after (earlier ++ m ∷ []) names ++ entry_after d n ∷ []) (append_assoc earlier (m ∷ []) names))
+    ap (λ d. keyed_after earlier m ∷ d) (entries_after-push (earlier ++ m ∷ []) names n
+    ∙ ap (λ d. entries_after (earlier ++ m ∷ []) names ++ keyed_after d n ∷ [])
+    (append_assoc earlier (m ∷ []) names))
 
 -- the entry at an index
-pub get_or-entries_after : (earlier names : List (List ℕ)) (i : ℕ) (d : Entry) → i < length names → get_or (entries_after earlier names) i d ≡ entry_after (earlier ++ take i names) (get_or names i [])
+pub get_or-entries_after : (earlier names : List (List ℕ)) (i : ℕ) (d : (ℕ × ℕ) × Entry)
+    → i < length names → get_or (entries_after earlier names) i d
+    ≡ keyed_after (earlier ++ take i names) (get_or names i [])
 unfolding entries_after
 get_or-entries_after earlier [] i d h = absurd (omega arith)
-get_or-entries_after earlier (m ∷ names) zero d h = ap (λ e. entry_after e m) (sym (append-nil earlier))
+get_or-entries_after earlier (m ∷ names) zero d h =
+    ap (λ e. keyed_after e m) (sym (append-nil earlier))
 get_or-entries_after earlier (m ∷ names) (suc i) d h =
-    get_or-entries_after (earlier ++ m ∷ []) names i d (omega arith) ∙ ap (λ e. entry_after e (get_or names i [])) (append_assoc earlier (m ∷ []) (take i names))
+    get_or-entries_after (earlier ++ m ∷ []) names i d (omega arith)
+    ∙ ap (λ e. keyed_after e (get_or names i [])) (append_assoc earlier (m ∷ []) (take i names))
 
-pub length-entries_after : (earlier names : List (List ℕ)) → length (entries_after earlier names) ≡ length names
+pub length-entries_after : (earlier names : List (List ℕ))
+    → length (entries_after earlier names) ≡ length names
 unfolding entries_after
 length-entries_after earlier [] = refl
 length-entries_after earlier (n ∷ names) = ap suc (length-entries_after (earlier ++ n ∷ []) names)
 
 -- a name's bytes stand behind those before it and a NUL
-name_behind : (front n more : List ℕ) → take (length n) (drop (length front + 1) (front ++ 0 ∷ (n ++ more))) ≡ n
+name_behind : (front n more : List ℕ)
+    → take (length n) (drop (length front + 1) (front ++ 0 ∷ (n ++ more))) ≡ n
 name_behind front n more =
-    ap (take (length n)) (sym (drop-drop 1 (length front) (front ++ 0 ∷ (n ++ more))) ∙ ap (drop 1) (drop_at front (0 ∷ (n ++ more)) (length front) refl)) ∙ take_at n more (length n) refl
+    ap (take (length n)) (sym (drop-drop 1 (length front) (front ++ 0 ∷ (n ++ more)))
+    ∙ ap (drop 1) (drop_at front (0 ∷ (n ++ more)) (length front) refl))
+    ∙ take_at n more (length n) refl
 
-names_in-after : (earlier names : List (List ℕ)) (more : List ℕ) → map (name_in (unclosed earlier ++ (unclosed names ++ more))) (entries_after earlier names) ≡ names
+names_in-after : (earlier names : List (List ℕ)) (more : List ℕ)
+    → map (λ keyed. name_in (unclosed earlier ++ (unclosed names ++ more)) keyed.1)
+    (entries_after earlier names) ≡ names
 unfolding unclosed entries_after
 names_in-after earlier [] more = refl
 names_in-after earlier (n ∷ names) more =
     let rest = unclosed names ++ more in
-    let whole : unclosed earlier ++ (0 ∷ (n ++ unclosed names) ++ more) ≡ unclosed earlier ++ (0 ∷ (n ++ rest)) = ap (λ d. unclosed earlier ++ 0 ∷ d) (append_assoc n (unclosed names) more) in
-    let moved : unclosed earlier ++ (0 ∷ (n ++ unclosed names) ++ more) ≡ unclosed (earlier ++ n ∷ []) ++ rest =
-    whole ∙ sym (append_assoc (unclosed earlier) (0 ∷ n) rest) ∙ ap (λ d. d ++ rest) (sym (unclosed-push earlier n)) in
-    let first = ap (λ b. name_in b (entry_after earlier n)) whole ∙ name_behind (unclosed earlier) n rest in
-    let others = ap (λ b. map (name_in b) (entries_after (earlier ++ n ∷ []) names)) moved ∙ names_in-after (earlier ++ n ∷ []) names more in
+    let whole : unclosed earlier ++ (0 ∷ (n ++ unclosed names) ++ more)
+    ≡ unclosed earlier ++ (0 ∷ (n ++ rest)) =
+    ap (λ d. unclosed earlier ++ 0 ∷ d) (append_assoc n (unclosed names) more) in
+    let moved : unclosed earlier ++ (0 ∷ (n ++ unclosed names) ++ more)
+    ≡ unclosed (earlier ++ n ∷ []) ++ rest =
+    whole ∙ sym (append_assoc (unclosed earlier) (0 ∷ n) rest)
+    ∙ ap (λ d. d ++ rest) (sym (unclosed-push earlier n)) in
+    let first = ap (λ b. name_in b (entry_after earlier n)) whole
+    ∙ name_behind (unclosed earlier) n rest in
+    let others = ap (λ b. map (λ keyed. name_in b keyed.1)
+    (entries_after (earlier ++ n ∷ []) names)) moved
+    ∙ names_in-after (earlier ++ n ∷ []) names more in
     λ j. first j ∷ others j
 
 -- the bytes and the entries of names stand for them
-pub names_in_is : (names : List (List ℕ)) → names_in (unclosed names) (entries_after [] names) ≡ names
+pub names_in_is : (names : List (List ℕ))
+    → names_in (unclosed names) (entries_after [] names) ≡ names
 unfolding names_in unclosed
-names_in_is names = ap (λ d. map (name_in d) (entries_after [] names)) (sym (append-nil (unclosed names))) ∙ names_in-after [] names []
+names_in_is names =
+    ap (λ d. map (λ keyed. name_in d keyed.1) (entries_after [] names))
+    (sym (append-nil (unclosed names))) ∙ names_in-after [] names []
 
-pub newest_of-push : (hash : ℕ) (names : List (List ℕ)) (n : List ℕ) → newest_of hash (names ++ n ∷ []) ≡ cond (eqb (hash_of n) hash) (Some (length names)) (newest_of hash names)
-unfolding newest_of
-newest_of-push hash [] n = refl
-newest_of-push hash (m ∷ names) n = ap (λ o. later o (first)) (newest_of-push hash names n) ∙ by (eqb (hash_of n) hash)
-  where
-    first : Option ℕ
-    first = cond (eqb (hash_of m) hash) (Some 0) None
+-- ---- What a key finds
 
-    by : (b : Bool) → later (cond b (Some (length names)) (newest_of hash names)) first ≡ cond b (Some (suc (length names))) (later (newest_of hash names) first)
-    by true = refl
-    by false = refl
+-- a chain grows by the names with its hash
+chain-here : (h : ℕ) (earlier : List (List ℕ)) (m : List ℕ) → eqb h (hash_of m) ≡ true
+    → length (chain_of h (earlier ++ m ∷ [])) ≡ length (chain_of h earlier) + 1
+chain-here h earlier m e =
+    ap length (filter-append (λ name. h == hash_of name) earlier (m ∷ []))
+    ∙ length-append (chain_of h earlier) (chain_of h (m ∷ []))
+    ∙ ap (λ b. length (chain_of h earlier) + length (cond b (m ∷ []) [])) e
 
--- where no name has the hash, a name with it is not there
-pub newest_none : (hash : ℕ) (names : List (List ℕ)) → newest_of hash names ≡ None → (n : List ℕ) → hash_of n ≡ hash → list_any (bytes_eq n) names ≡ false
-unfolding newest_of
-newest_none hash [] h n e = refl
-newest_none hash (m ∷ names) h n e = by (newest_of hash names) refl (eqb (hash_of m) hash) refl (λ p. newest_none hash names p n e)
-  where
-    by : (o : Option ℕ) → newest_of hash names ≡ o → (b : Bool) → eqb (hash_of m) hash ≡ b → (newest_of hash names ≡ None → list_any (bytes_eq n) names ≡ false) → list_any (bytes_eq n) (m ∷ names) ≡ false
-    by (Some j) p b q rest =
-        let bad : ◌≡◌ {A = Option ℕ} (Some (suc j)) None = sym (ap (λ o. later o (cond (eqb (hash_of m) hash) (Some 0) None)) p) ∙ h in cc
-    by None p true q rest =
-        let bad : ◌≡◌ {A = Option ℕ} (Some 0) None = sym (ap (λ o. later o (cond (eqb (hash_of m) hash) (Some 0) None)) p ∙ ap (λ b. cond b (Some 0) None) q) ∙ h in cc
-    by None p false q rest =
-        or_from _ _ (false_from_ne_true (bytes_eq n m) (λ s. eqb-false (hash_of m) hash q (sym (ap hash_of (same_true n m s)) ∙ e))) (rest p)
+chain-other : (h : ℕ) (earlier : List (List ℕ)) (m : List ℕ) → eqb h (hash_of m) ≡ false
+    → length (chain_of h (earlier ++ m ∷ [])) ≡ length (chain_of h earlier)
+chain-other h earlier m e =
+    let long = ap length (filter-append (λ name. h == hash_of name) earlier (m ∷ []))
+    ∙ length-append (chain_of h earlier) (chain_of h (m ∷ []))
+    ∙ ap (λ b. length (chain_of h earlier) + length (cond b (m ∷ []) [])) e in
+    omega (arith, long)
 
--- the name at an index has the hash, and none after it has
-record IsNewest (hash : ℕ) (names : List (List ℕ)) (i : ℕ) : Type 0 where
-  within : i < length names
-  hashed : hash_of (get_or names i []) ≡ hash
-  after : (n : List ℕ) → hash_of n ≡ hash → list_any (bytes_eq n) (drop (suc i) names) ≡ false
+-- a chain is no longer than the names
+pub length_le-chain : (h : ℕ) (names : List (List ℕ)) → length (chain_of h names) ≤ length names
+length_le-chain h names =
+    omega (
+      arith,
+      length-filter (λ name. h == hash_of name) names,
+      count_by-le-length (λ name. h == hash_of name) names,
+    )
 
-newest_some : (hash : ℕ) (names : List (List ℕ)) (i : ℕ) → newest_of hash names ≡ Some i → IsNewest hash names i
-unfolding newest_of
-newest_some hash [] i h = cc
-newest_some hash (m ∷ names) i h = by (newest_of hash names) refl (eqb (hash_of m) hash) refl (newest_some hash names)
-  where
-    by : (o : Option ℕ) → newest_of hash names ≡ o → (b : Bool) → eqb (hash_of m) hash ≡ b → ((k : ℕ) → newest_of hash names ≡ Some k → IsNewest hash names k) → IsNewest hash (m ∷ names) i
-    by (Some j) p b q rest =
-        let found : Some (suc j) ≡ Some i = sym (ap (λ o. later o (cond (eqb (hash_of m) hash) (Some 0) None)) p) ∙ h in
-        let index : suc j ≡ i = cc in
-        let r = rest j p in
-        subst (IsNewest hash (m ∷ names)) index (record { within = omega (arith, r.within); hashed = r.hashed; after = r.after })
-    by None p true q rest =
-        let found : Some 0 ≡ Some i = sym (ap (λ o. later o (cond (eqb (hash_of m) hash) (Some 0) None)) p ∙ ap (λ b. cond b (Some 0) None) q) ∙ h in
-        let index : 0 ≡ i = cc in
-        subst (IsNewest hash (m ∷ names)) index (record { within = omega arith; hashed = eqb-true (hash_of m) hash q; after = newest_none hash names p })
-    by None p false q rest =
-        let bad : None ≡ Some i = sym (ap (λ o. later o (cond (eqb (hash_of m) hash) (Some 0) None)) p ∙ ap (λ b. cond b (Some 0) None) q) ∙ h in cc
+-- the test of a key
+abbrev pub is_key : ℕ × ℕ → ℕ × ℕ → Bool
+is_key x y = (x.0 == y.0) && (x.1 == y.1)
 
--- the newest of the first names stands before the others
-pub newest_before : (hash : ℕ) (names : List (List ℕ)) (i : ℕ) (o : Option ℕ) → o ≡ newest_of hash (take i names) → option_map_or (λ k. k + 1) o 0 ≤ i
-newest_before hash names i None h = omega arith
-newest_before hash names i (Some k) h = omega (arith, (newest_some hash (take i names) k (sym h)).within, length-take i names)
+-- an entry is that of the name that is so far along the chain
+pub record IsAlong (h : ℕ) (earlier names : List (List ℕ)) (k : ℕ) (entry : Entry) : Type 0 where
+  pub index : ℕ
+  pub below : index < length names
+  pub along : k < length (chain_of h names)
+  pub same : get_or (chain_of h names) k [] ≡ get_or names index []
+  pub entry_is : entry ≡ entry_after (earlier ++ take index names) (get_or names index [])
 
--- a walk for a name along its chain: the cursor is the newest of those names that were not passed, and no other can be it
-pub record Seeks (n : List ℕ) (names : List (List ℕ)) (cursor : Option ℕ) : Type 0 where
-  pub bound : ℕ
-  pub here : cursor ≡ newest_of (hash_of n) (take bound names)
-  pub passed : list_any (bytes_eq n) (drop bound names) ≡ false
-
--- the walk begins at the chain's head
-pub Seeks-start : (n : List ℕ) (names : List (List ℕ)) (cursor : Option ℕ) → cursor ≡ newest_of (hash_of n) names → Seeks n names cursor
-Seeks-start n names cursor h = record {
-  bound = length names;
-  here = h ∙ ap (newest_of (hash_of n)) (sym (take_all (length names) names (omega arith)));
-  passed = ap (list_any (bytes_eq n)) (drop_all (length names) names (omega arith));
+-- the same behind a name more
+behind : (h : ℕ) (earlier : List (List ℕ)) (m : List ℕ) (names : List (List ℕ)) (k k' : ℕ)
+    (o : Option Entry) → length (chain_of h (m ∷ names)) + k' ≡ length (chain_of h names) + k
+    → get_or (chain_of h (m ∷ names)) k [] ≡ get_or (chain_of h names) k' []
+    → MatchOption o (length (chain_of h names) ≤ k') (IsAlong h (earlier ++ m ∷ []) names k')
+    → MatchOption o (length (chain_of h (m ∷ names)) ≤ k) (IsAlong h earlier (m ∷ names) k)
+behind h earlier m names k k' None long same found = omega (arith, long, found)
+behind h earlier m names k k' (Some e) long same found = record {
+  index = suc found.index;
+  below = omega (arith, found.below);
+  along = omega (arith, long, found.along);
+  same = same ∙ found.same;
+  entry_is = found.entry_is ∙ ap (λ d. entry_after d (get_or names found.index []))
+      (append_assoc earlier (m ∷ []) (take found.index names));
 }
 
--- a walk that ends has not found the name
-pub Seeks-end : (n : List ℕ) (names : List (List ℕ)) → Seeks n names None → list_any (bytes_eq n) names ≡ false
-Seeks-end n names s =
-    ap (list_any (bytes_eq n)) (sym (take-append-drop s.bound names)) ∙ list_any-append (bytes_eq n) (take s.bound names) (drop s.bound names)
-    ∙ or_from _ _ (newest_none (hash_of n) (take s.bound names) (sym s.here) n refl) s.passed
+found_after : (h q : ℕ) (earlier names : List (List ℕ)) (k : ℕ)
+    → q ≡ length (chain_of h earlier) + k
+    → MatchOption (lookup (is_key (h, q)) (entries_after earlier names))
+    (length (chain_of h names) ≤ k) (IsAlong h earlier names k)
+unfolding entries_after
+found_after h q earlier [] k is = omega arith
+found_after h q earlier (m ∷ names) k is =
+    by (eqb h (hash_of m)) refl k is (λ j at. found_after h q (earlier ++ m ∷ []) names j at)
+  where
+    rest : Option Entry
+    rest = lookup (is_key (h, q)) (entries_after (earlier ++ m ∷ []) names)
 
--- the cursor is the index of a name
-pub Seeks-within : (n : List ℕ) (names : List (List ℕ)) (i : ℕ) → Seeks n names (Some i) → i < length names
-Seeks-within n names i s =
-    let found = newest_some (hash_of n) (take s.bound names) i (sym s.here) in
-    omega (arith, found.within, length-take s.bound names)
+    -- what the entries find, by whether the first has the hash and the number
+    finds : Bool → Bool → Option Entry
+    finds hashed counted = cond (hashed && counted) (Some (entry_after earlier m)) rest
+
+    Along : ℕ → Option Entry → Type 0
+    Along k o =
+        MatchOption o (length (chain_of h (m ∷ names)) ≤ k) (IsAlong h earlier (m ∷ names) k)
+
+    by : (b : Bool) → eqb h (hash_of m) ≡ b → (k : ℕ) → q ≡ length (chain_of h earlier) + k
+        → ((j : ℕ) → q ≡ length (chain_of h (earlier ++ m ∷ [])) + j
+        → MatchOption rest (length (chain_of h names) ≤ j) (IsAlong h (earlier ++ m ∷ []) names j))
+        → Along k (finds (eqb h (hash_of m)) (eqb q (length (chain_of (hash_of m) earlier))))
+    by true e zero at more =
+        let chain : chain_of h (m ∷ names) ≡ m ∷ chain_of h names =
+        ap (λ b. cond b (m ∷ chain_of h names) (chain_of h names)) e in
+        let hashed = ap (λ x. length (chain_of x earlier)) (eqb-true h (hash_of m) e) in
+        let counted : eqb q (length (chain_of (hash_of m) earlier)) ≡ true =
+        eq-eqb q (length (chain_of (hash_of m) earlier)) (omega (arith, at, hashed)) in
+        let long = ap length chain in
+        subst (Along 0) (sym (λ j. finds (e j) (counted j))) (record {
+          index = 0;
+          below = omega arith;
+          along = omega (arith, long);
+          same = ap (λ d. get_or d 0 []) chain;
+          entry_is = ap (λ d. entry_after d m) (sym (append-nil earlier));
+        })
+    by true e (suc k) at more =
+        let chain : chain_of h (m ∷ names) ≡ m ∷ chain_of h names =
+        ap (λ b. cond b (m ∷ chain_of h names) (chain_of h names)) e in
+        let hashed = ap (λ x. length (chain_of x earlier)) (eqb-true h (hash_of m) e) in
+        let counted : eqb q (length (chain_of (hash_of m) earlier)) ≡ false =
+        ne_eqb q (length (chain_of (hash_of m) earlier))
+        (λ (s : q ≡ length (chain_of (hash_of m) earlier)). omega (arith, at, hashed, s)) in
+        let grown = chain-here h earlier m e in
+        let long = ap length chain in
+        subst (Along (suc k)) (sym (λ j. finds (e j) (counted j)))
+        (behind h earlier m names (suc k) k rest (omega (arith, long))
+        (ap (λ d. get_or d (suc k) []) chain) (more k (omega (arith, at, grown))))
+    by false e k at more =
+        let chain : chain_of h (m ∷ names) ≡ chain_of h names =
+        ap (λ b. cond b (m ∷ chain_of h names) (chain_of h names)) e in
+        let grown = chain-other h earlier m e in
+        let long = ap length chain in
+        subst (Along k)
+        (sym (λ j. finds (e j) (eqb q (length (chain_of (hash_of m) earlier)))))
+        (behind h earlier m names k k rest (omega (arith, long)) (ap (λ d. get_or d k []) chain)
+        (more k (omega (arith, at, grown))))
+
+-- a hash and a number find the name that is so far along the chain, or the chain is no longer
+pub found_is : (h k : ℕ) (names : List (List ℕ))
+    → MatchOption (lookup (is_key (h, k)) (entries_after [] names)) (length (chain_of h names) ≤ k)
+    (IsAlong h [] names k)
+found_is h k names = found_after h k [] names k (omega arith)
+
+-- the key of a new name is free
+pub key_free : (names : List (List ℕ)) (n : List ℕ)
+    → lookup (is_key (key_after names n)) (entries_after [] names) ≡ None
+key_free names n =
+    by (lookup (is_key (key_after names n)) (entries_after [] names))
+    (found_is (hash_of n) (length (chain_of (hash_of n) names)) names)
+  where
+    by : (o : Option Entry) → MatchOption o
+        (length (chain_of (hash_of n) names) ≤ length (chain_of (hash_of n) names))
+        (IsAlong (hash_of n) [] names (length (chain_of (hash_of n) names))) → o ≡ None
+    by None found = refl
+    by (Some e) found = absurd (omega (arith, found.along))
+
+-- ---- A walk along a chain
+
+-- so many names of a name's chain are passed, and none is the name
+pub record Seeks (n : List ℕ) (names : List (List ℕ)) (passed : ℕ) : Type 0 where
+  pub within : passed ≤ length (chain_of (hash_of n) names)
+  pub others : list_any (bytes_eq n) (take passed (chain_of (hash_of n) names)) ≡ false
+
+none_first : (n : List ℕ) (chain : List (List ℕ)) → list_any (bytes_eq n) (take 0 chain) ≡ false
+none_first n [] = refl
+none_first n (m ∷ chain) = refl
+
+pub Seeks-start : (n : List ℕ) (names : List (List ℕ)) → Seeks n names 0
+Seeks-start n names =
+    record { within = omega arith; others = none_first n (chain_of (hash_of n) names) }
 
 -- a step along the chain, past another name
-pub Seeks-next : (n : List ℕ) (names : List (List ℕ)) (i : ℕ) (older : Option ℕ) → Seeks n names (Some i) → bytes_eq n (get_or names i []) ≡ false
-    → older ≡ newest_of (hash_of (get_or names i [])) (take i names) → Seeks n names older
-Seeks-next n names i older s other h =
-    let found = newest_some (hash_of n) (take s.bound names) i (sym s.here) in
-    let within : (i < length names) × (i < s.bound) = (omega (arith, found.within, length-take s.bound names), omega (arith, found.within, length-take s.bound names)) in
-    let hashed : hash_of (get_or names i []) ≡ hash_of n = ap hash_of (sym (get_or-take s.bound names i [] within.1)) ∙ found.hashed in
-    let between = found.after n refl in
-    let parts : drop (suc i) names ≡ drop (suc i) (take s.bound names) ++ drop s.bound names =
-    ap (drop (suc i)) (sym (take-append-drop s.bound names)) ∙ drop-append-le (suc i) (take s.bound names) (drop s.bound names) (omega (arith, found.within)) in
+pub Seeks-next : (n : List ℕ) (names : List (List ℕ)) (k : ℕ) → Seeks n names k
+    → k < length (chain_of (hash_of n) names)
+    → bytes_eq n (get_or (chain_of (hash_of n) names) k []) ≡ false → Seeks n names (k + 1)
+Seeks-next n names k s lt other =
+    let chain = chain_of (hash_of n) names in
     record {
-      bound = i;
-      here = h ∙ ap (λ d. newest_of d (take i names)) hashed;
-      passed = ap (list_any (bytes_eq n)) (drop-cons names i [] within.0)
-          ∙ or_from _ _ other (ap (list_any (bytes_eq n)) parts ∙ list_any-append (bytes_eq n) (drop (suc i) (take s.bound names)) (drop s.bound names) ∙ or_from _ _ between s.passed);
+      within = omega (arith, lt);
+      others = ap (list_any (bytes_eq n)) (take_more chain k [] lt)
+          ∙ list_any-append (bytes_eq n) (take k chain) (get_or chain k [] ∷ [])
+          ∙ or_from _ _ s.others (or_from _ _ other refl);
     }
+
+-- a walk to the chain's end has not found the name
+pub Seeks-end : (n : List ℕ) (names : List (List ℕ)) (k : ℕ) → Seeks n names k
+    → length (chain_of (hash_of n) names) ≤ k → list_any (bytes_eq n) names ≡ false
+Seeks-end n names k s end =
+    let chain = chain_of (hash_of n) names in
+    sym (any-filter_same (bytes_eq n) (λ name. hash_of n == hash_of name) true
+    (λ m same. eq-eqb (hash_of n) (hash_of m) (ap hash_of (same_true n m same))) names)
+    ∙ ap (list_any (bytes_eq n)) (sym (take_all k chain end)) ∙ s.others

@@ -1,6 +1,6 @@
--- How the names of a table in the making are kept: their bytes once, an entry for each, and chains
--- of entries by hash.
-use Rattle.std.specs.Prelude.{◌≡◌, ℕ, suc, ◌+◌, ◌<◌, ◌^◌, false, ◌==◌, if◌then◌else◌, List, [], ◌∷◌, ◌++◌, length, take, drop, map, slice_index_or, Option, Some, None}
+-- How the names of a table in the making are kept: their bytes once, and an entry for each, in
+-- order of first use, by its hash and how many names before it have that hash.
+use Rattle.std.specs.Prelude.{◌≡◌, ℕ, ◌+◌, ◌<◌, ◌^◌, false, ◌==◌, List, [], ◌∷◌, ◌++◌, length, take, drop, map, filter, slice_index_or}
 use Rattle.std.specs.List.{flat_map, list_any}
 use Rattle.std.specs.Str.{bytes_eq}
 use Rattle.std.specs.Hash.FoldHasher.{initial, write, finish}
@@ -16,37 +16,31 @@ abbrev pub name_in : List ℕ → Entry → List ℕ
 name_in bytes entry = take entry.len (drop entry.start bytes)
 
 -- the names that the entries stand for
-unfoldable pub names_in : List ℕ → List Entry → List (List ℕ)
-names_in bytes entries = map (name_in bytes) entries
+unfoldable pub names_in : List ℕ → List ((ℕ × ℕ) × Entry) → List (List ℕ)
+names_in bytes entries = map (λ keyed. name_in bytes keyed.1) entries
 
 -- the hash of a name
 unfoldable pub hash_of : List ℕ → ℕ
 hash_of name = finish (write initial name)
 
--- one place further, or else what the first name gives
-abbrev pub later : Option ℕ → Option ℕ → Option ℕ
-later (Some i) first = Some (suc i)
-later None first = first
+-- the names with a hash, in their order
+abbrev pub chain_of : ℕ → List (List ℕ) → List (List ℕ)
+chain_of hash names = filter (λ name. hash == hash_of name) names
 
--- the index of the last name with a hash
-unfoldable pub newest_of : ℕ → List (List ℕ) → Option ℕ
-newest_of hash [] = None
-newest_of hash (name ∷ names) =
-    later (newest_of hash names) (if hash_of name == hash then Some 0 else None)
+-- the key of a name that is used after others: its hash, and how many of them have it
+abbrev pub key_after : List (List ℕ) → List ℕ → ℕ × ℕ
+key_after earlier name = (hash_of name, length (chain_of (hash_of name) earlier))
 
 -- the entry of a name that is used after others
 abbrev pub entry_after : List (List ℕ) → List ℕ → Entry
-entry_after earlier name = record {
-  start = length (unclosed earlier) + 1;
-  len = length name;
-  older = newest_of (hash_of name) earlier;
-}
+entry_after earlier name = record { start = length (unclosed earlier) + 1; len = length name }
 
--- the entries of names that are used after others
-unfoldable pub entries_after : List (List ℕ) → List (List ℕ) → List Entry
+-- the entries of names that are used after others, each with its key
+unfoldable pub entries_after : List (List ℕ) → List (List ℕ) → List ((ℕ × ℕ) × Entry)
 entries_after earlier [] = []
 entries_after earlier (name ∷ names) =
-    entry_after earlier name ∷ entries_after (earlier ++ name ∷ []) names
+    (key_after earlier name, entry_after earlier name)
+    ∷ entries_after (earlier ++ name ∷ []) names
 
 -- a name that the table does not hold yet
 pub record IsNew (name : List ℕ) (names : List (List ℕ)) : Type 0 where
@@ -66,10 +60,9 @@ pub record IsTable (names : List (List ℕ)) : Type 0 where
       → place_of (slice_index_or names i []) names ≡ length (unclosed (take i names)) + 1
   pub small : length (unclosed names) + 1 < 2 ^ 32
 
--- the bytes, the entries and the chains' heads by hash are those of the names
-pub record IsKept (bytes : List ℕ) (entries : List Entry) (newest : ℕ → Option ℕ)
-    (names : List (List ℕ)) : Type 0 where
+-- the bytes and the entries are those of the names
+pub record IsKept (bytes : List ℕ) (entries : List ((ℕ × ℕ) × Entry)) (names : List (List ℕ))
+    : Type 0 where
   pub names_are : IsTable names
   pub bytes_are : bytes ≡ unclosed names
   pub entries_are : entries ≡ entries_after [] names
-  pub newest_are : (hash : ℕ) → newest hash ≡ newest_of hash names

@@ -1,12 +1,10 @@
 //! What a table in the making keeps of each of its names.
 
-/// Where a name stands in the table. Names with one hash form a chain, the newest first.
+/// Where a name stands in the table.
 #[derive(Clone, Copy)]
 pub struct Entry {
     /// The offset of the name's first byte in the table.
     pub start: u32,
     /// The number of the name's bytes, without the NUL.
     pub len: u32,
-    /// The index of the last entry before this one whose name has the same hash.
-    pub older: Option<u32>,
 }

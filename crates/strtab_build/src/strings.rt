@@ -1,7 +1,7 @@
 //! A string table that is built name by name.
 
-ghost use Rattle.std.specs.Prelude.{◌≡◌, ◌≢◌, ℕ, ◌+◌, ◌-◌, ◌^◌, ◌<◌, ◌≤◌, ◌↔◌, ◌⊎◌, List, [], ◌∷◌, ◌++◌, length, All, OnOk, OnErr, IfOk, IfErr, IsErrOf, IsTrue, MatchOption};
-ghost use Rattle.strtab_build.specs.Names.{hash_of, IsHeld, IsNew};
+ghost use Rattle.std.specs.Prelude.{◌≡◌, ◌≢◌, ℕ, ◌+◌, ◌-◌, ◌^◌, ◌<◌, ◌≤◌, ◌↔◌, ◌⊎◌, List, [], ◌∷◌, ◌++◌, length, All, OnOk, OnErr, IfOk, IfErr, IsErrOf, IsTrue};
+ghost use Rattle.strtab_build.specs.Names.{hash_of, key_after, IsHeld, IsNew};
 ghost use Rattle.strtab_build.specs.Table.{distinct, table, place_of, string_at};
 
 use crate::entries::Entry;
@@ -18,31 +18,29 @@ const LIMIT: usize = u32::MAX as usize;
 /// The names of a string table in the making, which contracts see as their list: each name that is
 /// not empty once, in order of first use.
 ///
-/// A name's bytes stand once, in the table, where a map by hash finds them. The hash has a fixed
-/// seed, so whoever picks the names can make them collide, and each of these is then compared with
-/// those before.
+/// A name's bytes stand once, in the table. A map in order of insertion has an entry for each name,
+/// so its own order is that of first use. The key of a name is its hash, and how many names before
+/// it have that hash. The hash has a fixed seed, so whoever picks the names can make them collide,
+/// and each of these is then compared with those before.
 #[derive(Drop)]
 pub struct Strings {
     /// The table without its last NUL, so that a name follows its NUL, and no name takes no memory.
     bytes: Vec<u8>,
-    /// What is known of each name, in order of first use.
-    entries: Vec<Entry>,
-    /// The index of the last entry whose name has a hash.
-    newest: IndexMap<u64, u32>,
+    /// Where each name stands, in order of first use.
+    entries: IndexMap<(u64, u32), Entry>,
 }
 
 impl Model for Strings {
-    ghost use Rattle.std.specs.Prelude.{ℕ, List as Seq, nat_eq};
-    ghost use Rattle.indexmap.specs.IndexMap.{get};
+    ghost use Rattle.std.specs.Prelude.{ℕ, List as Seq};
 
     ghost Value = { Seq (Seq ℕ) };
 
     ghost use Rattle.strtab_build.specs.Names.{names_in, IsKept};
 
-    ghost view = { λ s. names_in s.bytes.items s.entries.items };
+    ghost view = { λ s. names_in s.bytes.items s.entries.entries };
 
-    ghost invariant = { λ s. IsKept s.bytes.items s.entries.items (get nat_eq s.newest)
-        (names_in s.bytes.items s.entries.items) };
+    ghost invariant = { λ s. IsKept s.bytes.items s.entries.entries
+        (names_in s.bytes.items s.entries.entries) };
 }
 
 /// The hash by which a name is found again.
@@ -62,8 +60,7 @@ impl Strings {
     {
         Strings {
             bytes: Vec::new(alloc),
-            entries: Vec::new(alloc),
-            newest: IndexMap::new(alloc),
+            entries: IndexMap::new(alloc),
         }
     }
 
@@ -82,14 +79,14 @@ impl Strings {
         ensures refusals { IfErr result (λ e. (e ≡ ElfError.TooLarge) ⊎ (e ≡ ElfError.Memory)) }
         ensures unchanged { OnErr result (self.new ≡ self.old) }
     {
-        let hash = hash_of(bytes);
-        if let Some(offset) = self.find(bytes, hash) {
-            return Ok(offset);
-        }
+        let key = match self.find(bytes) {
+            Ok(offset) => return Ok(offset),
+            Err(key) => key,
+        };
         if !self.fits(bytes) {
             return Err(ElfError::TooLarge);
         }
-        let offset = self.append(bytes, hash)?;
+        let offset = self.append(bytes, key)?;
         Ok(offset)
     }
 
@@ -102,32 +99,32 @@ impl Strings {
         let Strings {
             mut bytes,
             entries: _entries,
-            newest: _newest,
         } = self;
         bytes.push(0)?;
         Ok(List::from_vec(bytes))
     }
 
-    /// The offset of a name that the table holds, or of the empty one.
-    fn find(&self, name: &[u8], hash: u64) -> Option<u32>
-        requires { hash ≡ hash_of name.now }
-        ensures { MatchOption result (IsNew name.now self.now) (IsHeld name.now self.now) }
+    /// The offset of a name that the table holds, or of the empty one; the key of a new one.
+    fn find(&self, name: &[u8]) -> Result<u32, (u64, u32)>
+        ensures held { IfOk result (IsHeld name.now self.now) }
+        ensures new { OnErr result (IsNew name.now self.now) }
+        ensures key { IfErr result (λ key. key ≡ key_after self.now name.now) }
     {
         let bytes = self.bytes.as_slice();
         if name.is_empty() {
-            return Some(0);
+            return Ok(0);
         }
-        // The names with this hash, the newest first.
-        let mut next = self.newest.get(&hash).copied();
-        while let Some(index) = next {
-            let entry = self.entries[index as usize];
+        let hash = hash_of(name);
+        // The names with this hash, the oldest first.
+        let mut repeat = 0;
+        while let Some(entry) = self.entries.get(&(hash, repeat)).copied() {
             let start = entry.start as usize;
             if name == &bytes[start..start + entry.len as usize] {
-                return Some(entry.start);
+                return Ok(entry.start);
             }
-            next = entry.older;
+            repeat += 1;
         }
-        None
+        Err((hash, repeat))
     }
 
     /// Whether the table with a new name stays within its limit.
@@ -140,8 +137,8 @@ impl Strings {
     }
 
     /// Puts a new name last.
-    fn append(&mut self, name: &[u8], hash: u64) -> Result<u32, AllocError>
-        requires hash { hash ≡ hash_of name.now }
+    fn append(&mut self, name: &[u8], key: (u64, u32)) -> Result<u32, AllocError>
+        requires key { key ≡ key_after self.old name.now }
         requires new { IsNew name.now self.old }
         requires fits { length (table (self.old ++ name.now ∷ [])) < 2 ^ 32 }
         ensures names { OnOk result (self.new ≡ distinct (self.old ++ name.now ∷ [])) }
@@ -149,19 +146,12 @@ impl Strings {
         ensures unchanged { OnErr result (self.new ≡ self.old) }
     {
         let start = self.bytes.len() as u32 + 1;
+        let len = name.len() as u32;
         // All that can fail comes before the first change.
         self.bytes.reserve(name.len() + 1)?;
-        self.entries.reserve(1)?;
-        let older = self.newest.insert(hash, self.entries.len() as u32)?;
+        self.entries.insert(key, Entry { start, len })?;
         self.bytes.push(0).unwrap();
         self.bytes.extend_from_slice(name).unwrap();
-        self.entries
-            .push(Entry {
-                start,
-                len: name.len() as u32,
-                older,
-            })
-            .unwrap();
         Ok(start)
     }
 }

@@ -2,7 +2,7 @@
 use Rattle.std.proofs.Common.{◌≡◌, ℕ, ◌+◌, ◌*◌, ◌%◌, ◌^◌, ◌<◌, ◌≤◌, List, length, get_or, drop, refl}
 use Rattle.std.specs.List.{fold}
 use Rattle.std.proofs.lemmas.List.{at_drop_more, at_drop_all}
-use Rattle.command_objects.specs.Hashes.{elf_hash, elf_hash_step, gnu_hash}
+use Rattle.hash_model.specs.Hashes.{elf_hash, elf_hash_step, gnu_hash}
 
 pub elf_more : (h : ℕ) (name : List ℕ) (i d : ℕ) → i < length name → fold elf_hash_step h (drop i name) ≡ fold elf_hash_step (elf_hash_step h (get_or name i d)) (drop (i + 1) name)
 elf_more h name i d below = at_drop_more (fold elf_hash_step h) name i d below

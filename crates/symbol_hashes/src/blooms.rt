@@ -2,7 +2,7 @@
 
 ghost use Rattle.std.specs.Prelude.{◌≡◌, ◌<◌, ◌≤◌, ◌+◌, ◌/◌, ◌^◌, length, nat_le, if◌then◌else◌, Some, None};
 ghost use Rattle.elf_xlate.specs.Numbers.{number_at};
-ghost use Rattle.command_objects.specs.HashSections as sections;
+ghost use Rattle.hash_model.specs.HashSections as sections;
 
 use crate::numbers::{addr_in, word_in};
 use elf_types::{Class, Order};

@@ -1,11 +1,11 @@
 //! The hash of a name in the two kinds of hash sections.
 
 ghost use Rattle.std.specs.Prelude.{◌≡◌, ◌+◌, ◌*◌, ◌%◌, ◌^◌};
-ghost use Rattle.command_objects.specs.Hashes as hashes;
+ghost use Rattle.hash_model.specs.Hashes as hashes;
 
 /// The hash with one more byte: shifted by four bits, and the byte; its top four bits go into the
 /// bits 4 to 7, and are cleared.
-#[tactic(auto, unfolding(command_objects::specs::Hashes::elf_hash_step))]
+#[tactic(auto, unfolding(hash_model::specs::Hashes::elf_hash_step))]
 fn elf_hash_step(h: u32, byte: u8) -> u32
     ensures { result ≡ hashes.elf_hash_step h byte }
 {

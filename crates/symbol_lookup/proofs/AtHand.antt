@@ -38,7 +38,7 @@ use Rattle.elf_object.specs.Answers.{content, items_at, kind_at, no_content, len
 use Rattle.elf_object.specs.Strings.{symbol_name}
 use Rattle.elf_object.proofs.AnswerLaws.{entry_value, lend_passed}
 use Rattle.elf_descriptor.specs.State.{State}
-use Rattle.command_objects.specs.Listed.{is_defined_global, listed_name, not_empty}
+use Rattle.hash_model.specs.Listed.{is_defined_global, listed_name, not_empty}
 use Rattle.symbol_lookup.specs.Lookups.{is_match, link_of}
 use Rattle.symbol_lookup.specs.Searches.{LacksName, LacksSymbol, LacksWhenListed, StandsAtHand}
 use Rattle.symbol_lookup.proofs.CallLaws.{symbol_is}

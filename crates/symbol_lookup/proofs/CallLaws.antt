@@ -22,7 +22,7 @@ use Rattle.elf_types.specs.declared.records.Sym.{Sym}
 use Rattle.std.specs.List.{enumerate_from}
 use Rattle.std.proofs.lemmas.Option.{slice_get_cases, slice_get_within, get_or_from_slice_get}
 use Rattle.std.proofs.lemmas.List.FromFn.{get_or-enumerate_from, length-enumerate_from}
-use Rattle.command_objects.specs.Listed.{listed_name, listed_names, is_defined_global, not_empty}
+use Rattle.hash_model.specs.Listed.{listed_name, listed_names, is_defined_global, not_empty}
 use Rattle.elf_object.specs.Answers.{bytes_of, syms_of}
 use Rattle.elf_object.specs.Calls.{sym_answer}
 use Rattle.elf_object.proofs.AnswerLaws.{sym_value}

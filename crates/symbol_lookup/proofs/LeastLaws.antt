@@ -10,8 +10,8 @@ use Rattle.std.proofs.lemmas.List.Sums.{prefix_len_passes}
 use Rattle.std.proofs.lemmas.List.Quantifiers.{position-Some}
 use Rattle.std.proofs.lemmas.Slice.Eq.{bytes_eq-Decides}
 use Rattle.elf_object.specs.Strings.{is_name}
-use Rattle.command_objects.specs.Words.{is_among}
-use Rattle.command_objects.specs.HashSections.{each_listed}
+use Rattle.elf_object.specs.Sections.{is_among}
+use Rattle.hash_model.specs.HashSections.{each_listed}
 use Rattle.symbol_lookup.specs.Walks.{lesser, least_of}
 
 -- ---- The least that passes

@@ -13,7 +13,7 @@ use Rattle.elf_object.specs.Answers.{count_at, items_at, lend_refusal}
 use Rattle.elf_object.specs.Strings.{is_name}
 use Rattle.elf_object.proofs.AnswerLaws.{lend_passed, items_kind_at}
 use Rattle.elf_object.proofs.ItemCounts.{syms_counted}
-use Rattle.command_objects.specs.Listed.{listed_names}
+use Rattle.hash_model.specs.Listed.{listed_names}
 use Rattle.symbol_lookup.specs.Lookups.{is_match, link_of, linear_needs, table_homes}
 use Rattle.symbol_lookup.specs.Searches.{HasTable, Stays}
 use Rattle.symbol_lookup.proofs.StepLaws.{table_stays, ok_is}

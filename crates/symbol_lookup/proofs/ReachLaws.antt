@@ -11,10 +11,10 @@ use Rattle.elf_object.specs.Words.{result_map}
 use Rattle.elf_object.specs.Object.{Object}
 use Rattle.elf_object.specs.Answers.{bytes_of, words_of, items_at, count_at, lend_refusal}
 use Rattle.elf_object.specs.Strings.{is_name}
-use Rattle.command_objects.specs.Hashes.{elf_hash, gnu_hash}
-use Rattle.command_objects.specs.Words.{is_among}
-use Rattle.command_objects.specs.HashSections.{is_on, is_on_with, gnu_in, gnu_chain_from}
-use Rattle.command_objects.specs.Listed.{listed_names, find_linear_answer}
+use Rattle.hash_model.specs.Hashes.{elf_hash, gnu_hash}
+use Rattle.elf_object.specs.Sections.{is_among}
+use Rattle.hash_model.specs.HashSections.{is_on, is_on_with, gnu_in, gnu_chain_from}
+use Rattle.hash_model.specs.Listed.{listed_names, find_linear_answer}
 use Rattle.symbol_lookup.specs.declared.walks.Start.{Start}
 use Rattle.symbol_lookup.specs.declared.walks.Links.TheVariants as links
 use Rattle.symbol_lookup.specs.Walks.{walk_from, least_of, nowhere, has_bits}

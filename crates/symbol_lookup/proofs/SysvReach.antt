@@ -10,8 +10,8 @@ use Rattle.elf_types.specs.Answers.{or_refused, ◌>>=◌}
 use Rattle.elf_types.specs.declared.errors.ElfError.{ElfError}
 use Rattle.elf_types.specs.declared.errors.ElfError.TheVariants.{BadChain}
 use Rattle.elf_object.specs.Words.{result_map}
-use Rattle.command_objects.specs.Hashes.{elf_hash}
-use Rattle.command_objects.specs.HashSections.{sysv_in, sysv_chain, sysv_chain_of, is_whole_sysv, ends, is_on, each_listed}
+use Rattle.hash_model.specs.Hashes.{elf_hash}
+use Rattle.hash_model.specs.HashSections.{sysv_in, sysv_chain, sysv_chain_of, is_whole_sysv, ends, is_on, each_listed}
 use Rattle.symbol_lookup.specs.declared.walks.Step.{Step}
 use Rattle.symbol_lookup.specs.declared.walks.Links.TheVariants as links
 use Rattle.symbol_lookup.specs.Walks.{hash_word, counted, sysv_buckets, sysv_bucket, sysv_behind, sysv_start, sysv_next, walk_from}

@@ -16,7 +16,7 @@ use Rattle.elf_descriptor.specs.State.{State}
 use Rattle.elf_object.specs.Calls.{Call, due}
 use Rattle.elf_descriptor.specs.Reads.{Reads, Looks, wanted}
 use Rattle.elf_descriptor.proofs.ReadsLaws.{reads_nothing}
-use Rattle.command_objects.specs.Listed.{listed_names, find_linear_answer}
+use Rattle.hash_model.specs.Listed.{listed_names, find_linear_answer}
 use Rattle.symbol_lookup.specs.Lookups.{linear_needs, find_linear}
 use Rattle.symbol_lookup.specs.Searches.{Searches, MayEnd}
 

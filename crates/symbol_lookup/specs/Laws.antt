@@ -4,8 +4,8 @@ use Rattle.std.specs.Prelude.{◌≡◌, ℕ, List, true, None}
 use Rattle.elf_types.specs.declared.records.Kind.TheVariants as kinds
 use Rattle.elf_object.specs.Object.{Object}
 use Rattle.elf_object.specs.Answers.{bytes_of, words_of, items_at, lend_refusal}
-use Rattle.command_objects.specs.HashSections.{is_whole_sysv, is_whole_gnu}
-use Rattle.command_objects.specs.Listed.{listed_names, find_linear_answer}
+use Rattle.hash_model.specs.HashSections.{is_whole_sysv, is_whole_gnu}
+use Rattle.hash_model.specs.Listed.{listed_names, find_linear_answer}
 use Rattle.symbol_lookup.specs.Lookups.{link_of, find_sysv_answer, find_gnu_answer}
 
 -- a hash section of words and the symbol table to which it links can be read, and it is whole

@@ -13,8 +13,8 @@ use Rattle.elf_object.specs.Answers.{bytes_of, words_of, items_at, count_at, len
 use Rattle.elf_object.specs.Strings.{is_name}
 use Rattle.elf_object.specs.Due.{is_loaded, holds_items, unless_refused, when_clean, when_piece_clean, with_others}
 use Rattle.elf_object.specs.Calls.{Call}
-use Rattle.command_objects.specs.Hashes as hashes
-use Rattle.command_objects.specs.Listed.{listed_names, find_linear_answer}
+use Rattle.hash_model.specs.Hashes as hashes
+use Rattle.hash_model.specs.Listed.{listed_names, find_linear_answer}
 use Rattle.symbol_lookup.specs.declared.walks.Step.{Step}
 use Rattle.symbol_lookup.specs.declared.walks.Links.{Links}
 use Rattle.symbol_lookup.specs.declared.walks.Links.TheVariants as links

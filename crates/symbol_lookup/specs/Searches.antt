@@ -13,7 +13,7 @@ use Rattle.elf_types.specs.declared.records.Class.{Class}
 use Rattle.elf_types.specs.declared.records.Order.{Order}
 use Rattle.elf_types.specs.declared.records.Sym.{Sym}
 use Rattle.elf_xlate.specs.Items.{item_size, sym_of}
-use Rattle.command_objects.specs.Listed.{is_defined_global}
+use Rattle.hash_model.specs.Listed.{is_defined_global}
 use Rattle.elf_types.specs.declared.records.Kind.TheVariants as kinds
 use Rattle.symbol_lookup.specs.declared.walks.Start.{Start}
 use Rattle.symbol_lookup.specs.declared.walks.Links.{Links}

@@ -10,7 +10,7 @@ use Rattle.elf_types.specs.declared.errors.ElfError.{ElfError}
 use Rattle.elf_types.specs.declared.errors.ElfError.TheVariants.{BadChain}
 use Rattle.elf_xlate.specs.Numbers.{number_at}
 use Rattle.elf_object.specs.Words.{result_map}
-use Rattle.command_objects.specs.HashSections.{bloom_bits, bloom_bytes, has_bit, is_end}
+use Rattle.hash_model.specs.HashSections.{bloom_bits, bloom_bytes, has_bit, is_end}
 use Rattle.symbol_lookup.specs.declared.walks.Step.{Step}
 use Rattle.symbol_lookup.specs.declared.walks.Links.TheVariants as links
 use Rattle.symbol_lookup.specs.declared.walks.Start.{Start}

@@ -4,7 +4,7 @@ ghost use Rattle.std.specs.Prelude.{◌≡◌, ◌<◌, ◌+◌, ◌^◌, IsTrue
 ghost use Rattle.elf_types.specs.Answers.{Follows};
 ghost use Rattle.elf_types.specs.declared.records.Kind.TheVariants as kinds;
 ghost use Rattle.elf_object.specs.Answers.{bytes_of, items_at, lend_refusal};
-ghost use Rattle.command_objects.specs.HashSections as sections;
+ghost use Rattle.hash_model.specs.HashSections as sections;
 ghost use Rattle.symbol_lookup.specs.Walks as walks;
 ghost use Rattle.symbol_lookup.specs.Lookups.{IsBad, Needs};
 ghost use Rattle.symbol_lookup.specs.Searches.{HasBytes, IsGnuStart, IsIndex, Searches, Stays};

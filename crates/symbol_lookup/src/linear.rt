@@ -8,7 +8,7 @@ ghost use Rattle.elf_object.specs.Words.{Answers};
 ghost use Rattle.elf_object.specs.Answers.{count_at, lend_refusal, no_section};
 ghost use Rattle.elf_object.specs.Strings.{is_name};
 ghost use Rattle.elf_descriptor.specs.Reads.{Looks, wanted};
-ghost use Rattle.command_objects.specs.Listed.{listed_names};
+ghost use Rattle.hash_model.specs.Listed.{listed_names};
 ghost use Rattle.symbol_lookup.specs.Lookups as calls;
 ghost use Rattle.symbol_lookup.specs.Lookups.{linear_needs, link_of};
 ghost use Rattle.symbol_lookup.specs.Searches.{Searches};

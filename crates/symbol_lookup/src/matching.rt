@@ -5,7 +5,7 @@ ghost use Rattle.elf_types.specs.Answers.{Follows};
 ghost use Rattle.elf_types.specs.declared.records.Kind.TheVariants as kinds;
 ghost use Rattle.elf_object.specs.Answers.{lend_refusal};
 ghost use Rattle.elf_object.specs.Strings.{is_name, readable, string_answer};
-ghost use Rattle.command_objects.specs.Listed.{is_defined_global, not_empty};
+ghost use Rattle.hash_model.specs.Listed.{is_defined_global, not_empty};
 ghost use Rattle.symbol_lookup.specs.Lookups.{is_match, link_of, no_match, Needs};
 ghost use Rattle.symbol_lookup.specs.Searches.{HasStrings, HasTable, Searches, Stays};
 

@@ -4,7 +4,7 @@ use crate::files::{Bad, Found, GOOD, Setting, Stored, bytes_in, is_there};
 use elf_types::Octets;
 use std::alloc::Global;
 use test_images::{FORMS, Form};
-use test_runs::{DONE, Ending, Failing, NOTHING, run_leaving};
+use test_runs::{DONE, Ending, Failing, Left, NOTHING, run_leaving};
 
 /// What a name holds after a run.
 #[derive(Drop)]
@@ -181,6 +181,16 @@ pub(crate) fn setting_of<'a>(
 /// Whether a run beside these files ends as its case says.
 pub fn is_so<'x>(alloc: Global, beside: &'x [Found], case: &'x Case) -> bool {
     is_so_over(alloc, case, &setting_of(case, beside, None))
+}
+
+/// What a run beside these files leaves under the name of its case, and none where there is no
+/// memory for it.
+pub fn left_by<'x>(alloc: Global, beside: &'x [Found], case: &'x Case) -> Option<Left> {
+    let setting = setting_of(case, beside, None);
+    match run_leaving(alloc, case.line, &setting, setting.failing, case.name) {
+        Ok(left) => Some(left),
+        Err(_) => None,
+    }
 }
 
 /// Whether each run beside these files ends as its case says.

@@ -16,6 +16,8 @@ pub enum Call {
     Write(&'static str),
     /// The writes of each file that the run makes.
     Made,
+    /// The puts to standard output.
+    Put,
 }
 
 /// What a name holds after a run of which a call failed.
@@ -190,6 +192,7 @@ fn failing_at<'a>(beside: &'a [Found], case: &'a Case, call: &Call, number: u64)
             };
         }
         Call::Made => setting.failing.write = number,
+        Call::Put => setting.failing.out = number,
     }
     setting
 }

@@ -15,6 +15,8 @@ pub enum Portion {
     Image(Recipe),
     /// A byte, so many times.
     Fill(u8, u64),
+    /// These bytes, so many times.
+    Times(&'static [u8], u64),
     /// No bytes more: the one at a place becomes this one.
     Byte(u64, u8),
     /// No bytes more: the file is cut to a length.
@@ -99,6 +101,14 @@ fn append_fill(bytes: &mut Octets, byte: u8, count: u64) -> Result<(), ElfError>
     Ok(())
 }
 
+/// Appends these bytes, so many times.
+fn append_times(bytes: &mut Octets, part: &[u8], count: u64) -> Result<(), ElfError> {
+    for _ in 0..count {
+        bytes.extend(part)?;
+    }
+    Ok(())
+}
+
 /// Changes a byte, where there is one, or cuts the file.
 fn change(bytes: &mut Octets, portion: &Portion) {
     match portion {
@@ -118,6 +128,7 @@ fn append(bytes: &mut Octets, alloc: Global, portion: &Portion) -> Result<(), El
         Portion::Bytes(l) => bytes.extend(l),
         Portion::Image(recipe) => append_image(bytes, alloc, recipe),
         Portion::Fill(byte, count) => append_fill(bytes, *byte, *count),
+        Portion::Times(part, count) => append_times(bytes, part, *count),
         Portion::Byte(..) | Portion::Length(_) => {
             change(bytes, portion);
             Ok(())

@@ -7,7 +7,9 @@
 mod cases;
 mod failures;
 mod files;
+mod images;
 
-pub use cases::{Case, Held, RUN, are_so, are_so_in_all_forms, is_so};
+pub use cases::{Case, Held, RUN, are_so, are_so_in_all_forms, is_so, left_by};
 pub use failures::{Call, Outcome, State, fail_so};
 pub use files::{Bad, Earlier, Found, GOOD, Portion, Stored, bytes_of};
+pub use images::{EIGHT, FIVE, GROWN};

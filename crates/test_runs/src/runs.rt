@@ -12,7 +12,7 @@ use tool_text::Args;
 const ROOM: u64 = 1 << 20;
 
 /// The room of each file that a run makes, more than a test writes.
-const FILE_ROOM: u64 = 1 << 20;
+const FILE_ROOM: u64 = 1 << 23;
 
 /// A room for which there is no memory.
 const NO_MEMORY: u64 = 1 << 62;

@@ -11,7 +11,7 @@ use Rattle.std.proofs.lemmas.List.FromFn.{get_or-range_with_len, length-range_wi
 use Rattle.std.proofs.lemmas.Option.{get_or_from_slice_get, slice_get-get_or, slice_get_within}
 use Rattle.elf_object.specs.Object.{Object}
 use Rattle.elf_object.specs.Layout.{section_numbers}
-use Rattle.command_objects.specs.Words.{is_allocated, header_at}
+use Rattle.elf_object.specs.Sections.{is_allocated, header_at}
 use Rattle.command_objects.specs.Split.{allocated, counterpart}
 use Rattle.object_making.proofs.NumberLaws.{passing_more, passing_split, passing_position, failing_position}
 use Rattle.strip_removed.proofs.SetLaws.{range_more}

@@ -16,7 +16,7 @@ use Rattle.elf_object.specs.Valid.{IsObject}
 use Rattle.object_laws.proofs.KeepLaws.{section_at_is}
 use Rattle.object_laws.proofs.PlacedLaws.{shdr_fits_each, shdr_fits_all}
 use Rattle.update_plan.proofs.RowLaws.{ok_is}
-use Rattle.command_objects.specs.Words.{header_at}
+use Rattle.elf_object.specs.Sections.{header_at}
 use Rattle.command_objects.specs.Split.{same_class, same_header, same_phdr, same_loaded, allocated, allocated_headers, loaded_header, matches}
 
 -- ---- Two lists

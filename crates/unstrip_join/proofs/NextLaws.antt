@@ -13,7 +13,7 @@ use Rattle.elf_object.specs.Answers.{raw_refusal}
 use Rattle.elf_object.specs.Due.{homes_due}
 use Rattle.elf_object.specs.Valid.{IsObject}
 use Rattle.elf_descriptor.specs.State.{State}
-use Rattle.command_objects.specs.Words.{is_allocated, header_at}
+use Rattle.elf_object.specs.Sections.{is_allocated, header_at}
 use Rattle.command_objects.specs.Rebuilt.{made_section}
 use Rattle.command_objects.specs.Split.{UnstripFault, allocated, counterpart, loaded_header, combined_section, combined_raw_refusal, matches}
 use Rattle.command_objects.specs.Split.{UnstripFault as stated}

@@ -9,7 +9,7 @@ use Rattle.elf_object.specs.Layout.{section_numbers}
 use Rattle.command_objects.specs.Arranged.{Rebuilt}
 use Rattle.command_objects.specs.Split.{UnstripFault, allocated, combined_tail}
 use Rattle.command_objects.specs.Split.{UnstripFault as stated}
-use Rattle.command_objects.specs.Words.{is_allocated, header_at}
+use Rattle.elf_object.specs.Sections.{is_allocated, header_at}
 use Rattle.strip_rebuild.specs.declared.rebuilding.Rebuilt.{Rebuilt as Made}
 use Rattle.unstrip_join.specs.declared.faults.UnstripFault.{UnstripFault as Fault}
 use Rattle.unstrip_join.specs.declared.faults.UnstripFault.TheVariants as faults

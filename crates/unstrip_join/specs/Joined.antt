@@ -7,7 +7,7 @@ use Rattle.elf_object.specs.Object.{Object, Section}
 use Rattle.elf_object.specs.Due.{homes_due}
 use Rattle.elf_object.specs.Layout.{section_numbers}
 use Rattle.elf_descriptor.specs.State.{State}
-use Rattle.command_objects.specs.Words.{is_allocated, header_at}
+use Rattle.elf_object.specs.Sections.{is_allocated, header_at}
 use Rattle.command_objects.specs.Split.{counterpart, combined_section, combined_raw_refusal}
 use Rattle.object_making.specs.Made.{with_more}
 use Rattle.strip_rebuild.specs.Makes.{AsksFor}

@@ -7,7 +7,7 @@ ghost use Rattle.elf_object.specs.Answers.{raw_refusal};
 ghost use Rattle.elf_object.specs.Due.{homes_due};
 ghost use Rattle.command_objects.specs.Rebuilt.{made_section};
 ghost use Rattle.command_objects.specs.Split.{allocated, loaded_header, matches};
-ghost use Rattle.command_objects.specs.Words.{header_at};
+ghost use Rattle.elf_object.specs.Sections.{header_at};
 ghost use Rattle.object_making.specs.Refused.{UnreadBy};
 ghost use Rattle.strip_rebuild.specs.Homes.{bytes_at_home};
 ghost use Rattle.strip_rebuild.specs.Makes.{AsksFor};

@@ -3,7 +3,7 @@
 ghost use Rattle.std.specs.Prelude.{◌≡◌, ◌<◌, length, slice_get, Some, IfOk, IfErr};
 ghost use Rattle.std.specs.Cmp.Lexicographic.{pointwise};
 ghost use Rattle.elf_types.specs.declared.errors.ElfError.TheVariants.{Memory};
-ghost use Rattle.command_objects.specs.Words.{header_at};
+ghost use Rattle.elf_object.specs.Sections.{header_at};
 ghost use Rattle.command_objects.specs.Split.{same_class, same_order, same_header, same_phdr, same_loaded, allocated, allocated_headers, matches};
 
 use crate::loaded::allocated;

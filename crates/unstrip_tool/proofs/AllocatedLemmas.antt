@@ -5,7 +5,7 @@ use Rattle.std.specs.List.{range_with_len, list_any}
 use Rattle.std.proofs.lemmas.Bool.{cases_eq, and_parts, and_from, and_right, both_ways}
 use Rattle.elf_object.specs.Object.{Object}
 use Rattle.elf_object.specs.Layout.{section_numbers}
-use Rattle.command_objects.specs.Words.{is_among, is_allocated, header_at}
+use Rattle.elf_object.specs.Sections.{is_among, is_allocated, header_at}
 use Rattle.command_objects.specs.Removed.{removable}
 use Rattle.command_objects.specs.Split.{removed_allocated}
 use Rattle.strip_removed.specs.Steps.{IsRemovable}

@@ -140,7 +140,7 @@ module _ {D : Type 0} (s : SourceGhosts D) (d : DeviceGhosts D) where
       by_answer : (q : Result (Unit {0}) ElfError) → IfErr q (λ e. (e ≡ Read) ⊎ (e ≡ Write))
           → IsKept from new q → IsKept old new q
       by_answer (Ok x) none k = record {
-        base = record { between = k.base.between; is = k.base.is };
+        base = record { between = k.base.between; long = k.base.long; is = k.base.is };
         more = more_as mid.room old new k.more;
         ready = k.ready;
       }

@@ -1,5 +1,5 @@
 -- Whether a part of the front changes, by its marks and by what it differs in.
-use Rattle.std.proofs.Common.{◌≡◌, Bool, true, false, ◌&&◌, ◌||◌, refl, sym, ap, ◌∙◌}
+use Rattle.std.proofs.Common.{◌≡◌, Bool, true, false, ◌&&◌, ◌||◌, refl, sym, ap, ◌∙◌, subst}
 use Rattle.std.specs.List.{list_any}
 use Rattle.elf_layout.specs.declared.parts.Places.{Places}
 use Rattle.elf_types.specs.declared.records.Part.{Part}
@@ -8,6 +8,9 @@ use Rattle.elf_object.specs.Answers.{has_dirty, flags_of}
 use Rattle.elf_object.specs.Object.{Object, is_dirty}
 use Rattle.elf_object.specs.Layout.{places_of}
 use Rattle.elf_object.specs.Changed.{front_differs, header_changed, segments_changed, table_changed}
+use Rattle.writing_laws.specs.Ready.{IsReady}
+use Rattle.elf_descriptor.specs.Places.{PartsFitAt}
+use Rattle.elf_descriptor.proofs.FittingPlaces.{updated_places}
 use Rattle.update_moves.proofs.SectionLaws.{dirty_bits}
 use Rattle.update_in_place.specs.Fronts.{changes_by}
 
@@ -16,6 +19,13 @@ pub whole_is : (o : Object) (r b : Bool) → r ≡ has_dirty (flags_of o part.Ob
     → o.marked ≡ b
 unfolding flags_of
 whole_is o r b told is = sym (dirty_bits o.marked o.layout) ∙ sym told ∙ is
+
+-- each part fits the class at the places of an update
+pub planned_fit : (o : Object) (places : Places) → IsReady o → places ≡ places_of o
+    → PartsFitAt o places
+planned_fit o places ready is =
+    subst (λ (p : Places). PartsFitAt o p) (sym is)
+    (updated_places o ready.object ready.dirty ready.passed)
 
 -- ---- A part
 

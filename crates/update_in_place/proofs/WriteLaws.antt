@@ -101,7 +101,7 @@ module _ {D : Type 0} (s : SourceGhosts D) (d : DeviceGhosts D) where
         bytes = v.bytes ∙ ap (λ (h : Option (List ℕ)). option_map (λ _. image old.o) h) held;
         size = v.long;
         kept = record {
-          base = record { between = v.base; is = v.is };
+          base = record { between = v.base; long = v.cut; is = v.is };
           more = more_still old now new (torn old.o new.o.base) new.source is.more v.state;
           ready = ap (λ (e : State D). e.ready) v.state ∙ ready;
         };
@@ -117,7 +117,7 @@ module _ {D : Type 0} (s : SourceGhosts D) (d : DeviceGhosts D) where
           at_write u = record {
             told = ap (λ (x : State D). x.told) u.state ∙ ap (λ (x : State D). x.told) is.rest;
             object = ap (λ (x : State D). x.o) u.state;
-            base = record { between = u.base; is = u.is };
+            base = record { between = u.base; long = u.cut; is = u.is };
             bytes = subst (λ (h : Option (List ℕ)). LeavesTorn h (s.holds new.source) (image old.o)) held u.torn;
             size = sizes u.either;
             kept = more_still old now new (torn old.o new.o.base) new.source is.more u.state;

@@ -1,6 +1,6 @@
 -- What an update in place does (elf_update with ELF_C_WRITE, to the file that the object was opened
 -- from).
-use Rattle.std.specs.Prelude.{◌≡◌, ◌⊎◌, ℕ, ◌<◌, true, false, IsTrue, length, take, IfSome, Result, Ok, Err}
+use Rattle.std.specs.Prelude.{◌≡◌, ◌⊎◌, ℕ, ◌<◌, min, true, false, IsTrue, length, take, IfSome, Result, Ok, Err}
 use Rattle.std.specs.Option.{option_map}
 use Rattle.elf_types.specs.declared.errors.ElfError.{ElfError}
 use Rattle.elf_types.specs.declared.errors.ElfError.TheVariants.{Read, Write}
@@ -28,10 +28,12 @@ OnEnd (Err e) done unread unwritten refused = refused
 
 -- ---- The device
 
--- the base has at each place its old byte or the image's, and the device begins with it
+-- the base has at each place its old byte or the image's. It is as long as it was, or as the device
+-- where that is shorter, and the device begins with it.
 pub record IsTornBase {D : Type 0} (s : SourceGhosts D) (was : Object) (state : State D)
     : Type 0 where
   pub between : IsTornImage was state.o.base
+  pub long : length state.o.base ≡ min (length was.base) (s.size state.source)
   pub is : IfSome (s.holds state.source)
       (λ held. take (length state.o.base) held ≡ state.o.base)
 

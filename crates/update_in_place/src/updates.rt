@@ -5,6 +5,7 @@ ghost use Rattle.elf_types.specs.declared.errors.ElfError.TheVariants.{Memory, R
 ghost use Rattle.elf_object.specs.Object.{is_dirty};
 ghost use Rattle.elf_object.specs.Words.{UpdateAnswers};
 ghost use Rattle.elf_object.specs.Calls as calls;
+ghost use Rattle.elf_descriptor.specs.Fronts.{HoldsBaseAlone};
 ghost use Rattle.elf_update.specs.Updates.{IsPlanned};
 ghost use Rattle.update_moves.specs.Changes.{TellsChanges};
 ghost use Rattle.update_in_place.specs.Rooms.{IsTaken};
@@ -122,7 +123,8 @@ fn update_dirty<D: Device>(elf: &mut Elf<D>) -> Result<u64, ElfError>
 /// fill between parts. Zeros behind the end that the device had are not written: they come by its
 /// greater length. Then the object is settled: each section's pieces are joined to one, nothing
 /// is marked, nothing is held of the homes, and they are the new ones. Where nothing is dirty it
-/// does nothing and refuses nothing, and answers the number of base bytes.
+/// does nothing and refuses nothing, and answers the number of base bytes; then the device holds
+/// the base and no more.
 ///
 /// It refuses, in this order, `TooMany`, `Unfit`, `OutOfFile`, `Overlap` and `TooLarge`, and
 /// `Memory` in place of a value and of the last two; they leave device and object. All memory is
@@ -134,6 +136,7 @@ fn update_dirty<D: Device>(elf: &mut Elf<D>) -> Result<u64, ElfError>
 pub fn update_in_place<D: Device>(elf: &mut Elf<D>) -> Result<u64, ElfError>
     ensures answer { UpdateAnswers result (calls.update_null.answer elf.old.o) }
     ensures clean { is_dirty elf.old.o ≡ false → elf.new ≡ elf.old }
+    ensures whole { is_dirty elf.old.o ≡ false → HoldsBaseAlone D.Source elf.new }
     ensures ends { is_dirty elf.old.o ≡ false → IsOk result }
     ensures updates { is_dirty elf.old.o ≡ true
         → UpdatesInPlace D.Source D.Device.own result elf.old elf.new }

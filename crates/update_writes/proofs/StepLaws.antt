@@ -92,6 +92,7 @@ module _ {D : Type 0} (s : SourceGhosts D) (d : DeviceGhosts D)
             (let long = steps.long in omega (arith, long, count))
             (λ none. steps.untold none ∙ ap (take (s.size g.source)) base_is)
             (⊎_elim (λ same. inl (omega (arith, same, most, count))) (λ end. inr end) steps.size);
+        cut = let long = steps.long in omega (arith, long, count);
         is = steps.is;
         bytes = steps.bytes;
         torn = on_err r (LeavesTorn (s.holds e.source) (s.holds g.source) (image b.was)) steps.torn;

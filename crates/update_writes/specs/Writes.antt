@@ -1,6 +1,6 @@
 -- The write phase of an update in place: what it rests on, and what it leaves (elf_update with
 -- ELF_C_WRITE).
-use Rattle.std.specs.Prelude.{◌≡◌, ◌⊎◌, ℕ, ◌<◌, Bool, true, false, IsTrue, List, length, take, map, Option, IsSome, IfSome, Result, OnOk, OnErr, IfErr}
+use Rattle.std.specs.Prelude.{◌≡◌, ◌⊎◌, ℕ, ◌<◌, min, Bool, true, false, IsTrue, List, length, take, map, Option, IsSome, IfSome, Result, OnOk, OnErr, IfErr}
 use Rattle.std.specs.Option.{option_map}
 use Rattle.elf_types.specs.declared.errors.ElfError.{ElfError}
 use Rattle.elf_types.specs.declared.errors.ElfError.TheVariants.{Write}
@@ -42,12 +42,14 @@ LeavesTorn old new image =
     × IfSome old (λ bytes. IsTorn bytes image left)
 
 -- After an Ok the device holds the image; after a refusal it is torn between what it held and the
--- image. The object is torn over what is there of its base. Nothing is read, and at most the parts
--- that change and the fill are handed to the device.
+-- image. The object is torn over what is there of its base: all of it, or as much as the device has
+-- where that is shorter. Nothing is read, and at most the parts that change and the fill are handed
+-- to the device.
 pub record WritesChanges {D A : Type 0} (s : SourceGhosts D) (d : DeviceGhosts D) (was : Object)
     (result : Result A ElfError) (old new : State D) : Type 0 where
   pub state : new ≡ record old { o = torn was new.o.base; source = new.source }
   pub base : IsTornImage was new.o.base
+  pub cut : length new.o.base ≡ min (length was.base) (s.size new.source)
   pub is : IfSome (s.holds new.source) (λ held. take (length new.o.base) held ≡ new.o.base)
   pub bytes : OnOk result (s.holds new.source ≡ option_map (λ _. image was) (s.holds old.source))
   pub torn : OnErr result (LeavesTorn (s.holds old.source) (s.holds new.source) (image was))

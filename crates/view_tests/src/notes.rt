@@ -94,6 +94,9 @@ const NOTE: &[u8] = b"\x04\0\0\0\x04\0\0\0\x03\0\0\0GNU\0\x01\x02\x03\x04";
 /// The same without its last byte.
 const CUT: &[u8] = b"\x04\0\0\0\x04\0\0\0\x03\0\0\0GNU\0\x01\x02\x03";
 
+/// The same with the greatest length of a name.
+const LONG_NAME: &[u8] = b"\xff\xff\xff\xff\x04\0\0\0\x03\0\0\0GNU\0\x01\x02\x03\x04";
+
 /// The note at a place of a piece.
 fn note_at<S: Source>(elf: &mut Elf<S>, d: DataId, at: u64) -> Result<Option<NoteAt>, ElfError> {
     note(elf, d, at)
@@ -116,13 +119,15 @@ fn one_note_of<S: Source>(elf: &mut Elf<S>, bytes: &[u8]) -> Result<(u32, bool),
     one_note(elf, d)
 }
 
-/// A note is walked to its end, and one that is a byte shorter is refused.
+/// A note is walked to its end, and one that is a byte shorter is refused, and so is one whose name
+/// passes the end.
 struct Walk;
 
 impl Question for Walk {
     fn is_answered<S: Source>(&self, elf: &mut Elf<S>) -> bool {
         one_note_of(elf, NOTE) == Ok((3, true))
             && one_note_of(elf, CUT) == Err(ElfError::BadChain { at: 0 })
+            && one_note_of(elf, LONG_NAME) == Err(ElfError::BadChain { at: 0 })
     }
 }
 

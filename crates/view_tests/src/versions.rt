@@ -5,7 +5,8 @@ use elf_descriptor::Elf;
 use elf_outside::Source;
 use elf_types::{DataId, ElfError};
 use gelf_view::{
-    AuxPlace, Verdaux, Verdef, Vernaux, first_entry, next_verdaux, verdaux, verdef, vernaux,
+    AuxPlace, Verdaux, Verdef, Vernaux, Verneed, first_entry, next_verdaux, verdaux, verdef,
+    vernaux, verneed,
 };
 
 /// A definition at 0 with one name, which is at 20.
@@ -115,8 +116,20 @@ fn versions_are_walked(rt: HostRuntime) {
     assert!(rt; is_answered(rt.alloc(), &Walk));
 }
 
-/// A version of a need.
-static VERSION: [u8; 16] = [0xcf, 0x6c, 0, 0, 1, 0, 2, 0, 5, 0, 0, 0, 16, 0, 0, 0];
+/// The need of one version of a file, at 0, and that version, at 16.
+static NEED: [u8; 32] = [
+    1, 0, 1, 0, 3, 0, 0, 0, 16, 0, 0, 0, 0, 0, 0, 0, 0xcf, 0x6c, 0, 0, 1, 0, 2, 0, 5, 0, 0, 0, 0,
+    0, 0, 0,
+];
+
+/// That file.
+const FILE: Verneed = Verneed {
+    version: 1,
+    cnt: 1,
+    file: 3,
+    aux: 16,
+    next: 0,
+};
 
 /// That version.
 const NEEDED: Vernaux = Vernaux {
@@ -124,8 +137,18 @@ const NEEDED: Vernaux = Vernaux {
     flags: 1,
     other: 2,
     name: 5,
-    next: 16,
+    next: 0,
 };
+
+/// Whether a file of a need is at a place.
+fn is_file<S: Source>(
+    elf: &mut Elf<S>,
+    d: DataId,
+    at: u64,
+    want: Result<Verneed, ElfError>,
+) -> bool {
+    verneed(elf, d, at) == want
+}
 
 /// Whether a version of a need is at a place.
 fn is_version<S: Source>(
@@ -137,22 +160,27 @@ fn is_version<S: Source>(
     vernaux(elf, d, at) == want
 }
 
-/// The version is read, and none that passes the end.
+/// The file and the version are read, and none that passes the end.
 struct Needs;
+
+/// Whether they are in a piece.
+fn is_needed<S: Source>(elf: &mut Elf<S>, d: DataId) -> bool {
+    is_file(elf, d, 0, Ok(FILE))
+        && is_file(elf, d, 17, Err(ElfError::BadChain { at: 17 }))
+        && is_version(elf, d, 16, Ok(NEEDED))
+        && is_version(elf, d, 17, Err(ElfError::BadChain { at: 17 }))
+}
 
 impl Question for Needs {
     fn is_answered<S: Source>(&self, elf: &mut Elf<S>) -> bool {
-        match add_bytes(elf, &VERSION) {
-            Ok(d) => {
-                is_version(elf, d, 0, Ok(NEEDED))
-                    && is_version(elf, d, 1, Err(ElfError::BadChain { at: 1 }))
-            }
+        match add_bytes(elf, &NEED) {
+            Ok(d) => is_needed(elf, d),
             Err(_) => false,
         }
     }
 }
 
 #[test]
-fn versions_of_needs_are_read(rt: HostRuntime) {
+fn needs_and_their_versions_are_read(rt: HostRuntime) {
     assert!(rt; is_answered(rt.alloc(), &Needs));
 }

@@ -19,6 +19,8 @@ mod rehash;
 #[cfg(test)]
 mod rows;
 #[cfg(test)]
+mod sections;
+#[cfg(test)]
 mod selftest;
 #[cfg(test)]
 mod splits;

@@ -1,7 +1,7 @@
 //! Runs of calls -o that stop: what the new file holds then.
 
 use crate::calls::{OLD, SCRIPTED};
-use test_cases::{Call, Case, Earlier, Held, Outcome, State, Stored, fail_so, is_so};
+use test_cases::{Call, Case, Earlier, FIVE, GROWN, Held, Outcome, State, Stored, fail_so, is_so};
 use test_images::OBJECT;
 use test_runs::{DONE, Ending, Failing, NOTHING};
 use tool_output::Status;
@@ -47,6 +47,57 @@ static FRONTS: [Outcome; 1] = [Outcome {
 fn each_write_that_fails_leaves_a_front(rt: HostRuntime) {
     assert!(rt; is_so(rt.alloc(), &OLD, &LENGTH));
     assert!(rt; fail_so(rt.alloc(), &OLD, &WHOLE, &Call::Made, 8, &FRONTS));
+}
+
+/// A piece is appended to the third of five sections; the file F is looked at beside the new one.
+const APPENDED: Case = Case {
+    file: Stored::Image(FIVE),
+    script: Stored::Bytes(b"newdata 3 3333333333333333\n"),
+    ending: Ending {
+        out: b"piece 3 1\nsize 496\n",
+        ..DONE
+    },
+    held: Held::Now(Stored::Image(GROWN)),
+    second: "F",
+    also: Held::Before,
+    ..SCRIPTED
+};
+
+/// The same, of which calls fail.
+static GROWING: Case = Case { ..APPENDED };
+
+/// The writes of the new file: each that fails leaves a front of the image, which may be empty.
+static WRITES: [Outcome; 1] = [Outcome {
+    status: Status::WriteFailed,
+    held: State::Front,
+    also: State::Before,
+    least: 1,
+    most: 15,
+}];
+
+/// The put of what waits when the file is to be made leaves the old one, and that of the last line
+/// the whole image.
+static PUTS: [Outcome; 2] = [
+    Outcome {
+        status: Status::WriteFailed,
+        held: State::Before,
+        also: State::Before,
+        least: 1,
+        most: 1,
+    },
+    Outcome {
+        status: Status::WriteFailed,
+        held: State::After,
+        also: State::Before,
+        least: 1,
+        most: 1,
+    },
+];
+
+#[test]
+fn each_write_and_put_that_fails_leaves_the_old_file_or_a_front(rt: HostRuntime) {
+    assert!(rt; fail_so(rt.alloc(), &OLD, &GROWING, &Call::Made, 16, &WRITES));
+    assert!(rt; fail_so(rt.alloc(), &OLD, &GROWING, &Call::Put, 8, &PUTS));
 }
 
 /// Files want more memory than there is: nothing is said, and the file that was there is left.

@@ -1,11 +1,12 @@
 //! Columns of a text and a number, and bytes, in the lines of answers. Each call refuses `Memory`
 //! alone; what the page held then still stands, some bytes behind it.
 
-ghost use Rattle.std.specs.Prelude.{◌≡◌, ◌++◌, ◌<◌, slice_index, flat_map, OnOk, IfErr};
+ghost use Rattle.std.specs.Prelude.{◌≡◌, ◌++◌, flat_map, OnOk, IfErr};
 ghost use Rattle.elf_types.specs.Writers.{WantsMemory};
-ghost use Rattle.calls_tool.specs.Lines.{number_text, column_text, hex_digits, hex_pair, bytes_text};
+ghost use Rattle.calls_tool.specs.Lines.{number_text, column_text, bytes_text};
 
-use elf_types::{ElfError, Octets, put_bytes, put_decimal, put_hex, put_signed, put_text};
+use elf_types::{ElfError, Octets, put_decimal, put_hex, put_signed, put_text};
+use number_columns::put_hex_pairs;
 
 /// A number, by the way it is written.
 #[derive(Clone, Copy)]
@@ -69,35 +70,5 @@ pub(super) fn put_hex_bytes(page: &mut Octets, bytes: &[u8]) -> Result<(), ElfEr
     if bytes.is_empty() {
         return put_text(page, "-");
     }
-    put_pairs(page, bytes)
-}
-
-/// Appends bytes, two hexadecimal digits each.
-#[tactic(auto, using(elf_types::proofs::Writers::kept))]
-fn put_pairs(page: &mut Octets, bytes: &[u8]) -> Result<(), ElfError>
-    ensures ok { OnOk result (page.new ≡ page.old ++ flat_map hex_pair bytes.now) }
-    ensures err { IfErr result (WantsMemory page.old page.new) }
-{
-    for b in bytes {
-        put_pair(page, *b)?;
-    }
-    Ok(())
-}
-
-/// Appends a byte by its two hexadecimal digits.
-#[tactic(auto, unfolding(crate::specs::Lines::hex_pair))]
-fn put_pair(page: &mut Octets, b: u8) -> Result<(), ElfError>
-    ensures ok { OnOk result (page.new ≡ page.old ++ hex_pair b) }
-    ensures err { IfErr result (WantsMemory page.old page.new) }
-{
-    put_bytes(page, &[digit(b / 16), digit(b % 16)])
-}
-
-/// A hexadecimal digit, in small letters.
-#[tactic(auto, unfolding(crate::specs::Lines::hex_digits))]
-fn digit(n: u8) -> u8
-    requires { n < 16 }
-    ensures { result ≡ slice_index hex_digits n }
-{
-    b"0123456789abcdef"[usize::from(n)]
+    put_hex_pairs(page, bytes)
 }

@@ -5,10 +5,10 @@ ghost use Rattle.elf_layout.specs.declared.parts.Places.{Places as ThePlaces};
 ghost use Rattle.elf_xlate.specs.Headers.{HasNarrowCounts, IsEhdr, IsPhdr, IsShdr};
 ghost use Rattle.elf_object.specs.Blocks.{same_extent};
 ghost use Rattle.elf_object.specs.Changed.{front_differs};
-ghost use Rattle.elf_object.specs.Layout.{places_of, section_place};
-ghost use Rattle.elf_object.specs.Refusal.{content_refusal, placing_refusal};
+ghost use Rattle.elf_object.specs.Layout.{section_place};
+ghost use Rattle.elf_object.specs.Refusal.{content_refusal};
 ghost use Rattle.elf_descriptor.specs.Fronts.{Compares, IsOfFront, TellsHeader, TellsSegments, TellsTable, stored_shdrs};
-ghost use Rattle.elf_descriptor.specs.Places.{HasPlaces, stored_shdr};
+ghost use Rattle.elf_descriptor.specs.Places.{HasPlaces, PartsFitAt, stored_shdr};
 ghost use Rattle.elf_descriptor.specs.Sound.{IsElf};
 ghost use Rattle.elf_descriptor.specs.Views.{HasCounts, object_of, scn_at};
 
@@ -169,9 +169,8 @@ impl Body {
         requires part { IsOfFront part }
         ensures { (image : Option (List ℕ)) (size : ℕ) → IsElf image size self.now
             → self.now.written ≡ Some front.now
-            → places.now ≡ places_of (object_of image size self.now)
             → content_refusal (object_of image size self.now) ≡ None
-            → placing_refusal (object_of image size self.now) ≡ None
+            → PartsFitAt (object_of image size self.now) places.now
             → not result ≡ front_differs places.now (object_of image size self.now) part }
     {
         sizes_are_lengths();
@@ -207,9 +206,8 @@ impl Body {
         requires places { HasPlaces places.now (length self.now.sections) }
         requires part { IsOfFront part }
         ensures { (image : Option (List ℕ)) (size : ℕ) → IsElf image size self.now
-            → places.now ≡ places_of (object_of image size self.now)
             → content_refusal (object_of image size self.now) ≡ None
-            → placing_refusal (object_of image size self.now) ≡ None
+            → PartsFitAt (object_of image size self.now) places.now
             → result ≡ front_differs places.now (object_of image size self.now) part }
     {
         match &self.written {

@@ -2,9 +2,7 @@
 
 ghost use Rattle.std.specs.Prelude.{◌≡◌, true, None, OnOk, OnErr, IfErr};
 ghost use Rattle.elf_object.specs.Changed.{front_differs};
-ghost use Rattle.elf_object.specs.Layout.{places_of};
-ghost use Rattle.elf_object.specs.Object.{is_dirty};
-ghost use Rattle.elf_object.specs.Refusal.{refusal};
+ghost use Rattle.elf_object.specs.Refusal.{content_refusal};
 
 use crate::descriptor::Elf;
 use elf_layout::Places;
@@ -13,6 +11,7 @@ use elf_types::{ElfError, Part};
 
 impl<S: Source> Elf<S> {
     ghost use Rattle.elf_descriptor.specs.Fronts.{HoldsBase, IsOfFront};
+    ghost use Rattle.elf_descriptor.specs.Places.{PartsFitAt};
 
     /// Takes the memory that `settle` needs; the object is ready until one of its lists changes.
     /// The source begins with the base. It refuses `Memory` alone, which it always does of an
@@ -29,17 +28,16 @@ impl<S: Source> Elf<S> {
     /// Whether the ELF header, the program header table or the section header table has another
     /// place or other bytes than in the image as opened or last settled, once these places, the
     /// sizes and the derived values are stored; a part that was in no image differs where it has
-    /// bytes. Something is dirty, an update is not refused, and the places are those of the object.
-    /// It compares each record of the part once. It refuses nothing, reads nothing and takes no
-    /// memory.
+    /// bytes. The object may be dirty or not: an update of it would not be refused for its
+    /// contents, and each part fits the class at its place. It compares each record of the part
+    /// once. It refuses nothing, reads nothing and takes no memory.
     ///
     /// Source: elf_update of elf(3E); gABI chapter 4, "ELF Header" and "Section Header", chapter 5,
     /// "Program Header".
     pub fn front_differs(&self, part: Part, places: &Places) -> bool
         requires part { IsOfFront part }
-        requires dirty { is_dirty self.now.o ≡ true }
-        requires passed { refusal self.now.o ≡ None }
-        requires places { places.now ≡ places_of self.now.o }
+        requires contents { content_refusal self.now.o ≡ None }
+        requires places { PartsFitAt self.now.o places.now }
         ensures { result ≡ front_differs places.now self.now.o part }
     {
         self.body.front_differs(part, places)

@@ -1,6 +1,6 @@
 //! What a descriptor tells without reading.
 
-ghost use Rattle.std.specs.Prelude.{◌≡◌, Ok, IfOk, length};
+ghost use Rattle.std.specs.Prelude.{◌≡◌, false, Ok, IfOk, length};
 ghost use Rattle.elf_types.specs.Answers.{err_of};
 ghost use Rattle.elf_object.specs.Object.{is_dirty};
 ghost use Rattle.elf_object.specs.Answers.{piece_refusal};
@@ -13,6 +13,7 @@ use elf_types::{DataId, Ehdr, ElfError, Kind, Part, Phdr, ScnId, Shdr};
 use std::alloc::Global;
 
 impl<S: Source> Elf<S> {
+    ghost use Rattle.elf_descriptor.specs.Fronts.{HoldsBaseAlone};
     ghost use Rattle.elf_descriptor.specs.Sound.{IsSound};
     ghost use Rattle.elf_descriptor.specs.Held.{IsHeld};
 
@@ -136,10 +137,11 @@ impl<S: Source> Elf<S> {
 
     /// Whether something is dirty. It refuses nothing and takes no memory. What stands in the
     /// descriptor is an object; where nothing is dirty and the source tells its bytes, it is the
-    /// object of its base.
+    /// object of its base. Where nothing is dirty the source is the base and no more.
     pub fn dirty(&self) -> bool
         ensures dirty { result ≡ is_dirty self.now.o }
         ensures sound { IsSound (S.holds self.now.source) self.now.o }
+        ensures whole { result ≡ false → HoldsBaseAlone S.Source self.now }
     {
         self.body.dirty()
     }

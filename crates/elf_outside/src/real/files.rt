@@ -1,13 +1,16 @@
 //! The files of the system.
 
-ghost use Rattle.std.specs.Prelude.{◌≡◌, ◌≤◌, false, None, IsErrOf, IfOk, OnOk, OnErr};
+ghost use Rattle.std.specs.Prelude.{pos, ◌≡◌, ◌≤◌, ◌≤ℤ◌, false, None, IsErrOf, IfOk, OnOk, OnErr};
+ghost use Rattle.std.specs.Fd.{file_raw_fd};
 ghost use Rattle.std.specs.Option.{option_copied};
 ghost use Rattle.elf_outside.specs.Counts.{Rose, next_count};
+ghost use Rattle.elf_outside.specs.Known.{knows, IsNoted, KeepsKnown, KnowsNone};
 
 use crate::file_sets::{Files, OpenFault};
 use crate::real::RealFile;
 use crate::real::failure::{Attempt, Failure};
 use crate::real::open_files::{OpenFile, OpenFiles};
+use crate::real::streams::open_apart;
 use crate::real::system_file::SystemFile;
 use elf_types::Octets;
 use std::alloc::Global;
@@ -26,18 +29,25 @@ const NEW_MODE: u32 = 0o666;
 /// its end at once where it is no regular file or tells the length 0, as a pipe or a file of /proc
 /// does; so to open a directory fails.
 ///
-/// A file that is open is not made anew, under whatever name, since that would take the bytes from
-/// under those who read it: `create` then answers `Failed`, and the file is as it was. A file that
-/// was not there gets the permissions of the file that was opened first of those that are open, as
-/// the umask leaves them, so that what is made of a program can be run; one that was there keeps
-/// its own.
+/// A regular file that was handed out before is not made anew, under whatever name, open or not:
+/// that would take the bytes from under those who read it, or undo what was made. `create` then
+/// answers `Failed`, and the file is as it was. Such a file is known by its device and its number
+/// there. Where somebody else removes one meanwhile, and a new file gets its number, `create`
+/// refuses that one too, so nothing is lost by it.
+///
+/// A file that was not there gets the permissions of the file that was opened first of those that
+/// are open, as the umask leaves them, so that what is made of a program can be run; one that was
+/// there keeps its own.
+///
+/// None gets the descriptor of a standard stream: where the system gives it one, since the program
+/// was started with a stream closed, the call that would hand it out answers `Failed`.
 ///
 /// They keep what the system said of the last call that failed. Of the calls on a file they know
 /// once it was closed.
 #[derive(Drop)]
 pub struct RealFiles<R> {
     system: R,
-    open: OpenFiles,
+    handed_out: OpenFiles,
     read_faults: u64,
     write_faults: u64,
     taken: u64,
@@ -63,10 +73,11 @@ impl<R: rt::Files<File = File>> RealFiles<R> {
         ensures faults { (result.read_faults ≡ 0) × (result.write_faults ≡ 0) }
         ensures numbers { (result.taken ≡ 0) × (result.given ≡ 0) }
         ensures live { result.live ≡ 0 }
+        ensures known { KnowsNone result.handed_out }
     {
         RealFiles {
             system,
-            open: OpenFiles::new(alloc),
+            handed_out: OpenFiles::new(alloc),
             read_faults: 0,
             write_faults: 0,
             taken: 0,
@@ -93,8 +104,10 @@ impl<R: rt::Files<File = File>> RealFiles<R> {
         ensures numbers { (self.new.taken ≡ self.old.taken) × (self.new.given ≡ self.old.given) }
         ensures live { OnOk result (self.new.live ≡ next_count self.old.live) }
         ensures not_live { OnErr result (self.new.live ≡ self.old.live) }
+        ensures noted { IfOk result (λ f. IsNoted self.new.handed_out f.inner.as_opened) }
+        ensures known { KeepsKnown self.old.handed_out self.new.handed_out }
     {
-        if self.open.add(file.inner.as_opened).is_err() {
+        if self.handed_out.add(file.inner.as_opened).is_err() {
             return Err(OpenFault::Memory);
         }
         self.live = self.live.saturating_add(1);
@@ -112,6 +125,8 @@ impl<R: rt::Files<File = File>> RealFiles<R> {
         ensures numbers { (self.new.taken ≡ self.old.taken) × (self.new.given ≡ self.old.given) }
         ensures live { OnOk result (self.new.live ≡ next_count self.old.live) }
         ensures not_live { OnErr result (self.new.live ≡ self.old.live) }
+        ensures noted { IfOk result (λ f. IsNoted self.new.handed_out f.inner.as_opened) }
+        ensures known { KeepsKnown self.old.handed_out self.new.handed_out }
     {
         match open_file(alloc, &self.system, name, writes) {
             Ok(file) => self.count_in(file),
@@ -152,8 +167,8 @@ impl<R: rt::Files<File = File>> Files for RealFiles<R> {
     }
 
     fn create(&mut self, alloc: Global, name: &str) -> Result<RealFile, OpenFault> {
-        let mode = self.open.first_mode().unwrap_or(NEW_MODE);
-        match create_file(alloc, &self.system, &self.open, name, mode) {
+        let mode = self.handed_out.first_mode().unwrap_or(NEW_MODE);
+        match create_file(alloc, &self.system, &self.handed_out, name, mode) {
             Ok(file) => self.count_in(file),
             Err(Refusal::Failed(failure)) => {
                 self.last = Some(failure);
@@ -170,7 +185,7 @@ impl<R: rt::Files<File = File>> Files for RealFiles<R> {
         self.taken = self.taken.saturating_add(file.taken);
         self.given = self.given.saturating_add(file.inner.given);
         self.live = self.live.saturating_sub(1);
-        self.open.remove(file.inner.as_opened.inode);
+        self.handed_out.remove(file.inner.as_opened.inode);
         if file.faults > 0 || file.inner.write_faults > 0 {
             self.last = Some(file.into_inner().into_failure());
         }
@@ -192,7 +207,7 @@ fn open_file<R: rt::Files<File = File>>(
     };
     let mut how = OpenOptions::new();
     how.read(true).write(writes);
-    match how.open(system, name) {
+    match open_apart(system, &how, name) {
         Ok(file) => take_in(alloc, kept, file, writes),
         Err(e) if e.kind() == ErrorKind::NotFound => Err(Refusal::NotThere),
         Err(e) => Err(refused(kept, Attempt::Open, e)),
@@ -200,41 +215,46 @@ fn open_file<R: rt::Files<File = File>>(
 }
 
 /// Makes a file of the name and the permissions, or cuts the one that is there to nothing, unless
-/// it is open already.
+/// it is a regular file that was handed out before.
 fn create_file<R: rt::Files<File = File>>(
     alloc: Global,
     system: &R,
-    open: &OpenFiles,
+    handed_out: &OpenFiles,
     name: &str,
     mode: u32,
 ) -> Result<RealFile, Refusal>
     ensures faults { IfOk result (λ f. (f.faults ≡ 0) × (f.inner.write_faults ≡ 0)) }
     ensures numbers { IfOk result (λ f. (f.taken ≡ 0) × (f.inner.given ≡ 0)) }
     ensures empty { IfOk result (λ f. f.inner.len ≡ 0) }
+    ensures anew { IfOk result (λ f. knows handed_out.now f.inner.as_opened.inode ≡ false) }
 {
     let Ok(kept) = String::from_str(alloc, name) else {
         return Err(Refusal::Memory);
     };
     let mut how = OpenOptions::new();
     how.read(true).write(true).create(true).mode(mode);
-    let file = match how.open(system, name) {
+    let file = match open_apart(system, &how, name) {
         Ok(file) => file,
         Err(e) => return Err(refused(kept, Attempt::Create, e)),
     };
-    match cut_whole(&file, open) {
+    match cut_whole(&file, handed_out) {
         Ok(as_opened) => Ok(RealFile::new(alloc, SystemFile::new(kept, file, as_opened, None, 0))),
         Err(e) => Err(refused(kept, Attempt::Create, e)),
     }
 }
 
-/// Cuts a file that was opened to nothing, where it is a file of a disk and is not open already.
-fn cut_whole(file: &File, open: &OpenFiles) -> io::Result<OpenFile> {
+/// Cuts a file that was opened to nothing, where it is a regular one, unless such a file was handed
+/// out before.
+fn cut_whole(file: &File, handed_out: &OpenFiles) -> io::Result<OpenFile>
+    ensures anew { IfOk result (λ o. knows handed_out.now o.inode ≡ false) }
+{
     let about = file.metadata()?;
     let as_opened = OpenFile::of(&about);
-    if about.is_file() && open.has(as_opened.inode) {
-        return Err(Error::new(ErrorKind::InvalidInput, "it is a file that is open already"));
+    if handed_out.knows(as_opened.inode) {
+        let why = "it is a file that this run has read or made";
+        return Err(Error::new(ErrorKind::InvalidInput, why));
     }
-    if about.is_file() && about.len() > 0 {
+    if as_opened.is_regular && about.len() > 0 {
         file.set_len(0)?;
     }
     Ok(as_opened)
@@ -247,6 +267,7 @@ fn refused(name: String, attempt: Attempt, why: Error) -> Refusal {
 
 /// What was opened, with its length, or with its bytes where they are to be held.
 fn take_in(alloc: Global, name: String, file: File, writes: bool) -> Result<RealFile, Refusal>
+    requires { pos 3 ≤ℤ file_raw_fd file }
     ensures faults { IfOk result (λ f. (f.faults ≡ 0) × (f.inner.write_faults ≡ 0)) }
     ensures numbers { IfOk result (λ f. (f.taken ≡ 0) × (f.inner.given ≡ 0)) }
 {

@@ -1,6 +1,7 @@
 //! A file of the system, read and written without a buffer.
 
-ghost use Rattle.std.specs.Prelude.{refl, ◌≡◌, ◌+◌, ◌-◌, ◌<◌, ◌≤◌, ◌^◌, ◌∷◌, [], None, length};
+ghost use Rattle.std.specs.Prelude.{refl, pos, ◌≡◌, ◌+◌, ◌-◌, ◌<◌, ◌≤◌, ◌≤ℤ◌, ◌^◌, ◌∷◌, [], None, length};
+ghost use Rattle.std.specs.Fd.{file_raw_fd};
 
 use crate::devices::Device;
 use crate::ranges::copy_range;
@@ -15,7 +16,7 @@ use std::io::{Error, ErrorKind};
 /// An open file of the system. It tells its length, as it was when the file was opened and as the
 /// writes through it changed it since, and no bytes. A call fails where the file fails, or gives or
 /// takes nothing before the whole range is done. Where its bytes were read as it was opened, the
-/// reads are served from them.
+/// reads are served from them. Its descriptor is that of no standard stream.
 ///
 /// It keeps its name, and what the system said of the last call that failed.
 #[derive(Drop)]
@@ -32,6 +33,7 @@ pub struct SystemFile {
     attempt: Attempt,
     why: Error,
     ghost addressable: { len < 2 ^ 64 },
+    ghost apart: { pos 3 ≤ℤ file_raw_fd file },
 }
 
 impl SystemFile {
@@ -44,7 +46,9 @@ impl SystemFile {
         held: Option<Octets>,
         len: u64,
     ) -> SystemFile
+        requires { pos 3 ≤ℤ file_raw_fd file }
         ensures len { result.len ≡ len }
+        ensures as_opened { result.as_opened ≡ as_opened }
         ensures faults { (result.faults ≡ 0) × (result.write_faults ≡ 0) }
         ensures numbers { (result.taken ≡ 0) × (result.given ≡ 0) }
     {

@@ -1,7 +1,7 @@
 use Rattle.std.proofs.Common.{ℕ}
 use Rattle.elf_object.specs.Object.{Object}
 use Rattle.elf_object.specs.Calls as calls
-use Rattle.command_objects.specs.Words.{header_at, edited}
+use Rattle.elf_object.specs.Sections.{header_at, edited}
 use Rattle.command_objects.specs.Copied.{or_strip, with_bits, flags_fault}
 use Rattle.copy_contents.specs.Steps.{always}
 use Rattle.copy_contents.proofs.FindLaws.{fault_alters, unfaulted_alters}

@@ -2,7 +2,7 @@ use Rattle.std.proofs.Common.{ℕ}
 use Rattle.elf_types.specs.Answers.{answered, ◌>>=◌}
 use Rattle.elf_object.specs.Object.{Object}
 use Rattle.elf_object.specs.Calls as calls
-use Rattle.command_objects.specs.Words.{header_at, edited}
+use Rattle.elf_object.specs.Sections.{header_at, edited}
 use Rattle.command_objects.specs.Copied.{or_strip, with_bits, flags_fault, with_section_flags}
 use Rattle.copy_contents.proofs.FindLaws.{named_alters, unnamed_alters}
 use Rattle.copy_contents.proofs.flags.flag_section.Goals as goal

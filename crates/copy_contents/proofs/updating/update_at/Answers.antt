@@ -2,7 +2,7 @@ use Rattle.std.proofs.Common.{◌≡◌, ℕ, true}
 use Rattle.elf_xlate.specs.declared.content.Items.TheVariants as items
 use Rattle.elf_object.specs.Object.{Object, occupies_file}
 use Rattle.elf_object.specs.Calls as calls
-use Rattle.command_objects.specs.Words.{header_at, edited}
+use Rattle.elf_object.specs.Sections.{header_at, edited}
 use Rattle.command_objects.specs.Copied.{or_strip, update_fault}
 use Rattle.copy_contents.proofs.FindLaws.{fault_alters, unfaulted_alters}
 use Rattle.copy_contents.proofs.UpdateLaws.{filled_known}

@@ -1,6 +1,6 @@
 use Rattle.elf_object.specs.Object.{Object}
 use Rattle.elf_object.specs.Calls as calls
-use Rattle.command_objects.specs.Words.{edited}
+use Rattle.elf_object.specs.Sections.{edited}
 use Rattle.command_objects.specs.Copied.{or_strip, added_header}
 use Rattle.copy_edits.proofs.StepLaws.{alter_then, alter_end}
 use Rattle.copy_edits.proofs.adding.fill_section.Goals as goal

@@ -1,7 +1,7 @@
 use Rattle.std.proofs.Common.{ℕ, sym}
 use Rattle.elf_types.specs.Answers.{answered, ◌>>=◌}
 use Rattle.elf_object.specs.Calls as calls
-use Rattle.command_objects.specs.Words.{header_at, edited}
+use Rattle.elf_object.specs.Sections.{header_at, edited}
 use Rattle.command_objects.specs.Copied.{or_strip, with_bits, flags_fault}
 use Rattle.copy_edits.proofs.FaultLaws.{fault_none, passed_on}
 use Rattle.copy_edits.proofs.StepLaws.{alter_as, alter_fault}

@@ -2,7 +2,7 @@ use Rattle.std.proofs.Common.{ℕ, sym, subst}
 use Rattle.elf_types.specs.Answers.{answered, ◌>>=◌}
 use Rattle.elf_object.specs.Object.{Object}
 use Rattle.elf_object.specs.Calls as calls
-use Rattle.command_objects.specs.Words.{header_at, edited}
+use Rattle.elf_object.specs.Sections.{header_at, edited}
 use Rattle.command_objects.specs.Copied.{section_named, or_strip, with_bits, flags_fault, with_section_flags}
 use Rattle.copy_edits.specs.Names.{names_now}
 use Rattle.copy_edits.specs.Steps.{IsThere}

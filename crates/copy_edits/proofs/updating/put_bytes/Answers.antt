@@ -1,7 +1,7 @@
 use Rattle.std.proofs.Common.{List, ℕ, subst, ◌∙◌}
 use Rattle.elf_xlate.specs.declared.content.Items.TheVariants as items
 use Rattle.elf_object.specs.Calls as calls
-use Rattle.command_objects.specs.Words.{edited}
+use Rattle.elf_object.specs.Sections.{edited}
 use Rattle.command_objects.specs.Copied.{or_strip}
 use Rattle.copy_edits.specs.Steps.{Alters}
 use Rattle.copy_edits.proofs.StepLaws.{alter_memory}

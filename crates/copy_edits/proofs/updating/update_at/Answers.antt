@@ -2,7 +2,7 @@ use Rattle.std.proofs.Common.{sym}
 use Rattle.elf_types.specs.Answers.{answered, ◌>>=◌}
 use Rattle.elf_xlate.specs.declared.content.Items.TheVariants as items
 use Rattle.elf_object.specs.Calls as calls
-use Rattle.command_objects.specs.Words.{edited}
+use Rattle.elf_object.specs.Sections.{edited}
 use Rattle.command_objects.specs.Copied.{or_strip, update_fault}
 use Rattle.copy_edits.proofs.FaultLaws.{fault_none, passed_on}
 use Rattle.copy_edits.proofs.StepLaws.{alter_as, alter_fault}

@@ -3,7 +3,7 @@ use Rattle.elf_types.specs.Answers.{answered, ◌>>=◌}
 use Rattle.elf_xlate.specs.declared.content.Items.TheVariants as items
 use Rattle.elf_object.specs.Object.{Object}
 use Rattle.elf_object.specs.Calls as calls
-use Rattle.command_objects.specs.Words.{edited}
+use Rattle.elf_object.specs.Sections.{edited}
 use Rattle.command_objects.specs.Copied.{names_in, section_named, or_strip, update_fault, with_bytes}
 use Rattle.copy_edits.specs.Steps.{IsThere}
 use Rattle.copy_edits.proofs.StepLaws.{find_then, find_end}

@@ -1,4 +1,4 @@
-use Rattle.command_objects.specs.Words.{in_turn}
+use Rattle.elf_object.specs.Sections.{in_turn}
 use Rattle.command_objects.specs.Copied.{with_added}
 use Rattle.copy_changes.specs.Stated.{stated_changes}
 use Rattle.copy_edits.proofs.StepLaws.{alter_then, alter_end}

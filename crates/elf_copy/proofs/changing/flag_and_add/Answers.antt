@@ -1,4 +1,4 @@
-use Rattle.command_objects.specs.Words.{in_turn}
+use Rattle.elf_object.specs.Sections.{in_turn}
 use Rattle.command_objects.specs.Copied.{with_section_flags}
 use Rattle.copy_changes.specs.Stated.{stated_changes}
 use Rattle.copy_edits.specs.Names.{names_now}

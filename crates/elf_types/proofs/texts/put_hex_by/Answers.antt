@@ -8,7 +8,7 @@ returns-clause-ok c =
     let filled = c.fill_hex-start.new.buffer in
     let start = c.fill_hex-start.result in
     let whole : take (length filled - start) (drop start filled) ≡ drop start filled =
-        take_all (length filled - start) (drop start filled) (omega (arith, length-drop start filled)) in
+    take_all (length filled - start) (drop start filled) (omega (arith, length-drop start filled)) in
     subst (λ (l : List ℕ). OnOk c.put_bytes.result (c.put_bytes.new.out ≡ c.args.out.now ++ l))
     (whole ∙ c.fill_hex-start.ensures.digits) c.put_bytes.ensures.ok
 

@@ -3,8 +3,8 @@ use Rattle.std.specs.Prelude.{IfOk}
 use Rattle.elf_object.specs.Words.{Answers}
 use Rattle.elf_object.proofs.AnswerLaws.{answers_refused}
 use Rattle.elf_descriptor.specs.Reads.{Looks, wanted}
-use Rattle.command_objects.specs.BuiltHashes.{gnu_order_answer, gnu_order_of, hash_refusal}
-use Rattle.command_objects.specs.Listed.{listed_names}
+use Rattle.hash_model.specs.BuiltHashes.{gnu_order_answer, gnu_order_of, hash_refusal}
+use Rattle.hash_model.specs.Listed.{listed_names}
 use Rattle.hash_build.specs.Calls.{gnu_order}
 use Rattle.hash_build.specs.Rows.{IsOrder}
 use Rattle.hash_build.proofs.CallLaws.{hash_answers, hash_looks, refused_looks}

@@ -3,9 +3,9 @@ use Rattle.std.specs.Prelude.{IfOk}
 use Rattle.elf_object.specs.Words.{Answers}
 use Rattle.elf_object.proofs.AnswerLaws.{answers_refused}
 use Rattle.elf_descriptor.specs.Reads.{Looks, wanted}
-use Rattle.command_objects.specs.BuiltHashes.{build_sysv_answer, hash_refusal, sysv_built}
-use Rattle.command_objects.specs.HashSections.{sysv_words}
-use Rattle.command_objects.specs.Listed.{listed_names}
+use Rattle.hash_model.specs.BuiltHashes.{build_sysv_answer, hash_refusal, sysv_built}
+use Rattle.hash_model.specs.HashSections.{sysv_words}
+use Rattle.hash_model.specs.Listed.{listed_names}
 use Rattle.hash_build.specs.Calls.{build_sysv}
 use Rattle.hash_build.proofs.CallLaws.{hash_answers, hash_looks, refused_looks}
 use Rattle.hash_build.proofs.SysvLaws.{sysv_stated}

@@ -1,6 +1,5 @@
--- What is written is opened again, and settling keeps what has items of its own.
 use Rattle.hash_laws.proofs.RehashAgain as laws
 use Rattle.hash_laws.proofs.laws.rehash_law.Goals as goal
 
 pub returns : goal.returns
-returns c = laws.rehash_law c.reopen_law.ensures c.settling_keeps_items.ensures
+returns c = laws.rehash_law c.rehash_writes.ensures

@@ -1,6 +1,6 @@
 use Rattle.std.proofs.Common.{◌++◌, ℕ, List, ap, ◌∙◌}
 use Rattle.command_objects.specs.Split.{loaded_header}
-use Rattle.command_objects.specs.Words.{header_at}
+use Rattle.elf_object.specs.Sections.{header_at}
 use Rattle.join_contents.proofs.RangeLaws.{found_before, out_found}
 use Rattle.join_contents.proofs.AddLaws.{range_added, range_refused, adds_as}
 use Rattle.join_contents.proofs.adding.add_loaded.Goals as goal

@@ -1,5 +1,5 @@
 use Rattle.std.proofs.Common.{sym, ap, ◌∙◌, arith}
-use Rattle.command_objects.specs.Words.{is_allocated}
+use Rattle.elf_object.specs.Sections.{is_allocated}
 use Rattle.unstrip_join.proofs.LoadedLaws.{number_there}
 use Rattle.unstrip_join.proofs.NextLaws.{taken_there, taken_few}
 use Rattle.join_contents.proofs.AddLaws.{loaded_added, loaded_refused, own_added, own_refused}

@@ -1,5 +1,5 @@
 use Rattle.std.proofs.Common.{ℕ, sym, ap, ◌∙◌, arith}
-use Rattle.command_objects.specs.HashSections.{ends, gnu_chain_from}
+use Rattle.hash_model.specs.HashSections.{ends, gnu_chain_from}
 use Rattle.lint_hashes.specs.Gnu.{section_of}
 use Rattle.lint_hashes.proofs.AllSteps.{all_more, all_fails, all_passed}
 use Rattle.lint_hashes.proofs.GnuWords.{bucket_count}

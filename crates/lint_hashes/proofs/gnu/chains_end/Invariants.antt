@@ -1,6 +1,6 @@
 use Rattle.std.proofs.Common.{◌≡◌, ℕ, drop}
 use Rattle.std.specs.List.{list_all}
-use Rattle.command_objects.specs.HashSections.{ends, gnu_chain_from}
+use Rattle.hash_model.specs.HashSections.{ends, gnu_chain_from}
 use Rattle.lint_hashes.specs.Gnu.{section_of}
 use Rattle.lint_hashes.proofs.gnu.chains_end.Given as goal
 

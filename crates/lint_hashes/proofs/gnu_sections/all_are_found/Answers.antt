@@ -2,8 +2,8 @@ use Rattle.std.proofs.Common.{ℕ, List, true, false, Some, None, Ok, Err, IsTru
 use Rattle.elf_object.specs.Object.{Object}
 use Rattle.object_output.proofs.ElfSteps.{elf_left}
 use Rattle.object_output.proofs.LearnLemmas.{learns_by, learns_after, learns_stop}
-use Rattle.command_objects.specs.HashSections.{is_found_gnu}
-use Rattle.command_objects.specs.Listed.{listed_names}
+use Rattle.hash_model.specs.HashSections.{is_found_gnu}
+use Rattle.hash_model.specs.Listed.{listed_names}
 use Rattle.lint_findings.specs.Looking.{data_bytes}
 use Rattle.lint_hashes.specs.declared.listed.NameHash.TheVariants.{Gnu}
 use Rattle.lint_hashes.specs.Listed.{listed_hash}

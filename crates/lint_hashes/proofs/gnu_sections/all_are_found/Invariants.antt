@@ -1,7 +1,7 @@
 use Rattle.std.proofs.Common.{◌≡◌, ◌≤◌, ℕ, Bool, true, Option, Some, None, List, drop, IsTrue}
 use Rattle.std.specs.List.{list_all, enumerate_from}
-use Rattle.command_objects.specs.HashSections.{is_found_gnu}
-use Rattle.command_objects.specs.Listed.{listed_names}
+use Rattle.hash_model.specs.HashSections.{is_found_gnu}
+use Rattle.hash_model.specs.Listed.{listed_names}
 use Rattle.object_output.specs.Steps.{LeavesElf}
 use Rattle.lint_findings.specs.Looking.{data_bytes}
 use Rattle.lint_hashes.specs.Gnu.{section_of, IsRun}

@@ -3,7 +3,7 @@ use Rattle.elf_object.specs.Object.{Object}
 use Rattle.bytes_at_hand.proofs.Ends.{end_stays}
 use Rattle.std.specs.Prelude.{slice_get}
 use Rattle.std.specs.Option.{option_map}
-use Rattle.command_objects.specs.Listed.{listed_name}
+use Rattle.hash_model.specs.Listed.{listed_name}
 use Rattle.lint_findings.specs.Looking.{symbols}
 use Rattle.object_output.proofs.LearnLemmas.{learns_map, learns_then}
 use Rattle.lint_hashes.specs.Listed.{hash_by, listed_hash, AreListed}

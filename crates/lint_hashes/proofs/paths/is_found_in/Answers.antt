@@ -1,5 +1,5 @@
 use Rattle.std.proofs.Common.{ℕ, Option, refl, sym, ap, ◌∙◌}
-use Rattle.command_objects.specs.HashSections.{is_on}
+use Rattle.hash_model.specs.HashSections.{is_on}
 use Rattle.lint_hashes.specs.Sysv.{is_found, bucket_has}
 use Rattle.lint_hashes.specs.Paths.{chain_from}
 use Rattle.lint_hashes.proofs.PathLaws.{walked_on}

@@ -1,5 +1,5 @@
 use Rattle.std.proofs.Common.{◌≡◌, ℕ, true, sym, ◌∙◌, subst, arith}
-use Rattle.command_objects.specs.HashSections.{is_on}
+use Rattle.hash_model.specs.HashSections.{is_on}
 use Rattle.lint_hashes.specs.Paths.{chain_from}
 use Rattle.lint_hashes.proofs.PathLaws.{self_leads}
 use Rattle.lint_hashes.proofs.paths.is_met.Goals as goal

@@ -1,5 +1,5 @@
 use Rattle.std.proofs.Common.{◌≡◌, true}
-use Rattle.command_objects.specs.HashSections.{is_on}
+use Rattle.hash_model.specs.HashSections.{is_on}
 use Rattle.lint_hashes.specs.Paths.{chain_from}
 use Rattle.lint_hashes.proofs.paths.is_met.Given as goal
 

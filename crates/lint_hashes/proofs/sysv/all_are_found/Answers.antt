@@ -2,8 +2,8 @@ use Rattle.std.proofs.Common.{ℕ, List, true, false, Some, Ok, sym, ◌∙◌, 
 use Rattle.bytes_at_hand.proofs.Ends.{end_stays}
 use Rattle.object_output.proofs.ElfSteps.{elf_left}
 use Rattle.object_output.proofs.LearnLemmas.{learns_by, learns_after}
-use Rattle.command_objects.specs.Hashes.{elf_hash}
-use Rattle.command_objects.specs.Listed.{listed_names}
+use Rattle.hash_model.specs.Hashes.{elf_hash}
+use Rattle.hash_model.specs.Listed.{listed_names}
 use Rattle.lint_hashes.specs.declared.listed.NameHash.TheVariants.{Sysv}
 use Rattle.lint_hashes.specs.Listed.{listed_hash}
 use Rattle.lint_hashes.specs.Sysv.{is_found, all_are_found}

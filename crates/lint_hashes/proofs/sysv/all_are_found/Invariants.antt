@@ -1,7 +1,7 @@
 use Rattle.std.proofs.Common.{◌≡◌, ◌≤◌, ℕ, Bool, true, Option, Some, None, List, drop, IsTrue}
 use Rattle.std.specs.List.{list_all, enumerate_from}
-use Rattle.command_objects.specs.Hashes.{elf_hash}
-use Rattle.command_objects.specs.Listed.{listed_names}
+use Rattle.hash_model.specs.Hashes.{elf_hash}
+use Rattle.hash_model.specs.Listed.{listed_names}
 use Rattle.object_output.specs.Steps.{LeavesElf}
 use Rattle.lint_hashes.specs.Sysv.{is_found}
 use Rattle.lint_hashes.proofs.sysv.all_are_found.Given as goal

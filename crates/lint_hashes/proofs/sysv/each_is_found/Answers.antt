@@ -1,6 +1,6 @@
 use Rattle.std.proofs.Common.{sym, subst}
 use Rattle.elf_object.specs.Object.{Object}
-use Rattle.command_objects.specs.Listed.{listed_names}
+use Rattle.hash_model.specs.Listed.{listed_names}
 use Rattle.object_output.proofs.LearnLemmas.{learns_after}
 use Rattle.bytes_at_hand.proofs.Ends.{end_stays}
 use Rattle.lint_hashes.specs.Listed.{AreListed}

@@ -1,8 +1,8 @@
 use Rattle.std.proofs.Common.{false}
 use Rattle.elf_types.specs.declared.records.Kind.TheVariants as kinds
 use Rattle.elf_object.specs.Answers.{words_of}
-use Rattle.command_objects.specs.HashSections.{is_whole_sysv}
-use Rattle.command_objects.specs.Listed.{listed_names}
+use Rattle.hash_model.specs.HashSections.{is_whole_sysv}
+use Rattle.hash_model.specs.Listed.{listed_names}
 use Rattle.object_output.proofs.LearnLemmas.{learns_now}
 use Rattle.lint_findings.specs.Looking.{words}
 use Rattle.lint_findings.proofs.LentLemmas.{no_count}

@@ -1,7 +1,7 @@
 use Rattle.std.proofs.Common.{Some, None, false, ap, ◌∙◌}
 use Rattle.elf_types.specs.declared.records.ScnId.{ScnId}
-use Rattle.command_objects.specs.HashSections.{is_whole_sysv}
-use Rattle.command_objects.specs.Listed.{listed_names}
+use Rattle.hash_model.specs.HashSections.{is_whole_sysv}
+use Rattle.hash_model.specs.Listed.{listed_names}
 use Rattle.lint_findings.specs.Looking.{words}
 use Rattle.object_output.proofs.LearnLemmas.{learns_map, learns_then}
 use Rattle.lint_hashes.specs.Sysv.{table_in, is_whole_table}

@@ -1,4 +1,4 @@
-use Rattle.std.proofs.Common.{false, Ok, Result, sym, subst}
+use Rattle.std.proofs.Common.{false, Ok, Result, refl, sym, subst}
 use Rattle.elf_object.specs.Object.{Object}
 use Rattle.command_objects.specs.Rehashed.{RehashFault}
 use Rattle.rehash_tool.specs.Steps.{IsRehashed}
@@ -16,10 +16,12 @@ returns-in-Some g c = record {
       c.sysv_section-words.result c.in-Some.ensures c.gnu_section-gnu.ensures
       c.sysv_section-words.ensures))
       (c.rehash_at.ensures.rehashed told);
+  none = c.rehash_at.ensures.none;
 }
 
 pub returns-in-None : goal.returns-in-None
 returns-in-None g c = record {
   keeps = keeps_none g.S.Source (Ok false) c.args.elf.now tt;
   rehashed = λ told. no_table c.args.elf.now.o c.in-None.ensures;
+  none = λ is. refl;
 }

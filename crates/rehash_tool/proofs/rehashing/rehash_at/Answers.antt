@@ -1,7 +1,7 @@
-use Rattle.std.proofs.Common.{true, false, Ok, sym, ◌∙◌}
+use Rattle.std.proofs.Common.{true, false, Ok, refl, sym, ◌∙◌}
 use Rattle.elf_types.specs.Answers.{stated_refusal}
 use Rattle.rehash_tool.proofs.StepLemmas.{keeps_none, keeps_ok, keeps_end}
-use Rattle.rehash_tool.proofs.RehashLemmas.{neither, both_done, both_refused}
+use Rattle.rehash_tool.proofs.RehashLemmas.{neither, both_done, both_refused, never_done, never_refused}
 use Rattle.rehash_tool.proofs.rehashing.rehash_at.Goals as goal
 
 pub returns-then-are_absent-clause-keeps : goal.returns-then-are_absent-clause-keeps
@@ -12,6 +12,15 @@ pub returns-then-are_absent-clause-rehashed : goal.returns-then-are_absent-claus
 returns-then-are_absent-clause-rehashed g c = λ told.
     neither c.args.elf.now.o c.args.s.0 c.args.gnu c.args.words
     (sym c.are_absent.ensures ∙ c.if-are_absent.true)
+
+pub returns-then-are_absent-clause-none : goal.returns-then-are_absent-clause-none
+returns-then-are_absent-clause-none g c = λ is. refl
+
+pub returns-in-Ok-clause-none : goal.returns-in-Ok-clause-none
+returns-in-Ok-clause-none g c = λ is. absurd (never_done is)
+
+pub returns-in-Err-clause-none : goal.returns-in-Err-clause-none
+returns-in-Err-clause-none g c = λ is. absurd (never_refused c.in-Err.e is)
 
 pub returns-in-Ok-clause-keeps : goal.returns-in-Ok-clause-keeps
 returns-in-Ok-clause-keeps g c =

@@ -1,6 +1,6 @@
 use Rattle.std.proofs.Common.{Ok, Err}
 use Rattle.elf_descriptor.specs.Reads.{wanted}
-use Rattle.command_objects.specs.BuiltHashes.{gnu_order_answer}
+use Rattle.hash_model.specs.BuiltHashes.{gnu_order_answer}
 use Rattle.hash_build.specs.Calls as built
 use Rattle.rehash_tool.specs.Steps.{sorted_gnu}
 use Rattle.rehash_tool.proofs.StepLemmas.{answers_given, turns_then, turns_end, turns_of}

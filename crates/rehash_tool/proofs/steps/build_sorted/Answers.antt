@@ -1,6 +1,6 @@
 use Rattle.std.proofs.Common.{Ok, Err}
 use Rattle.elf_types.specs.Answers.{answered}
-use Rattle.command_objects.specs.Reordered.{reordered, reorder_refusal}
+use Rattle.hash_model.specs.Reordered.{reordered, reorder_refusal}
 use Rattle.hash_build.specs.Calls.{stated}
 use Rattle.hash_order.specs.Calls.{reorder_wants}
 use Rattle.rehash_tool.specs.Steps.{built_gnu}

@@ -2,8 +2,8 @@ use Rattle.std.proofs.Common.{Ok, Err}
 use Rattle.elf_xlate.specs.declared.content.Items.TheVariants as items
 use Rattle.elf_object.specs.Calls as calls
 use Rattle.elf_descriptor.specs.Reads.{wanted}
-use Rattle.command_objects.specs.Words.{edited}
-use Rattle.command_objects.specs.BuiltHashes.{build_sysv_answer}
+use Rattle.elf_object.specs.Sections.{edited}
+use Rattle.hash_model.specs.BuiltHashes.{build_sysv_answer}
 use Rattle.hash_build.specs.Calls as built
 use Rattle.rehash_tool.proofs.StepLemmas.{answers_given, turns_then, turns_end, turns_of}
 use Rattle.rehash_tool.proofs.CallLemmas.{looked}

@@ -1,12 +1,11 @@
-use Rattle.std.proofs.Common.{◌≡◌, eqb, cond, Some, None, length, refl, sym, ap, ◌∙◌, arith}
+use Rattle.std.proofs.Common.{◌≡◌, eqb, cond, Some, None, length, refl, sym, ap, ◌∙◌}
 use Rattle.std.specs.Ordering.{nat_cmp}
 use Rattle.std.specs.BTreeMap.{get}
 use Rattle.strtab_build.proofs.KeptLemmas.{IsHeld-empty}
-use Rattle.strtab_build.proofs.TableLemmas.{length_le-unclosed}
 use Rattle.shared_strings.specs.Hashes.{hash_of}
 use Rattle.shared_strings.specs.Kept.{names_of}
-use Rattle.shared_strings.proofs.KeptLaws.{count_is, new_hash}
-use Rattle.shared_strings.proofs.PlaceLaws.{with_new_hash, places_last, places_held, places_none, kept_noting, noted_free, not_some, taken_by}
+use Rattle.shared_strings.proofs.KeptLaws.{new_hash}
+use Rattle.shared_strings.proofs.PlaceLaws.{with_new_hash, places_last, places_held, places_none, kept_noting, noted_free, noted_taken}
 use Rattle.shared_strings.proofs.placing.place.Goals as goal
 
 pub returns-then-is_empty-clause-places : goal.returns-then-is_empty-clause-places
@@ -14,17 +13,6 @@ returns-then-is_empty-clause-places c =
     places_held c.args.parts.now c.args.name.now 0 c.requires.kept
     (IsHeld-empty (names_of c.args.parts.now) c.args.name.now c.requires.kept.names_are
     (sym c.is_empty.ensures ∙ c.if-is_empty.true))
-
-pub overflow_cast-index : goal.overflow_cast-index
-overflow_cast-index c =
-    let many = count_is _ _ _ _ _ c.requires.kept in
-    omega (
-      arith,
-      length_le-unclosed (names_of c.args.parts.now),
-      c.requires.kept.names_are.small,
-      many,
-      c.len-index.ensures,
-    )
 
 pub returns-in_err-noted-clause-places : goal.returns-in_err-noted-clause-places
 returns-in_err-noted-clause-places c =
@@ -36,30 +24,40 @@ returns-in_err-noted-clause-places c =
 pub place_follower-requires-clause-kept : goal.place_follower-requires-clause-kept
 place_follower-requires-clause-kept c =
     let first = get nat_cmp c.args.parts.now.first in
+    let taken = sym c.in_ok-noted.ensures.noted ∙ c.in-Some.is in
     kept_noting c.args.parts.now (get nat_cmp c.note_first.new.first) c.requires.kept
     (λ q. c.in_ok-noted.ensures.notes q
-    ∙ taken_by first c.hash_of.result c.len-index.result c.in_ok-noted.noted
-    (sym c.is_some.ensures ∙ c.if-is_some.true) c.in_ok-noted.ensures.noted q)
+    ∙ noted_taken first c.hash_of.result c.next_index-index.result c.in-Some.first q taken)
 
-pub returns-clause-places : goal.returns-clause-places
-returns-clause-places c =
+pub place_follower-requires-clause-full : goal.place_follower-requires-clause-full
+place_follower-requires-clause-full c = sym c.is_empty.ensures ∙ c.if-is_empty.false
+
+pub place_follower-requires-clause-first : goal.place_follower-requires-clause-first
+place_follower-requires-clause-first c =
+    let first = get nat_cmp c.args.parts.now.first in
+    let taken = sym c.in_ok-noted.ensures.noted ∙ c.in-Some.is in
+    sym (ap (get nat_cmp c.note_first.new.first) c.hash_of.ensures)
+    ∙ c.in_ok-noted.ensures.notes c.hash_of.result
+    ∙ noted_taken first c.hash_of.result c.next_index-index.result c.in-Some.first
+    c.hash_of.result taken ∙ taken
+
+pub returns-in-None-clause-places : goal.returns-in-None-clause-places
+returns-in-None-clause-places c =
     let p = c.args.parts.now in
-    let many = count_is _ _ _ _ _ c.requires.kept in
-    let count : c.len-index.result ≡ length (names_of p) = omega (arith, many, c.len-index.ensures)
-    in
-    let none = not_some c.in_ok-noted.noted (sym c.is_some.ensures ∙ c.if-is_some.false) in
     let free : get nat_cmp p.first c.hash_of.result ≡ None =
-    sym c.in_ok-noted.ensures.noted ∙ none in
+    sym c.in_ok-noted.ensures.noted ∙ c.in-None.is in
     let free_hash : get nat_cmp p.first (hash_of c.args.name.now) ≡ None =
     sym (ap (get nat_cmp p.first) c.hash_of.ensures) ∙ free in
     places_last p c.args.name.now None (get nat_cmp c.note_first.new.first)
     (get nat_cmp p.newest) c.requires.kept
-    (new_hash p c.args.name.now c.requires.kept (sym c.is_empty.ensures ∙ c.if-is_empty.false) free_hash) c.requires.fits
+    (new_hash p c.args.name.now c.requires.kept (sym c.is_empty.ensures ∙ c.if-is_empty.false)
+    free_hash) c.requires.fits
     (λ entries start is. with_new_hash p c.args.name.now
     (record { start = start; len = length c.args.name.now; older = None }) entries
     c.requires.kept is (get nat_cmp c.note_first.new.first) free_hash
     (λ q. c.in_ok-noted.ensures.notes q
-    ∙ noted_free (get nat_cmp p.first) c.hash_of.result c.len-index.result q free
-    ∙ (λ j. cond (eqb (c.hash_of.ensures j) q) (Some (count j)) (get nat_cmp p.first q))))
+    ∙ noted_free (get nat_cmp p.first) c.hash_of.result c.next_index-index.result q free
+    ∙ (λ j. cond (eqb (c.hash_of.ensures j) q) (Some (c.next_index-index.ensures j))
+    (get nat_cmp p.first q))))
     (record p { first = c.note_first.new.first }) c.put_last.new.parts c.put_last.result refl refl
     refl refl c.put_last.ensures.ok c.put_last.ensures.none

@@ -1,6 +1,6 @@
 use Rattle.std.proofs.Common.{◌≡◌, map, max, take}
 use Rattle.command_objects.specs.Arranged.{segment_end}
-use Rattle.command_objects.specs.Words.{greatest}
+use Rattle.elf_object.specs.Sections.{greatest}
 use Rattle.strip_rebuild.specs.Ends.{at_most_word}
 use Rattle.strip_rebuild.proofs.tails.with_segments.Given as goal
 

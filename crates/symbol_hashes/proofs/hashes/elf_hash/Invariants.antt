@@ -1,6 +1,6 @@
 use Rattle.std.proofs.Common.{◌≡◌, drop}
 use Rattle.std.specs.List.{fold}
-use Rattle.command_objects.specs.Hashes.{elf_hash_step}
+use Rattle.hash_model.specs.Hashes.{elf_hash_step}
 use Rattle.symbol_hashes.proofs.hashes.elf_hash.Given as goal
 
 abbrev pub invariant-loop-byte : goal.invariant-loop-byte

@@ -1,6 +1,6 @@
 use Rattle.std.proofs.Common.{sym}
 use Rattle.elf_object.proofs.AnswerLaws.{answered_value, answered_refusal, answers_refused}
-use Rattle.command_objects.specs.Listed.{find_linear_answer}
+use Rattle.hash_model.specs.Listed.{find_linear_answer}
 use Rattle.elf_types.specs.declared.records.Kind.TheVariants as kinds
 use Rattle.elf_object.specs.Answers.{lend_refusal}
 use Rattle.symbol_lookup.specs.Lookups.{find_linear}

@@ -2,7 +2,7 @@ use Rattle.std.proofs.Common.{ℕ, sym, subst, Ok, Err}
 use Rattle.elf_types.specs.Answers.{Follows}
 use Rattle.elf_object.specs.Object.{Object}
 use Rattle.elf_object.specs.Answers.{items_at, words_of}
-use Rattle.command_objects.specs.Hashes.{elf_hash}
+use Rattle.hash_model.specs.Hashes.{elf_hash}
 use Rattle.symbol_lookup.specs.declared.walks.Start.{Start}
 use Rattle.symbol_lookup.specs.Walks.{sysv_start}
 use Rattle.symbol_lookup.specs.Lookups.{link_of, found_from, sysv_found, sysv_needs}

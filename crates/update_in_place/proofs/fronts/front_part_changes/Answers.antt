@@ -1,6 +1,17 @@
 use Rattle.std.proofs.Common.{true, false}
-use Rattle.update_in_place.proofs.FrontLaws.{whole_is, part_marked, object_marked, part_differs}
+use Rattle.object_laws.proofs.PlacedLaws.{update_passes}
+use Rattle.update_in_place.proofs.FrontLaws.{whole_is, planned_fit, part_marked, object_marked, part_differs}
 use Rattle.update_in_place.proofs.fronts.front_part_changes.Goals as goal
+
+pub front_differs-requires-clause-contents : goal.front_differs-requires-clause-contents
+front_differs-requires-clause-contents g c =
+    let ready = c.requires.planned.ready in
+    (update_passes c.args.elf.now.o ready.dirty ready.passed).0
+
+pub front_differs-requires-clause-places : goal.front_differs-requires-clause-places
+front_differs-requires-clause-places g c =
+    planned_fit c.args.elf.now.o c.args.planned.now.places c.requires.planned.ready
+    c.requires.planned.places
 
 pub returns-then-marked : goal.returns-then-marked
 returns-then-marked g c =

@@ -17,7 +17,8 @@ returns-then-fits-clause-reads c =
 pub returns-then-fits-clause-too_large : goal.returns-then-fits-clause-too_large
 returns-then-fits-clause-too_large c =
     let t = subst IsTable c.self.view_is c.self.invariant.names_are in
-    let small = small_added c.args.self.now c.args.bytes.now t (c.fits.ensures.0 c.if-fits.true) in (
+    let small = small_added c.args.self.now c.args.bytes.now t
+    (c.fits.ensures.0 c.if-fits.true) in (
       λ large. absurd (not_large c.place.result c.place.ensures.err large),
       λ more. absurd (omega (arith, small, more)),
     )
@@ -33,8 +34,8 @@ returns-clause-reads c =
 
 pub returns-clause-too_large : goal.returns-clause-too_large
 returns-clause-too_large c =
-    let full = λ (less : length (unclosed c.args.self.now) + length c.args.bytes.now + 2 < 2 ^ 32).
-    true≢false (sym (c.fits.ensures.1 less) ∙ c.if-fits.false) in
+    let full = λ (less : length (unclosed c.args.self.now) + length c.args.bytes.now + 2
+    < 2 ^ 32). true≢false (sym (c.fits.ensures.1 less) ∙ c.if-fits.false) in
     subst (λ r. IsErrOf r TooLarge
     ↔ (2 ^ 32 - 1 < length (table (c.args.self.now ++ c.args.bytes.now ∷ []))))
     (sym c.ok_or.ensures.value)

@@ -1,6 +1,6 @@
 use Rattle.std.proofs.Common.{Bool, sym, ap, ◌∙◌}
 use Rattle.std.specs.Prelude.{if◌then◌else◌}
-use Rattle.command_objects.specs.Words.{number_or_0}
+use Rattle.elf_object.specs.Sections.{number_or_0}
 use Rattle.command_objects.specs.Followed.{followed, renumbered}
 use Rattle.strip_items.proofs.numbering.Numbering.followed.Goals as goal
 

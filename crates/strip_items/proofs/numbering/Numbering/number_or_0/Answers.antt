@@ -1,5 +1,5 @@
 use Rattle.std.proofs.Common.{ap}
-use Rattle.command_objects.specs.Words.{number_or_0}
+use Rattle.elf_object.specs.Sections.{number_or_0}
 use Rattle.strip_items.proofs.numbering.Numbering.number_or_0.Goals as goal
 
 pub returns-in-Some : goal.returns-in-Some

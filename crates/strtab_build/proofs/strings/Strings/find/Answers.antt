@@ -1,52 +1,78 @@
-use Rattle.std.proofs.Common.{◌+◌, arith, sym, subst, ap, ◌∙◌}
-use Rattle.std.specs.Option.{option_map_or}
-use Rattle.strtab_build.specs.Names.{IsKept, newest_of}
-use Rattle.strtab_build.proofs.KeptLemmas.{IsHeld-empty, IsHeld-found, length-entries, sought}
+use Rattle.std.proofs.Common.{◌≡◌, length, arith, sym, subst, ap, ◌∙◌}
+use Rattle.std.specs.Str.{bytes_eq}
+use Rattle.strtab_build.specs.Names.{chain_of, hash_of, IsKept}
+use Rattle.strtab_build.proofs.KeptLemmas.{IsHeld-empty, IsHeld-found, sought, walked}
+use Rattle.strtab_build.proofs.NamesLemmas.{Seeks-end, Seeks-next, Seeks-start, length_le-chain}
+use Rattle.strtab_build.proofs.TableLemmas.{length_le-unclosed}
 use Rattle.strtab_build.proofs.strings.Strings.find.Goals as goal
-use Rattle.strtab_build.proofs.NamesLemmas.{Seeks, Seeks-end, Seeks-next, Seeks-start, Seeks-within, newest_before}
 
-pub returns-then-is_empty : goal.returns-then-is_empty
-returns-then-is_empty c =
-    let kept = subst (IsKept _ _ _) c.self.view_is c.self.invariant in
+pub returns-then-is_empty-clause-held : goal.returns-then-is_empty-clause-held
+returns-then-is_empty-clause-held c =
+    let kept = subst (IsKept _ _) c.self.view_is c.self.invariant in
     IsHeld-empty _ _ kept.names_are (sym c.is_empty.ensures ∙ c.if-is_empty.true)
 
-pub loop-next-init : goal.loop-next-init
-loop-next-init c =
-    let kept = subst (IsKept _ _ _) c.self.view_is c.self.invariant in
-    Seeks-start _ _ _ (c.copied-next.ensures ∙ c.get.ensures.value ∙ kept.newest_are c.args.hash ∙ ap (λ h. newest_of h c.args.self.now) c.requires)
-
-pub index-entry-requires : goal.index-entry-requires
-index-entry-requires c =
-    let kept = subst (IsKept _ _ _) c.self.view_is c.self.invariant in
-    let many = length-entries _ _ _ _ kept in
-    let len = c.self.inside.entries.ok.0 in
-    omega (arith, Seeks-within _ _ _ (subst (Seeks c.args.name.now c.args.self.now) c.in-Some.is c.loop-next.invariant))
+pub loop-entry-init : goal.loop-entry-init
+loop-entry-init c = Seeks-start c.args.name.now c.args.self.now
 
 pub slice_bounds-eq-end : goal.slice_bounds-eq-end
 slice_bounds-eq-end c =
-    let kept = subst (IsKept _ _ _) c.self.view_is c.self.invariant in
-    let s = sought _ _ _ _ _ _ _ _ _ kept c.as_slice-bytes.ensures.value c.loop-next.invariant c.in-Some.is c.index-entry.ensures in
+    let kept = subst (IsKept _ _) c.self.view_is c.self.invariant in
+    let s = sought _ _ _ c.args.name.now _ _ kept c.hash_of-hash.ensures _ _ _
+    c.as_slice-bytes.ensures.value (c.copied.ensures ∙ c.get.ensures.value) c.in-Some.is in
     s.within
 
-pub returns-then-eq : goal.returns-then-eq
-returns-then-eq c =
-    let kept = subst (IsKept _ _ _) c.self.view_is c.self.invariant in
-    let s = sought _ _ _ _ _ _ _ _ _ kept c.as_slice-bytes.ensures.value c.loop-next.invariant c.in-Some.is c.index-entry.ensures in
-    IsHeld-found _ _ _ _ kept.names_are s.below (sym s.compared ∙ sym c.eq.ensures ∙ c.if-eq.true) s.placed
+pub returns-then-eq-clause-held : goal.returns-then-eq-clause-held
+returns-then-eq-clause-held c =
+    let kept = subst (IsKept _ _) c.self.view_is c.self.invariant in
+    let s = sought _ _ _ c.args.name.now _ _ kept c.hash_of-hash.ensures _ _ _
+    c.as_slice-bytes.ensures.value (c.copied.ensures ∙ c.get.ensures.value) c.in-Some.is in
+    IsHeld-found _ _ _ _ kept.names_are s.below
+    (sym s.compared ∙ sym c.eq.ensures ∙ c.if-eq.true) s.placed
 
-pub loop-next-smaller : goal.loop-next-smaller
-loop-next-smaller c =
-    let kept = subst (IsKept _ _ _) c.self.view_is c.self.invariant in
-    let s = sought _ _ _ _ _ _ _ _ _ kept c.as_slice-bytes.ensures.value c.loop-next.invariant c.in-Some.is c.index-entry.ensures in
-    omega (arith, newest_before _ _ _ _ s.chained, ap (λ o. option_map_or (λ i. i + 1) o 0) c.in-Some.is)
+pub overflow_add-repeat : goal.overflow_add-repeat
+overflow_add-repeat c =
+    let kept = subst (IsKept _ _) c.self.view_is c.self.invariant in
+    let s = sought _ _ _ c.args.name.now _ _ kept c.hash_of-hash.ensures _ _ _
+    c.as_slice-bytes.ensures.value (c.copied.ensures ∙ c.get.ensures.value) c.in-Some.is in
+    omega (
+      arith,
+      s.along,
+      length_le-chain (hash_of c.args.name.now) c.args.self.now,
+      length_le-unclosed c.args.self.now,
+      kept.names_are.small,
+    )
 
-pub loop-next-preserved : goal.loop-next-preserved
-loop-next-preserved c =
-    let kept = subst (IsKept _ _ _) c.self.view_is c.self.invariant in
-    let s = sought _ _ _ _ _ _ _ _ _ kept c.as_slice-bytes.ensures.value c.loop-next.invariant c.in-Some.is c.index-entry.ensures in
-    Seeks-next _ _ _ _ s.walk (sym s.compared ∙ sym c.eq.ensures ∙ c.if-eq.false) s.chained
+pub loop-entry-smaller : goal.loop-entry-smaller
+loop-entry-smaller c =
+    let kept = subst (IsKept _ _) c.self.view_is c.self.invariant in
+    let s = sought _ _ _ c.args.name.now _ _ kept c.hash_of-hash.ensures _ _ _
+    c.as_slice-bytes.ensures.value (c.copied.ensures ∙ c.get.ensures.value) c.in-Some.is in
+    omega (arith, s.along)
 
-pub returns : goal.returns
-returns c =
-    let ended = subst (Seeks c.args.name.now c.args.self.now) c.in_default.is c.loop-next.invariant in
-    record { not_empty = sym c.is_empty.ensures ∙ c.if-is_empty.false; unused = Seeks-end _ _ ended }
+pub loop-entry-preserved : goal.loop-entry-preserved
+loop-entry-preserved c =
+    let kept = subst (IsKept _ _) c.self.view_is c.self.invariant in
+    let s = sought _ _ _ c.args.name.now _ _ kept c.hash_of-hash.ensures _ _ _
+    c.as_slice-bytes.ensures.value (c.copied.ensures ∙ c.get.ensures.value) c.in-Some.is in
+    Seeks-next _ _ _ c.loop-entry.invariant s.along
+    (ap (bytes_eq c.args.name.now) s.same ∙ sym s.compared ∙ sym c.eq.ensures ∙ c.if-eq.false)
+
+pub returns-clause-new : goal.returns-clause-new
+returns-clause-new c =
+    let kept = subst (IsKept _ _) c.self.view_is c.self.invariant in
+    let end = walked _ _ _ c.args.name.now _ _ kept c.hash_of-hash.ensures _
+    (c.copied.ensures ∙ c.get.ensures.value) c.in_default.is in
+    record {
+      not_empty = sym c.is_empty.ensures ∙ c.if-is_empty.false;
+      unused = Seeks-end _ _ _ c.loop-entry.invariant end;
+    }
+
+pub returns-clause-key : goal.returns-clause-key
+returns-clause-key c =
+    let kept = subst (IsKept _ _) c.self.view_is c.self.invariant in
+    let end = walked _ _ _ c.args.name.now _ _ kept c.hash_of-hash.ensures _
+    (c.copied.ensures ∙ c.get.ensures.value) c.in_default.is in
+    let within = c.loop-entry.invariant.within in
+    let count : c.loop-entry.repeat
+    ≡ length (chain_of (hash_of c.args.name.now) c.args.self.now) = omega (arith, within, end) in
+    λ j. (c.hash_of-hash.ensures j, count j)

@@ -5,5 +5,5 @@ use Rattle.strtab_build.proofs.strings.Strings.finish.Goals as goal
 
 pub returns-clause-ok : goal.returns-clause-ok
 returns-clause-ok c =
-    let kept = subst (IsKept _ _ _) c.self.view_is c.self.invariant in
-    c.from_vec.ensures ∙ c.in_ok-push.ensures.items ∙ table_kept _ _ _ _ kept
+    let kept = subst (IsKept _ _) c.self.view_is c.self.invariant in
+    c.from_vec.ensures ∙ c.in_ok-push.ensures.items ∙ table_kept _ _ _ kept

@@ -1,0 +1,14 @@
+//! The first place of a byte.
+#![tactic(auto)]
+
+ghost use Rattle.std.specs.Prelude.{◌≡◌, ◌==◌, position};
+
+use memchr::memchr;
+
+/// The first place at which a byte stands among others, or None where it does not. It takes no
+/// memory.
+pub fn find_byte(bytes: &[u8], byte: u8) -> Option<usize>
+    ensures { result ≡ position (λ b. b == byte) bytes.now }
+{
+    memchr(byte, bytes)
+}

@@ -1,0 +1,127 @@
+//! Looking a symbol of the object with two up, by hash sections of one bucket.
+
+use elf_descriptor::Elf;
+use elf_outside::Source;
+use elf_types::constants::{SHT_GNU_HASH, SHT_HASH};
+use elf_types::{ElfError, Octets, ScnId, Shdr};
+use std::alloc::Global;
+use symbol_lookup::{find_gnu, find_sysv};
+use test_images::{Content, Field, HeaderField, NULL_SECTION, OBJECT, Put, Recipe, image_of};
+use test_sources::{Sparse, source};
+
+/// A hash section of words that links to the symbols, which are section 2.
+const HASH: Shdr = Shdr {
+    stype: SHT_HASH,
+    link: 2,
+    addralign: 8,
+    ..NULL_SECTION
+};
+
+/// GNU's hash section of the symbol from 1 on: one bucket, one bloom word with the bits 6 and 24 of
+/// the name `a`, whose hash is 0x2b606, and that hash with the bit that ends the chain.
+const GNU_HASH: &[u8] = b"\x01\0\0\0\x01\0\0\0\x01\0\0\0\x06\0\0\0\x40\0\0\x01\0\0\0\0\
+    \x01\0\0\0\x07\xb6\x02\0";
+
+/// The object with three hash sections: one of words, GNU's, and one of words whose chain goes from
+/// symbol 1 to symbol 1.
+static HASHED: Recipe = Recipe {
+    puts: &[
+        Put::Field(Field::Header(HeaderField::Shnum), 6),
+        Put::Section(3, HASH),
+        Put::Section(
+            4,
+            Shdr {
+                stype: SHT_GNU_HASH,
+                ..HASH
+            },
+        ),
+        Put::Section(5, HASH),
+        Put::Home(3, Content::Words(&[1, 2, 1, 0, 0])),
+        Put::Home(4, Content::Bytes(GNU_HASH)),
+        Put::Home(5, Content::Words(&[1, 2, 1, 0, 1])),
+    ],
+    ..OBJECT
+};
+
+/// A hash section, a name, and what the name finds there.
+type Row = (u32, &'static [u8], Result<Option<u64>, ElfError>);
+
+/// By words: symbol 1 alone has a name, and the second section has no end for another one.
+static BY_WORDS: [Row; 3] = [
+    (3, b"a", Ok(Some(1))),
+    (3, b"b", Ok(None)),
+    (5, b"b", Err(ElfError::BadChain { at: 16 })),
+];
+
+/// By bytes.
+static BY_BYTES: [Row; 2] = [(4, b"a", Ok(Some(1))), (4, b"b", Ok(None))];
+
+/// Whether a row of words is as it is found.
+fn is_found_by_words<S: Source>(elf: &mut Elf<S>, row: &Row) -> bool {
+    find_sysv(elf, ScnId(row.0), row.1) == row.2
+}
+
+/// Whether a row of bytes is.
+fn is_found_by_bytes<S: Source>(elf: &mut Elf<S>, row: &Row) -> bool {
+    find_gnu(elf, ScnId(row.0), row.1) == row.2
+}
+
+/// Whether each row is.
+fn are_found<S: Source>(elf: &mut Elf<S>) -> bool {
+    for row in BY_WORDS.iter() {
+        if !is_found_by_words(elf, row) {
+            return false;
+        }
+    }
+    for row in BY_BYTES.iter() {
+        if !is_found_by_bytes(elf, row) {
+            return false;
+        }
+    }
+    true
+}
+
+/// Whether they are over a source.
+fn are_found_over<S: Source + Drop>(alloc: Global, src: S) -> bool {
+    match Elf::begin(alloc, src) {
+        Ok(mut elf) => {
+            let found = are_found(&mut elf);
+            let _src = elf.end();
+            found
+        }
+        Err(_) => false,
+    }
+}
+
+/// Whether they are over a source in memory of these bytes.
+fn are_found_told(alloc: Global, bytes: Octets) -> bool {
+    match source(alloc, bytes, 0) {
+        Ok(src) => are_found_over(alloc, src),
+        Err(_) => false,
+    }
+}
+
+/// Whether they are over one that does not tell them.
+fn are_found_untold(alloc: Global, bytes: Octets) -> bool {
+    let len = bytes.len();
+    are_found_over(alloc, Sparse::new(bytes, len))
+}
+
+/// Whether they are in an image, over a source that tells its bytes or does not.
+fn are_found_in(alloc: Global, recipe: &Recipe, told: bool) -> bool {
+    match image_of(alloc, recipe) {
+        Ok(image) => {
+            if told {
+                return are_found_told(alloc, image.bytes);
+            }
+            are_found_untold(alloc, image.bytes)
+        }
+        Err(_) => false,
+    }
+}
+
+#[test]
+fn a_name_is_found_by_sections_of_one_bucket(rt: HostRuntime) {
+    assert!(rt; are_found_in(rt.alloc(), &HASHED, true));
+    assert!(rt; are_found_in(rt.alloc(), &HASHED, false));
+}

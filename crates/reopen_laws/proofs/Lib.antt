@@ -1,0 +1,5 @@
+pub mod PhdrLaws
+pub mod ScriptLaws
+pub mod CallsLaws
+pub mod WrittenLaws
+pub mod KeptLaws

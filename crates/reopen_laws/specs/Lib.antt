@@ -1,0 +1,4 @@
+pub mod Phdrs
+pub mod Scripts
+pub mod Written
+pub mod Kept

@@ -1,0 +1,10 @@
+pub mod Requests
+pub mod Written
+pub mod CopyRequests
+pub mod StripRuns
+pub mod CopyRuns
+pub mod RehashRuns
+pub mod SplitRuns
+pub mod CallsWritten
+pub mod ProgramWritten
+pub mod OpenedRuns
