@@ -2,12 +2,12 @@
 use Rattle.std.proofs.Common.{◌≡◌, ◌⊎◌, inl, inr, ℕ, ◌<◌, ◌≤◌, Bool, true, not, false, List, length, Option, Some, None, IsTrue, IfSome, refl, sym, ap, ◌∙◌, subst}
 use Rattle.std.specs.Prelude.{nat_le, nat_lt, is_some, is_none}
 use Rattle.std.proofs.lemmas.Bool.{cases_lt, lt-ltb, le-ltb, lt-leb, le-leb, leb-true}
-use Rattle.elf_outside.specs.declared.sources.Source.{Ghosts as SourceGhosts}
-use Rattle.elf_object.specs.Object.{Object}
-use Rattle.elf_object.specs.Strings.{string_answer, readable}
-use Rattle.elf_descriptor.specs.State.{State}
+use Rattle.object_output.specs.elf_outside.declared.sources.Source.{Ghosts as SourceGhosts}
+use Rattle.object_output.specs.elf_object.Object.{Object}
+use Rattle.object_output.specs.elf_object.Strings.{string_answer, readable}
+use Rattle.object_output.specs.elf_descriptor.State.{State}
 use Rattle.object_output.specs.Steps.{LeavesElf}
-use Rattle.gelf_view.specs.Records.{AreEnded}
+use Rattle.object_output.specs.gelf_view.Records.{AreEnded}
 use Rattle.bytes_at_hand.specs.Strings.{is_past, EndsAt, HoldsStrings}
 
 -- what is there has a weaker property too

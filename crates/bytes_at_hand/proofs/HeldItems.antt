@@ -8,16 +8,16 @@ use Rattle.elf_types.specs.declared.records.Kind.{Kind}
 use Rattle.elf_types.specs.declared.errors.ElfError.{ElfError}
 use Rattle.elf_types.specs.declared.errors.ElfError.TheVariants.{NoEntry, OutOfFile, Ragged}
 use Rattle.elf_types.specs.Answers.{err_of}
-use Rattle.elf_xlate.specs.declared.content.Items.{Items}
-use Rattle.elf_xlate.specs.Translation.{decoded, items_kind, is_whole}
-use Rattle.elf_xlate.proofs.Decoded.{whole_is}
-use Rattle.elf_object.specs.Object.{Object, section_at, piece_at}
-use Rattle.elf_object.specs.Answers as answers
-use Rattle.elf_object.specs.Answers.{content, no_content, kind_at, items_at, lend_refusal, entry_at}
-use Rattle.elf_object.proofs.AnswerLaws.{lend_passed}
-use Rattle.elf_descriptor.specs.State.{State}
-use Rattle.elf_descriptor.specs.Held.{AreHeldBytes}
-use Rattle.section_data.specs.Held.{or_empty, items_of_bytes}
+use Rattle.object_output.specs.elf_xlate.declared.content.Items.{Items}
+use Rattle.object_output.specs.elf_xlate.Translation.{decoded, items_kind, is_whole}
+use Rattle.object_output.proofs.elf_xlate.Decoded.{whole_is}
+use Rattle.object_output.specs.elf_object.Object.{Object, section_at, piece_at}
+use Rattle.object_output.specs.elf_object.Answers as answers
+use Rattle.object_output.specs.elf_object.Answers.{content, no_content, kind_at, items_at, lend_refusal, entry_at}
+use Rattle.object_output.proofs.elf_object.AnswerLaws.{lend_passed}
+use Rattle.object_output.specs.elf_descriptor.State.{State}
+use Rattle.object_output.specs.elf_descriptor.Held.{AreHeldBytes}
+use Rattle.object_output.specs.section_data.Held.{or_empty, items_of_bytes}
 use Rattle.bytes_at_hand.specs.declared.items.ItemBytes.{ItemBytes}
 use Rattle.bytes_at_hand.specs.Items.{HoldsItems, AreItems}
 

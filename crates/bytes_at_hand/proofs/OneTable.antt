@@ -12,20 +12,20 @@ use Rattle.elf_types.specs.declared.records.Kind.TheVariants as kinds
 use Rattle.elf_types.specs.declared.errors.ElfError.{ElfError}
 use Rattle.elf_types.specs.declared.errors.ElfError.TheVariants.{OutOfFile, NotStrings, NoString, Unended}
 use Rattle.elf_types.specs.Answers.{answered, refused_if, first_refusal}
-use Rattle.elf_xlate.specs.declared.content.Items.{Items}
-use Rattle.elf_xlate.specs.Translation.{encoded}
-use Rattle.elf_layout.specs.Layout.{rounded_up}
-use Rattle.strtab_build.specs.Table.{string_at}
-use Rattle.elf_object.proofs.RunningEnds.{first_place}
-use Rattle.elf_object.specs.Blocks.{Block, block_covers, block_end, stacked}
-use Rattle.elf_object.specs.Object.{Object, Piece, section_at, piece_at, home_piece, home_is_clean}
-use Rattle.elf_object.specs.Answers.{kind_at, piece_count, same_kind}
-use Rattle.elf_object.specs.Joined.{piece_bytes, aligned_pieces, piece_blocks, pieces_end}
-use Rattle.elf_object.specs.Strings.{kind_of_piece, holds_strings, piece_over, has_nul, bytes_from, no_string, unended, string_in, string_refusal_unread, string_refusal, string_answer, readable}
-use Rattle.elf_object.proofs.StepLaws.{same_kind-same}
-use Rattle.elf_descriptor.specs.State.{State}
-use Rattle.elf_descriptor.specs.Held.{AreHeldBytes}
-use Rattle.gelf_view.specs.Records.{string_front}
+use Rattle.object_output.specs.elf_xlate.declared.content.Items.{Items}
+use Rattle.object_output.specs.elf_xlate.Translation.{encoded}
+use Rattle.object_output.specs.elf_layout.Layout.{rounded_up}
+use Rattle.object_output.specs.strtab_build.Table.{string_at}
+use Rattle.object_output.proofs.elf_object.RunningEnds.{first_place}
+use Rattle.object_output.specs.elf_object.Blocks.{Block, block_covers, block_end, stacked}
+use Rattle.object_output.specs.elf_object.Object.{Object, Piece, section_at, piece_at, home_piece, home_is_clean}
+use Rattle.object_output.specs.elf_object.Answers.{kind_at, piece_count, same_kind}
+use Rattle.object_output.specs.elf_object.Joined.{piece_bytes, aligned_pieces, piece_blocks, pieces_end}
+use Rattle.object_output.specs.elf_object.Strings.{kind_of_piece, holds_strings, piece_over, has_nul, bytes_from, no_string, unended, string_in, string_refusal_unread, string_refusal, string_answer, readable}
+use Rattle.object_output.proofs.elf_object.StepLaws.{same_kind-same}
+use Rattle.object_output.specs.elf_descriptor.State.{State}
+use Rattle.object_output.specs.elf_descriptor.Held.{AreHeldBytes}
+use Rattle.object_output.specs.gelf_view.Records.{string_front}
 use Rattle.bytes_at_hand.specs.Strings.{HoldsStrings, IsOneTable}
 
 one_piece : (ps : List Piece) → length ps ≡ 1 → ps ≡ get_or ps 0 home_piece ∷ []

@@ -1,11 +1,11 @@
 -- The items of a section of which the bytes are at hand: they were read and not edited.
 use Rattle.std.specs.Prelude.{◌≡◌, ◌+◌, ◌<◌, ◌≤◌, ℕ, Bool, List, [], ◌∷◌, length, drop, Option, Some, None, IsTrue, IfSome, if◌then◌else◌}
 use Rattle.elf_types.specs.declared.records.Kind.{Kind}
-use Rattle.elf_xlate.specs.declared.content.Items.{Items}
-use Rattle.elf_xlate.specs.Translation.{is_whole}
-use Rattle.elf_object.specs.Answers.{items_at, lend_refusal}
-use Rattle.elf_descriptor.specs.State.{State}
-use Rattle.section_data.specs.Held.{items_of_bytes}
+use Rattle.object_output.specs.elf_xlate.declared.content.Items.{Items}
+use Rattle.object_output.specs.elf_xlate.Translation.{is_whole}
+use Rattle.object_output.specs.elf_object.Answers.{items_at, lend_refusal}
+use Rattle.object_output.specs.elf_descriptor.State.{State}
+use Rattle.object_output.specs.section_data.Held.{items_of_bytes}
 use Rattle.bytes_at_hand.specs.declared.items.ItemBytes.{ItemBytes}
 use Rattle.bytes_at_hand.specs.declared.items.Span.{Span}
 

@@ -3,11 +3,11 @@
 use Rattle.std.specs.Prelude.{◌≡◌, ℕ, nat_le, nat_lt, Bool, List, drop, false, Option, Some, None, is_some, IsTrue}
 use Rattle.elf_types.specs.declared.constants.TheConstants.{SHT_STRTAB}
 use Rattle.elf_types.specs.declared.records.Kind.TheVariants as kinds
-use Rattle.elf_object.specs.Object.{Object, section_at}
-use Rattle.elf_object.specs.Answers.{no_section, piece_count, kind_at}
-use Rattle.elf_object.specs.Strings.{string_answer, readable}
-use Rattle.elf_descriptor.specs.State.{State}
-use Rattle.gelf_view.specs.Records.{string_front}
+use Rattle.object_output.specs.elf_object.Object.{Object, section_at}
+use Rattle.object_output.specs.elf_object.Answers.{no_section, piece_count, kind_at}
+use Rattle.object_output.specs.elf_object.Strings.{string_answer, readable}
+use Rattle.object_output.specs.elf_descriptor.State.{State}
+use Rattle.object_output.specs.gelf_view.Records.{string_front}
 
 -- ---- One table
 

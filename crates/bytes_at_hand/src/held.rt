@@ -1,13 +1,11 @@
 //! Bytes that are held of a section.
 
 ghost use Rattle.std.specs.Prelude.{IfSome};
-ghost use Rattle.elf_descriptor.specs.Held.{AreHeldBytes};
+ghost use Rattle.object_output.specs.elf_descriptor.Held.{AreHeldBytes};
 ghost use Rattle.object_output.specs.Steps.{ReadsElf};
 
-use elf_descriptor::{Elf, Held};
-use elf_outside::Source;
 use elf_types::{DataId, ScnId};
-use tool_output::Stop;
+use object_output::prelude::{Elf, Held, Source, Stop};
 
 /// Reads a section's bytes where they are not held and can be read. It stops by `Read` where a read
 /// of the source failed, and by `Memory`.

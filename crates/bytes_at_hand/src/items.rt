@@ -1,16 +1,13 @@
 //! The items of a section of which the bytes are at hand: each is told from the bytes alone.
 
 ghost use Rattle.std.specs.Prelude.{◌≡◌, ◌*◌, ◌/◌, ◌%◌, ◌<◌, ◌≤◌, ◌^◌, length, take, drop, slice_get, IsTrue, IfSome, None};
-ghost use Rattle.elf_xlate.specs.Translation.{is_whole};
-ghost use Rattle.section_data.specs.Held.{items_of_bytes};
+ghost use Rattle.object_output.specs.elf_xlate.Translation.{is_whole};
+ghost use Rattle.object_output.specs.section_data.Held.{items_of_bytes};
 ghost use Rattle.bytes_at_hand.specs.Items.{AreItems, HoldsItems};
 
 use crate::held::held_bytes;
-use elf_descriptor::Elf;
-use elf_outside::Source;
 use elf_types::{Class, DataId, Order, ScnId};
-use gelf_view::item_count;
-use section_data::Item;
+use object_output::prelude::{Elf, Item, Source, item_count};
 
 /// The bytes of the items of a section, and by what they are read.
 #[derive(Clone, Copy)]
@@ -48,7 +45,7 @@ pub fn item_bytes<S: Source, T: Item>(elf: &Elf<S>, s: ScnId) -> Option<&[u8]>
 }
 
 /// The same bytes with the class and the byte order of the object.
-#[tactic(auto, using(crate::proofs::HeldItems::are_items), unfolding(elf_object::specs::Object::header_of))]
+#[tactic(auto, using(crate::proofs::HeldItems::are_items), unfolding(object_output::specs::Passed::header_of))]
 pub fn items_at_hand<S: Source, T: Item>(elf: &Elf<S>, s: ScnId) -> Option<ItemBytes<'_>>
     ensures { IfSome result (λ b. AreItems T.kind T.list_of elf.now s.0 b) }
 {
@@ -64,7 +61,7 @@ pub fn items_at_hand<S: Source, T: Item>(elf: &Elf<S>, s: ScnId) -> Option<ItemB
 }
 
 /// The bytes of item `i` of whole items of a size, where there is such an item.
-#[tactic(auto, using(section_data::proofs::Rules::item_bytes))]
+#[tactic(auto, using(object_output::proofs::Passed::item_bytes))]
 #[inline(always)]
 fn bytes_of_item(bytes: &[u8], size: usize, i: u64) -> Option<&[u8]>
     requires some { 0 < size }

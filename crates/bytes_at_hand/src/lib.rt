@@ -6,6 +6,7 @@
 
 pub mod held;
 pub mod items;
+pub mod prelude;
 pub mod scans;
 pub mod strings;
 

@@ -2,13 +2,13 @@
 //! with one look at each.
 
 ghost use Rattle.std.specs.Prelude.{◌≡◌, ◌⊎◌, ◌<◌, ◌≤◌, ◌^◌, ℕ, Bool as TheBool, false, length, Some, IsTrue, IfSome};
-ghost use Rattle.elf_xlate.specs.Translation.{is_whole};
-ghost use Rattle.section_data.specs.Held.{items_of_bytes};
+ghost use Rattle.object_output.specs.elf_xlate.Translation.{is_whole};
+ghost use Rattle.object_output.specs.section_data.Held.{items_of_bytes};
 ghost use Rattle.bytes_at_hand.specs.Items.{held_items, AreWhole, IsNext};
 
 use crate::items::{ItemBytes, Span, item_of, most_items};
 use elf_types::{Class, Order};
-use section_data::Item;
+use object_output::prelude::Item;
 
 /// A test of items by their indexes.
 pub trait ItemTest<T> {

@@ -4,22 +4,19 @@ ghost use Rattle.std.specs.Prelude.{◌≡◌, ◌≤◌, ℕ, length, take, dro
 ghost use Rattle.std.specs.Option.{option_copied};
 ghost use Rattle.elf_types.specs.declared.constants.TheConstants.{SHT_STRTAB};
 ghost use Rattle.elf_types.specs.declared.records.Kind.TheVariants as kinds;
-ghost use Rattle.elf_object.specs.Object.{section_at};
-ghost use Rattle.elf_object.specs.Answers.{no_section, piece_count, kind_at};
-ghost use Rattle.gelf_view.specs.Records.{string_front, AreEnded};
+ghost use Rattle.object_output.specs.elf_object.Object.{section_at};
+ghost use Rattle.object_output.specs.elf_object.Answers.{no_section, piece_count, kind_at};
+ghost use Rattle.object_output.specs.gelf_view.Records.{string_front, AreEnded};
 ghost use Rattle.object_output.specs.Steps.{ReadsElf};
 ghost use Rattle.bytes_at_hand.specs.Strings.{is_past, EndsAt, HoldsStrings, IsOneTable};
 
 use crate::held::{held_bytes, load};
-use elf_descriptor::Elf;
-use elf_outside::Source;
 use elf_types::constants::SHT_STRTAB;
 use elf_types::{DataId, Kind, ScnId};
-use section_data::ended_len;
-use tool_output::Stop;
+use object_output::prelude::{Elf, Source, Stop, ended_len};
 
 /// Whether a section is of type `SHT_STRTAB`.
-#[tactic(auto, unfolding(elf_object::specs::Calls::shdr_answer))]
+#[tactic(auto, unfolding(object_output::specs::Passed::shdr_answer))]
 fn is_strings<S: Source>(elf: &Elf<S>, s: ScnId) -> bool
     ensures { result ≡ true → (no_section elf.now.o s.0 ≡ None)
         × ((section_at elf.now.o s.0).header.stype ≡ SHT_STRTAB) }
@@ -31,7 +28,7 @@ fn is_strings<S: Source>(elf: &Elf<S>, s: ScnId) -> bool
 }
 
 /// Whether a section has one piece.
-#[tactic(auto, unfolding(elf_object::specs::Calls::pieces_answer))]
+#[tactic(auto, unfolding(object_output::specs::Passed::pieces_answer))]
 fn is_alone<S: Source>(elf: &Elf<S>, s: ScnId) -> bool
     ensures { result ≡ true → piece_count elf.now.o s.0 ≡ 1 }
 {
@@ -42,7 +39,7 @@ fn is_alone<S: Source>(elf: &Elf<S>, s: ScnId) -> bool
 }
 
 /// Whether a piece holds bytes.
-#[tactic(auto, unfolding(elf_object::specs::Calls::piece_kind_answer))]
+#[tactic(auto, unfolding(object_output::specs::Passed::piece_kind_answer))]
 fn is_of_bytes<S: Source>(elf: &Elf<S>, d: DataId) -> bool
     ensures { result ≡ true → kind_at elf.now.o d.section d.piece ≡ kinds.Bytes }
 {
@@ -53,7 +50,7 @@ fn is_of_bytes<S: Source>(elf: &Elf<S>, d: DataId) -> bool
 }
 
 /// Whether the home of a section is in the file.
-#[tactic(auto, unfolding(elf_descriptor::specs::Homes::out_answer))]
+#[tactic(auto, unfolding(object_output::specs::Passed::out_answer))]
 fn is_in_file<S: Source>(elf: &Elf<S>, s: ScnId) -> bool
     ensures { result ≡ true → (section_at elf.now.o s.0).home.out ≡ false }
 {
@@ -160,5 +157,5 @@ pub fn is_past(end: Option<u64>, at: u64) -> bool
 pub fn string_from(strings: &[u8], place: u32) -> Option<&[u8]>
     ensures { option_copied result ≡ string_front (drop place strings.now) }
 {
-    gelf_view::string_from(strings, u64::from(place))
+    object_output::prelude::string_from(strings, u64::from(place))
 }

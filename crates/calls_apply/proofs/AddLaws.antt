@@ -13,20 +13,20 @@ use Rattle.elf_xlate.specs.declared.content.Items.{Items}
 use Rattle.elf_xlate.specs.Translation.{items_kind, items_count}
 use Rattle.elf_outside.specs.declared.sources.Source.{Ghosts}
 use Rattle.elf_outside.proofs.AskLemmas.{read_rose_refused}
-use Rattle.elf_object.specs.Object.{Object}
-use Rattle.elf_object.specs.Answers.{kind_at, count_at, same_kind, items_at, lend_refusal, piece_refusal, data_refusal, no_section, no_data, wrong_kind, no_content}
-use Rattle.elf_object.specs.Words.{Wants, Answers, AnswersRead, IsLike, AlikeItems, result_map}
-use Rattle.elf_object.specs.Calls as calls
-use Rattle.elf_object.specs.Calls.{due, data_answer, piece_kind_answer}
-use Rattle.elf_object.specs.Due.{unless_refused, when_piece_clean, homes_due}
-use Rattle.elf_object.specs.Runs.{mapped, addall, added, or_same}
-use Rattle.elf_object.specs.Steps.{with_own}
-use Rattle.elf_object.proofs.AnswerLaws.{lend_kind}
-use Rattle.elf_object.proofs.StepLaws.{same_kind-same}
-use Rattle.elf_descriptor.proofs.Refusals.{err_of_answered}
-use Rattle.elf_descriptor.specs.State.{State}
-use Rattle.elf_descriptor.specs.Reads.{Reads, Queries}
-use Rattle.elf_descriptor.specs.Lends.{IsLent, ReadsToOwn}
+use Rattle.symbol_lookup.specs.elf_object.Object.{Object}
+use Rattle.symbol_lookup.specs.elf_object.Answers.{kind_at, count_at, same_kind, items_at, lend_refusal, piece_refusal, data_refusal, no_section, no_data, wrong_kind, no_content}
+use Rattle.symbol_lookup.specs.elf_object.Words.{Wants, Answers, AnswersRead, IsLike, AlikeItems, result_map}
+use Rattle.symbol_lookup.specs.elf_object.Calls as calls
+use Rattle.symbol_lookup.specs.elf_object.Calls.{due, data_answer, piece_kind_answer}
+use Rattle.symbol_lookup.specs.elf_object.Due.{unless_refused, when_piece_clean, homes_due}
+use Rattle.symbol_lookup.specs.elf_object.Runs.{mapped, addall, added, or_same}
+use Rattle.symbol_lookup.specs.elf_object.Steps.{with_own}
+use Rattle.symbol_lookup.proofs.elf_object.AnswerLaws.{lend_kind}
+use Rattle.symbol_lookup.proofs.elf_object.StepLaws.{same_kind-same}
+use Rattle.update_plan.proofs.elf_descriptor.Refusals.{err_of_answered}
+use Rattle.update_plan.specs.elf_descriptor.State.{State}
+use Rattle.update_plan.specs.elf_descriptor.Reads.{Reads, Queries}
+use Rattle.update_plan.specs.elf_descriptor.Lends.{IsLent, ReadsToOwn}
 use Rattle.calls_apply.specs.declared.answers.Answer.{Answer}
 use Rattle.calls_apply.specs.declared.answers.Answer.TheVariants as answer
 use Rattle.calls_apply.specs.Applies.{Meets, all_early, at_any_step, unless_empty}

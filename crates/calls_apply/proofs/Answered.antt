@@ -7,7 +7,7 @@ use Rattle.elf_types.specs.Answers.{err_of}
 use Rattle.elf_xlate.specs.declared.content.Items.{Items}
 use Rattle.elf_xlate.specs.Translation.{items_kind, items_count}
 use Rattle.elf_outside.specs.Asks.{ReadRose}
-use Rattle.elf_object.specs.Words.{Wants, Refusals, Answers, AnswersRead, IsLike, AlikeItems, result_map}
+use Rattle.symbol_lookup.specs.elf_object.Words.{Wants, Refusals, Answers, AnswersRead, IsLike, AlikeItems, result_map}
 use Rattle.calls_apply.specs.declared.answers.Answer.{Answer}
 use Rattle.calls_apply.specs.declared.answers.Answer.TheVariants as answer
 use Rattle.calls_apply.specs.Stated.{data_shown}

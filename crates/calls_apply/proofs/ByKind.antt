@@ -4,8 +4,8 @@ use Rattle.elf_types.specs.declared.records.Kind.TheVariants as kinds
 use Rattle.elf_xlate.specs.declared.content.Items.{Items}
 use Rattle.elf_xlate.specs.declared.content.Items.TheVariants as items
 use Rattle.elf_xlate.specs.Translation.{items_kind}
-use Rattle.elf_object.specs.Answers.{bytes_of, halves_of, words_of, addrs_of, syms_of, rels_of, relas_of, dyns_of}
-use Rattle.elf_object.specs.Runs.{added, more, more_sym, more_rel, more_rela, more_dyn}
+use Rattle.symbol_lookup.specs.elf_object.Answers.{bytes_of, halves_of, words_of, addrs_of, syms_of, rels_of, relas_of, dyns_of}
+use Rattle.symbol_lookup.specs.elf_object.Runs.{added, more, more_sym, more_rel, more_rela, more_dyn}
 
 pub bytes_added : (n : ℕ) (l : Items) → items_kind l ≡ kinds.Bytes → added n l ≡ items.Bytes (map (more 8 n) (bytes_of l))
 unfolding added

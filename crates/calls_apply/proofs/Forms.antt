@@ -10,15 +10,15 @@ use Rattle.elf_types.specs.Answers.{answered}
 use Rattle.elf_xlate.specs.declared.content.Items.{Items}
 use Rattle.elf_xlate.specs.declared.content.Items.TheVariants as items
 use Rattle.elf_xlate.specs.Translation.{items_kind, items_count}
-use Rattle.elf_object.specs.Object.{Object, section_at}
-use Rattle.elf_object.specs.Answers.{items_at, raw_refusal, data_refusal}
-use Rattle.elf_object.specs.Words.{Wants, Refusals, AnswersRead, IsLike, AlikeBytes, AlikeItems, result_map}
-use Rattle.elf_object.specs.Calls.{raw_answer, data_answer}
-use Rattle.elf_object.specs.Runs.{entry_of}
-use Rattle.gelf_view.specs.Notes.{IsNoteWithin}
-use Rattle.gelf_view.specs.declared.notes.NoteAt.{NoteAt}
+use Rattle.symbol_lookup.specs.elf_object.Object.{Object, section_at}
+use Rattle.symbol_lookup.specs.elf_object.Answers.{items_at, raw_refusal, data_refusal}
+use Rattle.symbol_lookup.specs.elf_object.Words.{Wants, Refusals, AnswersRead, IsLike, AlikeBytes, AlikeItems, result_map}
+use Rattle.symbol_lookup.specs.elf_object.Calls.{raw_answer, data_answer}
+use Rattle.symbol_lookup.specs.elf_object.Runs.{entry_of}
+use Rattle.symbol_lookup.specs.gelf_view.Notes.{IsNoteWithin}
+use Rattle.symbol_lookup.specs.gelf_view.declared.notes.NoteAt.{NoteAt}
 use Rattle.elf_outside.specs.declared.sources.Source.{Ghosts}
-use Rattle.elf_descriptor.specs.State.{State}
+use Rattle.update_plan.specs.elf_descriptor.State.{State}
 use Rattle.calls_script.specs.declared.calls.Call.{Call}
 use Rattle.calls_script.specs.declared.calls.Call.TheVariants as call
 use Rattle.calls_apply.specs.declared.answers.Item.{Item}

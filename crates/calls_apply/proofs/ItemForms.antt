@@ -11,13 +11,13 @@ use Rattle.elf_xlate.specs.declared.content.Items.TheVariants as items
 use Rattle.elf_xlate.specs.Translation.{items_count}
 use Rattle.elf_outside.specs.declared.sources.Source.{Ghosts}
 use Rattle.elf_outside.specs.Asks.{ReadRose}
-use Rattle.elf_object.specs.Words.{Wants, Answers, AnswersRead, IsLike, AlikeItems, result_map}
-use Rattle.elf_object.specs.Calls as calls
-use Rattle.elf_object.specs.Calls.{data_answer}
-use Rattle.elf_object.specs.Due.{unless_refused, when_piece_clean, homes_due}
-use Rattle.elf_object.specs.Runs.{item, entry_of}
-use Rattle.elf_descriptor.specs.State.{State}
-use Rattle.elf_descriptor.specs.Reads.{Reads}
+use Rattle.symbol_lookup.specs.elf_object.Words.{Wants, Answers, AnswersRead, IsLike, AlikeItems, result_map}
+use Rattle.symbol_lookup.specs.elf_object.Calls as calls
+use Rattle.symbol_lookup.specs.elf_object.Calls.{data_answer}
+use Rattle.symbol_lookup.specs.elf_object.Due.{unless_refused, when_piece_clean, homes_due}
+use Rattle.symbol_lookup.specs.elf_object.Runs.{item, entry_of}
+use Rattle.update_plan.specs.elf_descriptor.State.{State}
+use Rattle.update_plan.specs.elf_descriptor.Reads.{Reads}
 use Rattle.calls_apply.specs.declared.answers.Item.{Item}
 use Rattle.calls_apply.specs.declared.answers.Answer.{Answer}
 use Rattle.calls_apply.specs.declared.answers.Answer.TheVariants as answer

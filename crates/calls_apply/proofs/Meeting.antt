@@ -8,15 +8,15 @@ use Rattle.elf_types.specs.Answers.{IsRefusal, ◌>>=◌}
 use Rattle.elf_outside.specs.declared.sources.Source.{Ghosts}
 use Rattle.elf_outside.specs.Asks.{ReadRose}
 use Rattle.elf_outside.proofs.AskLemmas.{read_rose_refused}
-use Rattle.elf_object.specs.Object.{Object}
-use Rattle.elf_object.specs.Due.{is_loaded, homes_due}
-use Rattle.elf_object.specs.Words.{Refusals, AnswersRead, Edits, EditsWith, Updates, result_map, handing_back}
-use Rattle.elf_object.specs.Calls as calls
-use Rattle.elf_object.specs.Calls.{due}
-use Rattle.elf_object.specs.Runs.{mapped, looked, after_look}
-use Rattle.elf_descriptor.specs.State.{State}
-use Rattle.elf_descriptor.specs.Reads.{Reads}
-use Rattle.elf_descriptor.specs.Edits.{StepsTo}
+use Rattle.symbol_lookup.specs.elf_object.Object.{Object}
+use Rattle.symbol_lookup.specs.elf_object.Due.{is_loaded, homes_due}
+use Rattle.symbol_lookup.specs.elf_object.Words.{Refusals, AnswersRead, Edits, EditsWith, Updates, result_map, handing_back}
+use Rattle.symbol_lookup.specs.elf_object.Calls as calls
+use Rattle.symbol_lookup.specs.elf_object.Calls.{due}
+use Rattle.symbol_lookup.specs.elf_object.Runs.{mapped, looked, after_look}
+use Rattle.update_plan.specs.elf_descriptor.State.{State}
+use Rattle.update_plan.specs.elf_descriptor.Reads.{Reads}
+use Rattle.update_plan.specs.elf_descriptor.Edits.{StepsTo}
 use Rattle.calls_apply.specs.Stated.{done, refusal_alone, copying}
 use Rattle.calls_apply.specs.Applies.{Meets, Sets, Leaves, all_early, at_any_step, set_refusals}
 use Rattle.calls_apply.proofs.Answered.{by_equal, by_reads, by_refusal, by_value}

@@ -5,12 +5,12 @@ use Rattle.elf_types.specs.declared.errors.ElfError.{ElfError}
 use Rattle.elf_outside.specs.declared.sources.Source.{Ghosts}
 use Rattle.elf_outside.specs.Asks.{Asks, ReadRose}
 use Rattle.elf_outside.proofs.AskLemmas.{asks_then, read_rose_before, read_rose_on}
-use Rattle.elf_object.specs.Object.{Object}
-use Rattle.elf_object.specs.Due.{is_loaded, homes_due}
-use Rattle.elf_object.specs.Words.{result_map}
-use Rattle.elf_descriptor.specs.State.{State}
-use Rattle.elf_descriptor.specs.Reads.{Reads}
-use Rattle.elf_descriptor.specs.Lends.{ReadsToOwn}
+use Rattle.symbol_lookup.specs.elf_object.Object.{Object}
+use Rattle.symbol_lookup.specs.elf_object.Due.{is_loaded, homes_due}
+use Rattle.symbol_lookup.specs.elf_object.Words.{result_map}
+use Rattle.update_plan.specs.elf_descriptor.State.{State}
+use Rattle.update_plan.specs.elf_descriptor.Reads.{Reads}
+use Rattle.update_plan.specs.elf_descriptor.Lends.{ReadsToOwn}
 use Rattle.calls_apply.specs.Applies.{ReadsAtFirst}
 
 pub none_in : (l : List ℕ) (i : ℕ) → Contains [] i → Contains l i

@@ -11,14 +11,14 @@ use Rattle.elf_types.specs.declared.errors.ElfError.TheVariants.{NoSection, NoDa
 use Rattle.elf_types.specs.declared.constants.TheConstants.{PN_XNUM, MAX_SECTIONS, MAX_PIECES}
 use Rattle.elf_types.specs.Answers.{IsRefusal, refused_if, first_refusal, answered}
 use Rattle.elf_xlate.specs.declared.content.Items.{Items}
-use Rattle.elf_object.specs.Object.{Object, section_at}
-use Rattle.elf_object.specs.Answers.{no_section, no_data, no_entry, reserved, kind_at, piece_refusal, part_refusal, has_dirty, piece_count}
-use Rattle.elf_object.specs.Calls.{phdr_answer, shdr_answer, pieces_answer, piece_kind_answer, update_ehdr_refusal, update_phdr_refusal, update_shdr_refusal, newphdr_refusal, newscn_refusal, newdata_refusal, replace_refusal, flag_refusal, unfit_items, is_piece_align}
-use Rattle.elf_object.specs.Calls as calls
-use Rattle.elf_object.specs.Image.{image_length}
-use Rattle.elf_object.specs.Refusal.{refusal}
-use Rattle.elf_object.proofs.RefusalLaws.{update_refuses}
-use Rattle.elf_object.specs.Steps.{stored_ehdr}
+use Rattle.symbol_lookup.specs.elf_object.Object.{Object, section_at}
+use Rattle.symbol_lookup.specs.elf_object.Answers.{no_section, no_data, no_entry, reserved, kind_at, piece_refusal, part_refusal, has_dirty, piece_count}
+use Rattle.symbol_lookup.specs.elf_object.Calls.{phdr_answer, shdr_answer, pieces_answer, piece_kind_answer, update_ehdr_refusal, update_phdr_refusal, update_shdr_refusal, newphdr_refusal, newscn_refusal, newdata_refusal, replace_refusal, flag_refusal, unfit_items, is_piece_align}
+use Rattle.symbol_lookup.specs.elf_object.Calls as calls
+use Rattle.symbol_lookup.specs.elf_object.Image.{image_length}
+use Rattle.symbol_lookup.specs.elf_object.Refusal.{refusal}
+use Rattle.symbol_lookup.proofs.elf_object.RefusalLaws.{update_refuses}
+use Rattle.symbol_lookup.specs.elf_object.Steps.{stored_ehdr}
 use Rattle.elf_xlate.specs.Headers.{ehdr_fits, phdr_fits, shdr_fits}
 use Rattle.elf_xlate.specs.Translation.{first_unfit}
 

@@ -3,8 +3,8 @@ use Rattle.std.proofs.Common.{◌≡◌, ℕ, Bool, true, false, Result, refl, s
 use Rattle.elf_types.specs.declared.records.DataId.{DataId}
 use Rattle.elf_types.specs.declared.errors.ElfError.{ElfError}
 use Rattle.elf_outside.specs.declared.sources.Source.{Ghosts}
-use Rattle.elf_object.specs.Calls as calls
-use Rattle.elf_descriptor.specs.State.{State}
+use Rattle.symbol_lookup.specs.elf_object.Calls as calls
+use Rattle.update_plan.specs.elf_descriptor.State.{State}
 use Rattle.calls_script.specs.declared.calls.ItemSet.{ItemSet}
 use Rattle.calls_script.specs.declared.calls.ItemSet.TheVariants.{SymName, SymValue, SymSize, SymInfo, SymOther, SymShndx, RelOffset, RelSym, RelType, RelaOffset, RelaSym, RelaType, RelaAddend, DynTag, DynVal}
 use Rattle.calls_apply.specs.Stated.{item_set, sym_set, rel_set, rela_set, dyn_set}

@@ -15,23 +15,23 @@ use Rattle.elf_types.specs.Answers.{answered, err_of, first_refusal, refused_if,
 use Rattle.elf_xlate.specs.declared.content.Items.{Items}
 use Rattle.elf_xlate.specs.Translation.{items_kind, items_count}
 use Rattle.elf_outside.specs.declared.sources.Source.{Ghosts}
-use Rattle.elf_object.specs.Object.{Object, piece_at}
-use Rattle.elf_object.specs.Answers.{no_entry, count_at, items_at, lend_refusal, item_refusal, entry_answer}
-use Rattle.elf_object.specs.Words.{Wants, Answers, AnswersRead}
-use Rattle.elf_object.specs.Calls as calls
-use Rattle.elf_object.specs.Calls.{due, update_item_refusal}
-use Rattle.elf_object.specs.Due.{home_due, homes_due, unless_refused, when_piece_clean, with_others}
-use Rattle.elf_object.specs.Runs.{looked, after_look}
-use Rattle.elf_object.specs.Steps.{BecomesOwn}
-use Rattle.elf_object.proofs.AnswerLaws.{entry_value, lend_kind}
-use Rattle.elf_descriptor.specs.State.{State}
-use Rattle.elf_descriptor.specs.Entries.{entry}
-use Rattle.elf_descriptor.specs.Reads.{Reads, Queries, Looks}
-use Rattle.elf_descriptor.specs.Stores.{store, EditsItems}
-use Rattle.elf_descriptor.specs.Lends.{ReadsToOwn}
-use Rattle.elf_descriptor.proofs.Refusals.{IsUnread}
-use Rattle.elf_descriptor.proofs.ReadsLaws.{reads_wider}
-use Rattle.gelf_view.proofs.LendLemmas.{lend_unread}
+use Rattle.symbol_lookup.specs.elf_object.Object.{Object, piece_at}
+use Rattle.symbol_lookup.specs.elf_object.Answers.{no_entry, count_at, items_at, lend_refusal, item_refusal, entry_answer}
+use Rattle.symbol_lookup.specs.elf_object.Words.{Wants, Answers, AnswersRead}
+use Rattle.symbol_lookup.specs.elf_object.Calls as calls
+use Rattle.symbol_lookup.specs.elf_object.Calls.{due, update_item_refusal}
+use Rattle.symbol_lookup.specs.elf_object.Due.{home_due, homes_due, unless_refused, when_piece_clean, with_others}
+use Rattle.symbol_lookup.specs.elf_object.Runs.{looked, after_look}
+use Rattle.symbol_lookup.specs.elf_object.Steps.{BecomesOwn}
+use Rattle.symbol_lookup.proofs.elf_object.AnswerLaws.{entry_value, lend_kind}
+use Rattle.update_plan.specs.elf_descriptor.State.{State}
+use Rattle.update_plan.specs.elf_descriptor.Entries.{entry}
+use Rattle.update_plan.specs.elf_descriptor.Reads.{Reads, Queries, Looks}
+use Rattle.update_plan.specs.elf_descriptor.Stores.{store, EditsItems}
+use Rattle.update_plan.specs.elf_descriptor.Lends.{ReadsToOwn}
+use Rattle.update_plan.proofs.elf_descriptor.Refusals.{IsUnread}
+use Rattle.update_plan.proofs.elf_descriptor.ReadsLaws.{reads_wider}
+use Rattle.symbol_lookup.proofs.gelf_view.LendLemmas.{lend_unread}
 use Rattle.calls_apply.specs.Applies.{Sets, Leaves, ReadsAtFirst, set_refusals, all_early, at_any_step, unless_unfit}
 use Rattle.calls_apply.proofs.Answered.{by_itself}
 use Rattle.calls_apply.proofs.ReadLaws.{error_read, owned_read, two_read, none_in}

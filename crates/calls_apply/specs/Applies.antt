@@ -8,16 +8,16 @@ use Rattle.elf_types.specs.declared.errors.ElfError.TheVariants.{Memory, Unfit}
 use Rattle.elf_types.specs.Answers.{err_of, IsRefusal}
 use Rattle.elf_outside.specs.declared.sources.Source.{Ghosts}
 use Rattle.elf_outside.specs.Asks.{Asks}
-use Rattle.elf_object.specs.Object.{Object}
-use Rattle.elf_object.specs.Answers.{items_at, kind_at, same_kind}
-use Rattle.elf_object.specs.Words.{Wants, Refusals, AnswersRead}
-use Rattle.elf_object.specs.Calls as calls
-use Rattle.elf_object.specs.Calls.{due}
-use Rattle.elf_object.specs.Due.{is_loaded, homes_due}
-use Rattle.elf_object.specs.Steps.{BecomesOwn}
-use Rattle.elf_object.specs.Strings.{strptr_refusals}
-use Rattle.elf_descriptor.specs.State.{State}
-use Rattle.gelf_view.specs.Calls.{note_refusals}
+use Rattle.symbol_lookup.specs.elf_object.Object.{Object}
+use Rattle.symbol_lookup.specs.elf_object.Answers.{items_at, kind_at, same_kind}
+use Rattle.symbol_lookup.specs.elf_object.Words.{Wants, Refusals, AnswersRead}
+use Rattle.symbol_lookup.specs.elf_object.Calls as calls
+use Rattle.symbol_lookup.specs.elf_object.Calls.{due}
+use Rattle.symbol_lookup.specs.elf_object.Due.{is_loaded, homes_due}
+use Rattle.symbol_lookup.specs.elf_object.Steps.{BecomesOwn}
+use Rattle.symbol_lookup.specs.elf_object.Strings.{strptr_refusals}
+use Rattle.update_plan.specs.elf_descriptor.State.{State}
+use Rattle.symbol_lookup.specs.gelf_view.Calls.{note_refusals}
 use Rattle.calls_script.specs.declared.calls.Call.{Call}
 use Rattle.calls_script.specs.declared.calls.Call.TheVariants as call
 use Rattle.calls_script.specs.declared.calls.ItemSet.{ItemSet}

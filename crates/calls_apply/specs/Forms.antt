@@ -3,9 +3,9 @@ use Rattle.std.specs.Prelude.{◌≡◌, ℕ, ◌<◌, length, Ok}
 use Rattle.elf_types.specs.declared.records.Kind.{Kind}
 use Rattle.elf_types.specs.declared.records.Kind.TheVariants as kinds
 use Rattle.elf_xlate.specs.Translation.{items_kind}
-use Rattle.elf_object.specs.Object.{Object, section_at}
-use Rattle.elf_object.specs.Answers.{items_at, count_at}
-use Rattle.gelf_view.specs.Notes.{IsNoteWithin}
+use Rattle.symbol_lookup.specs.elf_object.Object.{Object, section_at}
+use Rattle.symbol_lookup.specs.elf_object.Answers.{items_at, count_at}
+use Rattle.symbol_lookup.specs.gelf_view.Notes.{IsNoteWithin}
 use Rattle.calls_script.specs.declared.calls.Call.{Call}
 use Rattle.calls_script.specs.declared.calls.Call.TheVariants as call
 use Rattle.calls_apply.specs.declared.answers.Item.{Item}

@@ -4,12 +4,12 @@ use Rattle.std.specs.Prelude.{ℕ, Option, Some, None, option_map, slice_get, Re
 use Rattle.elf_xlate.specs.declared.content.Items.{Items}
 use Rattle.elf_xlate.specs.declared.content.Items.TheVariants as items
 use Rattle.elf_xlate.specs.Translation.{items_kind, items_count}
-use Rattle.elf_object.specs.Calls as calls
-use Rattle.elf_object.specs.Calls.{some_memory}
-use Rattle.elf_object.specs.Runs.{mapped, set_ehdr, set_phdr, set_shdr, set_item, item, addall}
-use Rattle.elf_object.specs.Strings as strings
-use Rattle.gelf_view.specs.declared.notes.NoteAt.{NoteAt}
-use Rattle.gelf_view.specs.Calls as views
+use Rattle.symbol_lookup.specs.elf_object.Calls as calls
+use Rattle.symbol_lookup.specs.elf_object.Calls.{some_memory}
+use Rattle.symbol_lookup.specs.elf_object.Runs.{mapped, set_ehdr, set_phdr, set_shdr, set_item, item, addall}
+use Rattle.symbol_lookup.specs.elf_object.Strings as strings
+use Rattle.symbol_lookup.specs.gelf_view.declared.notes.NoteAt.{NoteAt}
+use Rattle.symbol_lookup.specs.gelf_view.Calls as views
 use Rattle.symbol_lookup.specs.Lookups as lookups
 use Rattle.calls_script.specs.declared.calls.Call.{Call}
 use Rattle.calls_script.specs.declared.calls.Call.TheVariants as call

@@ -1,12 +1,12 @@
 //! The answers of calls.
 
 ghost use Rattle.std.specs.Prelude.{◌≡◌};
-ghost use Rattle.elf_object.specs.Words.{result_map};
+ghost use Rattle.symbol_lookup.specs.elf_object.Words.{result_map};
 ghost use Rattle.calls_apply.specs.Stated.{done as stated_done};
 ghost use Rattle.calls_apply.specs.Applies.{result_of};
 
 use elf_types::{Dyn, Ehdr, ElfError, Kind, Octets, Phdr, Rel, Rela, Shdr, Sym};
-use gelf_view::NoteAt;
+use symbol_lookup::prelude::NoteAt;
 
 /// An item of a piece. The variant is its kind.
 #[derive(Clone, Copy)]

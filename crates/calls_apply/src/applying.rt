@@ -13,8 +13,8 @@ use crate::items::set_item;
 use crate::pieces::{new_data, new_data_aligned, new_section, replace};
 use crate::reading::{answer_data, answer_item, answer_note, answer_raw, answer_str, find_named};
 use calls_script::Call;
-use elf_descriptor::Elf;
 use elf_outside::Source;
+use update_plan::prelude::Elf;
 
 /// Applies a call to a descriptor. It answers what the call of the plain object answers, `Refused`
 /// with its refusal where it is refused, and leaves the object as that call does. `Memory` and

@@ -4,9 +4,9 @@ ghost use Rattle.calls_apply.specs.Applies.{Applies, result_of};
 ghost use Rattle.calls_script.specs.declared.calls.Call.TheVariants as call;
 
 use crate::answers::Answer;
-use elf_descriptor::Elf;
 use elf_outside::Source;
 use elf_types::Part;
+use update_plan::prelude::Elf;
 
 /// `flag`: sets or clears flags of a part, and answers those that it has then.
 pub(crate) fn set_flags<S: Source>(elf: &mut Elf<S>, part: Part, set: bool, bits: u32) -> Answer

@@ -4,9 +4,9 @@ ghost use Rattle.calls_apply.specs.Applies.{Applies, result_of};
 ghost use Rattle.calls_script.specs.declared.calls.Call.TheVariants as call;
 
 use crate::answers::Answer;
-use elf_descriptor::Elf;
 use elf_outside::Source;
 use elf_types::ScnId;
+use update_plan::prelude::Elf;
 
 /// `ehdr`: the ELF header.
 pub(crate) fn answer_ehdr<S: Source>(elf: &Elf<S>) -> Answer

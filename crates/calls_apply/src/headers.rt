@@ -6,9 +6,9 @@ ghost use Rattle.calls_script.specs.declared.calls.Call.TheVariants as call;
 use crate::answers::{Answer, done};
 use crate::fields::{ehdr_with, phdr_with, shdr_with};
 use calls_script::{EhdrSet, PhdrSet, ShdrSet};
-use elf_descriptor::Elf;
 use elf_outside::Source;
 use elf_types::ScnId;
+use update_plan::prelude::Elf;
 use update_plan::update_null;
 
 /// `set ehdr`: a field of the ELF header.

@@ -10,13 +10,13 @@ ghost use Rattle.calls_script.specs.declared.calls.Call.TheVariants as call;
 use crate::answers::{Answer, done};
 use crate::fields::{dyn_with, rel_with, rela_with, sym_with};
 use calls_script::ItemSet;
-use elf_descriptor::Elf;
 use elf_outside::Source;
 use elf_types::{DataId, ElfError};
-use gelf_view::{
+use symbol_lookup::prelude::{
     addr, dynent, half, rel, rela, sym, update_addr, update_dynent, update_half, update_rel,
     update_rela, update_sym, update_word, word,
 };
+use update_plan::prelude::Elf;
 
 pub(crate) mod adding;
 

@@ -6,10 +6,10 @@ ghost use Rattle.calls_apply.specs.Stated.{refusal_alone as stated_alone};
 ghost use Rattle.calls_script.specs.declared.calls.Call.TheVariants as call;
 
 use crate::answers::{Answer, done};
-use elf_descriptor::Elf;
 use elf_outside::Source;
 use elf_types::{DataId, ElfError, Octets, ScnId};
 use elf_xlate::Items;
+use update_plan::prelude::Elf;
 
 /// `newscn`: a section at the end.
 pub(crate) fn new_section<S: Source>(elf: &mut Elf<S>) -> Answer

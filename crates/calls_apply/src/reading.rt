@@ -1,8 +1,8 @@
 //! The calls that show what stands in a section, which they read at its first use.
 
 ghost use Rattle.std.specs.Prelude.{◌≡◌, Ok, IfOk};
-ghost use Rattle.elf_object.specs.Runs.{entry_of};
-ghost use Rattle.elf_object.specs.Words.{result_map};
+ghost use Rattle.symbol_lookup.specs.elf_object.Runs.{entry_of};
+ghost use Rattle.symbol_lookup.specs.elf_object.Words.{result_map};
 ghost use Rattle.calls_apply.specs.Stated.{item_in as stated_item, note_shown, found_shown};
 ghost use Rattle.calls_apply.specs.Applies.{Applies, IsCopied, result_of};
 ghost use Rattle.calls_apply.specs.Forms.{IsAnswerOf};
@@ -10,13 +10,13 @@ ghost use Rattle.calls_apply.specs.declared.answers.Answer.TheVariants as answer
 ghost use Rattle.calls_script.specs.declared.calls.Call.TheVariants as call;
 
 use crate::answers::{Answer, Item};
-use elf_descriptor::Elf;
 use elf_outside::Source;
 use elf_types::{DataId, ElfError, Octets, ScnId};
 use elf_xlate::Items;
-use gelf_view::{NoteAt, note, strptr};
 use std::alloc::Global;
 use symbol_lookup::find_linear;
+use symbol_lookup::prelude::{NoteAt, note, strptr};
+use update_plan::prelude::Elf;
 
 /// `data`: the kind of a piece, and its number of items.
 pub(crate) fn answer_data<S: Source>(elf: &mut Elf<S>, d: DataId) -> Answer

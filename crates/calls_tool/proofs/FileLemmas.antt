@@ -7,11 +7,11 @@ use Rattle.elf_types.specs.Text.{error_text}
 use Rattle.elf_outside.specs.Asks.{Asks}
 use Rattle.elf_outside.specs.declared.sources.Source.{Ghosts as SourceGhosts}
 use Rattle.elf_outside.specs.declared.sinks.Sink.{Ghosts as SinkGhosts}
-use Rattle.elf_ident.specs.Front.{front_bytes}
-use Rattle.elf_object.specs.Object.{Object}
-use Rattle.elf_object.specs.Due.{is_loaded, homes_due}
-use Rattle.elf_descriptor.specs.State.{State}
-use Rattle.elf_descriptor.proofs.ReadsLaws.{dues_stay}
+use Rattle.symbol_lookup.specs.elf_ident.Front.{front_bytes}
+use Rattle.symbol_lookup.specs.elf_object.Object.{Object}
+use Rattle.symbol_lookup.specs.elf_object.Due.{is_loaded, homes_due}
+use Rattle.symbol_lookup.specs.elf_descriptor.State.{State}
+use Rattle.symbol_lookup.proofs.elf_descriptor.ReadsLaws.{dues_stay}
 use Rattle.tool_output.specs.declared.stops.Stop.{Stop}
 use Rattle.tool_output.specs.declared.outputs.Outputs.{Outputs}
 use Rattle.tool_output.specs.Stops.{stop_of}

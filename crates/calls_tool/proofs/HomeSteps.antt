@@ -3,9 +3,9 @@ use Rattle.std.proofs.Common.{◌≡◌, ℕ, zero, suc, Bool, true, false, List
 use Rattle.std.specs.Prelude.{if◌then◌else◌, ◌==◌, ◌&&◌}
 use Rattle.std.proofs.lemmas.Bool.{eqb-true, cases_lt}
 use Rattle.elf_layout.specs.declared.parts.Places.{Places}
-use Rattle.elf_object.specs.Layout.{places_of, placed_section, placed_by, placed}
-use Rattle.object_laws.proofs.ImageLaws.{section_at-placed, placed-dirty, placed-clean}
-use Rattle.object_laws.proofs.StandLaws.{section_count-placed, section_at-past}
+use Rattle.symbol_lookup.specs.elf_object.Layout.{places_of, placed_section, placed_by, placed}
+use Rattle.symbol_lookup.proofs.object_laws.ImageLaws.{section_at-placed, placed-dirty, placed-clean}
+use Rattle.symbol_lookup.proofs.object_laws.StandLaws.{section_count-placed, section_at-past}
 use Rattle.elf_types.specs.declared.records.Part.{Part}
 use Rattle.elf_types.specs.declared.records.Part.TheVariants as part
 use Rattle.elf_types.specs.declared.records.Ehdr.{Ehdr}
@@ -15,10 +15,10 @@ use Rattle.elf_types.specs.declared.records.Kind.{Kind}
 use Rattle.elf_types.specs.declared.records.Kind.TheVariants as kinds
 use Rattle.elf_types.specs.declared.errors.ElfError.{ElfError}
 use Rattle.elf_xlate.specs.declared.content.Items.{Items}
-use Rattle.elf_object.specs.Object.{Object, Section, Piece, section_at, piece_at, absent_section, new_section, is_dirty}
-use Rattle.elf_object.specs.Steps.{with_section, with_piece_at, with_ehdr, with_phdrs, with_phdr, with_new_phdrs, with_shdr, with_new_section, with_new_piece, with_own, own_piece, with_mark, with_layout, with_flags, with_fill, is_whole}
-use Rattle.elf_object.specs.Answers.{has_dirty, has_layout}
-use Rattle.elf_object.specs.Runs.{or_same, after_look}
+use Rattle.symbol_lookup.specs.elf_object.Object.{Object, Section, Piece, section_at, piece_at, absent_section, new_section, is_dirty}
+use Rattle.symbol_lookup.specs.elf_object.Steps.{with_section, with_piece_at, with_ehdr, with_phdrs, with_phdr, with_new_phdrs, with_shdr, with_new_section, with_new_piece, with_own, own_piece, with_mark, with_layout, with_flags, with_fill, is_whole}
+use Rattle.symbol_lookup.specs.elf_object.Answers.{has_dirty, has_layout}
+use Rattle.symbol_lookup.specs.elf_object.Runs.{or_same, after_look}
 
 abbrev pub KeepsHomes : Object → Object → Type 0
 KeepsHomes old new = (s : ℕ) → (section_at new s).home ≡ (section_at old s).home

@@ -4,11 +4,11 @@ use Rattle.std.specs.Prelude.{if◌then◌else◌, ◌||◌, ◌==◌, Contains,
 use Rattle.std.proofs.lemmas.Bool.{eq-eqb}
 use Rattle.std.proofs.lemmas.List.{at_drop_more}
 use Rattle.elf_outside.specs.declared.sources.Source.{Ghosts}
-use Rattle.elf_object.specs.Object.{Object, Home}
-use Rattle.elf_object.specs.Due.{is_loaded, home_due, homes_due}
-use Rattle.elf_object.specs.Calls as calls
-use Rattle.elf_object.specs.Calls.{step}
-use Rattle.elf_descriptor.specs.State.{State}
+use Rattle.symbol_lookup.specs.elf_object.Object.{Object, Home}
+use Rattle.symbol_lookup.specs.elf_object.Due.{is_loaded, home_due, homes_due}
+use Rattle.symbol_lookup.specs.elf_object.Calls as calls
+use Rattle.symbol_lookup.specs.elf_object.Calls.{step}
+use Rattle.symbol_lookup.specs.elf_descriptor.State.{State}
 use Rattle.symbol_lookup.proofs.SearchLaws.{one_stays}
 use Rattle.tool_output.specs.declared.stops.Stop.{Stop}
 use Rattle.calls_tool.specs.Reads.{read_by, LeavesState, ReadsHomes}

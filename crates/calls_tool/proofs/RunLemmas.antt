@@ -8,13 +8,13 @@ use Rattle.elf_types.specs.Answers.{IsRefusal}
 use Rattle.elf_outside.specs.Asks.{ReadRose}
 use Rattle.elf_outside.specs.declared.sources.Source.{Ghosts as SourceGhosts}
 use Rattle.elf_outside.specs.declared.sinks.Sink.{Ghosts as SinkGhosts}
-use Rattle.elf_object.specs.Object.{Object}
-use Rattle.elf_object.specs.Calls as calls
-use Rattle.elf_object.specs.Calls.{step}
-use Rattle.elf_object.specs.Words.{Refusals, AnswersRead}
-use Rattle.elf_object.specs.Runs.{answers_to, left_by}
-use Rattle.elf_object.proofs.PassedLaws.{step_ok, step_err}
-use Rattle.elf_descriptor.specs.State.{State}
+use Rattle.symbol_lookup.specs.elf_object.Object.{Object}
+use Rattle.symbol_lookup.specs.elf_object.Calls as calls
+use Rattle.symbol_lookup.specs.elf_object.Calls.{step}
+use Rattle.symbol_lookup.specs.elf_object.Words.{Refusals, AnswersRead}
+use Rattle.symbol_lookup.specs.elf_object.Runs.{answers_to, left_by}
+use Rattle.symbol_lookup.proofs.elf_object.PassedLaws.{step_ok, step_err}
+use Rattle.symbol_lookup.specs.elf_descriptor.State.{State}
 use Rattle.tool_output.specs.declared.stops.Stop.{Stop}
 use Rattle.tool_output.specs.declared.stops.Stop.TheVariants as stops
 use Rattle.tool_output.specs.declared.outputs.Outputs.{Outputs}

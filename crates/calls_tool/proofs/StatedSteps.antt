@@ -2,13 +2,13 @@
 use Rattle.std.proofs.Common.{ℕ, List, [], ◌∷◌, Result, Ok, Err}
 use Rattle.elf_types.specs.declared.errors.ElfError.{ElfError}
 use Rattle.elf_xlate.specs.declared.content.Items.TheVariants as items
-use Rattle.elf_object.specs.Object.{Object, header_of}
-use Rattle.elf_object.specs.Answers.{items_at, kind_at}
-use Rattle.elf_object.specs.Calls as calls
-use Rattle.elf_object.specs.Calls.{step, after_answer, phdr_answer, shdr_answer}
-use Rattle.elf_object.specs.Due.{unless_refused, when_clean, when_piece_clean}
-use Rattle.elf_object.specs.Runs.{looked, after_look, set_item, added}
-use Rattle.elf_object.specs.Steps.{with_own}
+use Rattle.symbol_lookup.specs.elf_object.Object.{Object, header_of}
+use Rattle.symbol_lookup.specs.elf_object.Answers.{items_at, kind_at}
+use Rattle.symbol_lookup.specs.elf_object.Calls as calls
+use Rattle.symbol_lookup.specs.elf_object.Calls.{step, after_answer, phdr_answer, shdr_answer}
+use Rattle.symbol_lookup.specs.elf_object.Due.{unless_refused, when_clean, when_piece_clean}
+use Rattle.symbol_lookup.specs.elf_object.Runs.{looked, after_look, set_item, added}
+use Rattle.symbol_lookup.specs.elf_object.Steps.{with_own}
 use Rattle.symbol_lookup.specs.Lookups.{link_of, linear_needs, linear_refusal, table_homes}
 use Rattle.calls_script.specs.declared.calls.Call.{Call}
 use Rattle.calls_script.specs.declared.calls.Call.TheVariants as call

@@ -1,6 +1,6 @@
 -- What calls say of a file.
 use Rattle.std.specs.Prelude.{ℕ, ◌+◌, List, codes, Ok, Err}
-use Rattle.elf_ident.specs.Front.{front_bytes}
+use Rattle.symbol_lookup.specs.elf_ident.Front.{front_bytes}
 use Rattle.tool_output.specs.Names.{Name}
 use Rattle.tool_output.specs.Reports.{Report}
 use Rattle.object_output.specs.Images.{file_object, object_report}

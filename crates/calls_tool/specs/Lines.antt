@@ -19,7 +19,7 @@ use Rattle.elf_types.specs.Text.{hex, kind_text, part_text, error_text}
 use Rattle.number_columns.specs.HexPairs.{hex_pair}
 use Rattle.calls_apply.specs.declared.answers.Item.{Item as ItemRecord}
 use Rattle.calls_apply.specs.declared.answers.Item.TheVariants as items
-use Rattle.gelf_view.specs.declared.notes.NoteAt.{NoteAt}
+use Rattle.symbol_lookup.specs.gelf_view.declared.notes.NoteAt.{NoteAt}
 use Rattle.calls_tool.specs.declared.lines.columns.Number.{Number}
 use Rattle.calls_tool.specs.declared.lines.columns.Number.TheVariants.{Decimal, Hex, Signed}
 use Rattle.calls_apply.specs.declared.answers.Answer.{Answer}

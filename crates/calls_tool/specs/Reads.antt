@@ -2,10 +2,10 @@
 use Rattle.std.specs.Prelude.{◌≡◌, ◌≤◌, ◌+◌, ℕ, IsTrue, List, [], ◌∷◌, Contains, Result, OnOk}
 use Rattle.elf_outside.specs.Asks.{Leaves}
 use Rattle.elf_outside.specs.declared.sources.Source.{Ghosts}
-use Rattle.elf_object.specs.Object.{Object}
-use Rattle.elf_object.specs.Calls.{Call, step}
-use Rattle.elf_object.specs.Due.{is_loaded, homes_due, with_others}
-use Rattle.elf_descriptor.specs.State.{State}
+use Rattle.symbol_lookup.specs.elf_object.Object.{Object}
+use Rattle.symbol_lookup.specs.elf_object.Calls.{Call, step}
+use Rattle.symbol_lookup.specs.elf_object.Due.{is_loaded, homes_due, with_others}
+use Rattle.symbol_lookup.specs.elf_descriptor.State.{State}
 use Rattle.tool_output.specs.declared.stops.Stop.{Stop}
 
 -- the sections whose homes calls may read, each once, where each call meets the object that those

@@ -17,7 +17,7 @@ use calls_apply::Answer;
 use elf_types::{
     ElfError, Kind, Octets, Part, kind_name, put_bytes, put_error, put_part, put_text,
 };
-use gelf_view::NoteAt;
+use symbol_lookup::prelude::NoteAt;
 use tool_output::Line;
 
 /// Appends the text of an answer.

@@ -7,8 +7,8 @@ ghost use Rattle.calls_tool.specs.Runs.{ShowsAnswer, RunsCall, RunsCalls};
 use crate::lines::AnswerLine;
 use calls_apply::{Answer, apply};
 use calls_script::Call;
-use elf_descriptor::Elf;
 use elf_outside::{Sink, Source};
+use symbol_lookup::prelude::Elf;
 use tool_output::{Outputs, Stop};
 
 /// Writes the line of an answer; that of a refusal refuses. It stops where the answer is want of

@@ -16,8 +16,8 @@ use Rattle.elf_object.specs.Calls as calls
 use Rattle.elf_object.specs.Runs.{left_by}
 use Rattle.elf_object.specs.Image.{image}
 use Rattle.elf_object.specs.Due.{is_loaded, homes_due, update_to_due}
-use Rattle.elf_descriptor.specs.State.{State}
-use Rattle.elf_descriptor.proofs.ReadsLaws.{dues_stay}
+use Rattle.update_plan.specs.elf_descriptor.State.{State}
+use Rattle.update_plan.proofs.elf_descriptor.ReadsLaws.{dues_stay}
 use Rattle.tool_text.specs.declared.commands.CallsOutput.TheVariants.{To}
 use Rattle.tool_output.specs.declared.stops.Stop.{Stop}
 use Rattle.tool_output.specs.declared.stops.Stop.TheVariants.{Read, Write, Memory}

@@ -17,9 +17,9 @@ use Rattle.elf_object.specs.Runs.{left_by}
 use Rattle.elf_object.specs.Image.{image}
 use Rattle.elf_object.specs.Due.{homes_due, update_in_place_due}
 use Rattle.elf_object.proofs.DueLaws.{more_than_none, homes_fall, update_in_place_most}
-use Rattle.elf_descriptor.specs.State.{State}
-use Rattle.elf_descriptor.specs.Views.{source_bytes}
-use Rattle.elf_descriptor.specs.Begun.{IsBegun, begun_state}
+use Rattle.update_plan.specs.elf_descriptor.State.{State}
+use Rattle.update_plan.specs.elf_descriptor.Views.{source_bytes}
+use Rattle.update_plan.specs.elf_descriptor.Begun.{IsBegun, begun_state}
 use Rattle.tool_text.specs.declared.commands.CallsOutput.TheVariants.{InPlace}
 use Rattle.tool_output.specs.declared.stops.Stop.{Stop}
 use Rattle.tool_output.specs.declared.stops.Stop.TheVariants.{Read, Write, Memory}

@@ -17,7 +17,7 @@ use Rattle.object_laws.proofs.ImageLaws.{section_at-placed, placed-dirty, placed
 use Rattle.object_laws.proofs.StandLaws.{section_count-placed, section_at-past}
 use Rattle.object_laws.proofs.AgainLaws.{stype-placed}
 use Rattle.object_laws.proofs.TornLaws.{dirty-placed, placed_stays}
-use Rattle.elf_descriptor.proofs.ReadsLaws.{dues_stay}
+use Rattle.update_plan.proofs.elf_descriptor.ReadsLaws.{dues_stay}
 
 -- ---- A section of the placed object
 

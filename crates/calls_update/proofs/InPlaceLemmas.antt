@@ -17,7 +17,7 @@ use Rattle.elf_object.specs.Due.{update_in_place_due}
 use Rattle.elf_object.specs.Calls as calls
 use Rattle.elf_object.specs.Words.{UpdateAnswers, result_map}
 use Rattle.object_laws.proofs.ImageLaws.{image-clean}
-use Rattle.elf_descriptor.specs.State.{State}
+use Rattle.update_plan.specs.elf_descriptor.State.{State}
 use Rattle.update_writes.specs.Writes.{LeavesTorn}
 use Rattle.update_in_place.specs.Updates.{OnEnd, UpdatesInPlace}
 use Rattle.tool_text.specs.declared.commands.CallsOutput.TheVariants.{InPlace}

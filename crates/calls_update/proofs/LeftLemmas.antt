@@ -17,8 +17,8 @@ use Rattle.elf_object.specs.Calls as calls
 use Rattle.elf_object.specs.Words.{Updates}
 use Rattle.elf_object.proofs.RefusalLaws.{update_refuses}
 use Rattle.object_laws.proofs.TornLaws.{placed_stays}
-use Rattle.elf_descriptor.specs.State.{State}
-use Rattle.elf_descriptor.specs.Edits.{flagged}
+use Rattle.update_plan.specs.elf_descriptor.State.{State}
+use Rattle.update_plan.specs.elf_descriptor.Edits.{flagged}
 use Rattle.object_output.specs.Steps.{SourceRose}
 use Rattle.tool_output.specs.declared.stops.Stop.{Stop}
 use Rattle.tool_output.specs.declared.stops.Stop.TheVariants.{Read, Write, Memory}

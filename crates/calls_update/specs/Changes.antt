@@ -10,7 +10,7 @@ use Rattle.elf_object.specs.Calls as calls
 use Rattle.elf_object.specs.Runs.{left_by}
 use Rattle.elf_object.specs.Image.{image}
 use Rattle.elf_object.specs.Due.{update_in_place_due, homes_due}
-use Rattle.elf_descriptor.specs.State.{State}
+use Rattle.update_plan.specs.elf_descriptor.State.{State}
 use Rattle.tool_text.specs.declared.commands.CallsOutput.TheVariants.{InPlace}
 use Rattle.tool_output.specs.declared.stops.Stop.{Stop}
 use Rattle.tool_output.specs.declared.outputs.Outputs.{Outputs}

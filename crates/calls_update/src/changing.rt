@@ -8,11 +8,11 @@ ghost use Rattle.calls_update.specs.Changes.{ChangesLeft, ChangesCalls};
 use calls_apply::Answer;
 use calls_script::Call;
 use calls_tool::{show_answer, show_calls};
-use elf_descriptor::Elf;
 use elf_outside::{Device, Sink};
 use elf_types::ElfError;
 use tool_output::{Outputs, Stop};
 use update_in_place::update_in_place;
+use update_plan::prelude::Elf;
 
 /// Writes the line of what an update answered: that of the length, or of the refusal. It stops
 /// where the update failed, and then nothing is written.

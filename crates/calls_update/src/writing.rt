@@ -7,11 +7,11 @@ ghost use Rattle.calls_update.specs.Writes.{WritesLaid, WritesLeft, WritesCalls}
 use calls_apply::Answer;
 use calls_script::Call;
 use calls_tool::{show_answer, show_calls};
-use elf_descriptor::Elf;
 use elf_outside::{Files, Sink, Source};
 use object_files::write_image;
 use std::alloc::Global;
 use tool_output::{Outputs, Stop};
+use update_plan::prelude::Elf;
 use update_plan::update_null;
 
 /// Writes the image of an object whose update is not refused to a new file, and then the line of

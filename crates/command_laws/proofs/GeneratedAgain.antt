@@ -17,30 +17,30 @@ use Rattle.elf_xlate.specs.declared.content.Items.TheVariants as items
 use Rattle.elf_xlate.specs.Headers.{IsPhdr}
 use Rattle.elf_xlate.specs.Items.{IsSym}
 use Rattle.elf_xlate.specs.Translation.{encoded, items_kind}
-use Rattle.elf_ident.specs.Front.{zero_shdr}
+use Rattle.command_outcomes.specs.elf_ident.Front.{zero_shdr}
 use Rattle.strtab_build.specs.Table.{table, place_of}
-use Rattle.elf_object.specs.Object.{Object, Section, Piece, section_at, piece_at, home_piece, is_null}
-use Rattle.elf_object.specs.Open.{opened, created_over, home_of}
-use Rattle.elf_object.specs.Answers.{content, or_empty, items_at, kind_at, piece_count, lend_refusal, no_content}
-use Rattle.elf_object.specs.Joined.{file_bytes}
-use Rattle.elf_object.specs.Layout.{placed_by, places_of, placed_section, placed_shdr, section_place, size_in_file}
-use Rattle.elf_object.specs.Image.{image}
-use Rattle.elf_object.specs.Settled.{settle, settled_section, settled_over}
-use Rattle.elf_object.specs.Steps.{with_ehdr, stored_ehdr, own_piece}
-use Rattle.elf_object.specs.Strings.{string_answer}
-use Rattle.elf_object.specs.Runs.{more_sym}
+use Rattle.command_outcomes.specs.elf_object.Object.{Object, Section, Piece, section_at, piece_at, home_piece, is_null}
+use Rattle.command_outcomes.specs.elf_object.Open.{opened, created_over, home_of}
+use Rattle.command_outcomes.specs.elf_object.Answers.{content, or_empty, items_at, kind_at, piece_count, lend_refusal, no_content}
+use Rattle.command_outcomes.specs.elf_object.Joined.{file_bytes}
+use Rattle.command_outcomes.specs.elf_object.Layout.{placed_by, places_of, placed_section, placed_shdr, section_place, size_in_file}
+use Rattle.command_outcomes.specs.elf_object.Image.{image}
+use Rattle.command_outcomes.specs.elf_object.Settled.{settle, settled_section, settled_over}
+use Rattle.command_outcomes.specs.elf_object.Steps.{with_ehdr, stored_ehdr, own_piece}
+use Rattle.command_outcomes.specs.elf_object.Strings.{string_answer}
+use Rattle.command_outcomes.specs.elf_object.Runs.{more_sym}
 use Rattle.elf_types.specs.Lists.{AreBytes}
-use Rattle.elf_object.specs.Valid.{IsObject, IsTied, as_opened}
-use Rattle.object_laws.specs.Laws.{ReopenLaw, SettlingKeepsItems}
-use Rattle.object_laws.proofs.KeepItemLaws.{addall_keeps}
-use Rattle.object_laws.proofs.ImageLaws.{placed-dirty, section_at-placed}
-use Rattle.object_laws.proofs.StandLaws.{section_count-placed, joined-placed}
-use Rattle.object_laws.proofs.SettledLaws.{settle-dirty}
-use Rattle.command_objects.specs.Rebuilt.{made_section}
-use Rattle.command_objects.specs.Generated.{zero_sym, generated_sym, generated_symtab, generated_strtab, generated_symbol_names, generated, generated_and_shifted}
+use Rattle.command_outcomes.specs.elf_object.Valid.{IsObject, IsTied, as_opened}
+use Rattle.command_outcomes.specs.object_laws.Laws.{ReopenLaw, SettlingKeepsItems}
+use Rattle.command_outcomes.proofs.object_laws.KeepItemLaws.{addall_keeps}
+use Rattle.command_outcomes.proofs.object_laws.ImageLaws.{placed-dirty, section_at-placed}
+use Rattle.command_outcomes.proofs.object_laws.StandLaws.{section_count-placed, joined-placed}
+use Rattle.command_outcomes.proofs.object_laws.SettledLaws.{settle-dirty}
+use Rattle.command_outcomes.specs.command_objects.Rebuilt.{made_section}
+use Rattle.command_outcomes.specs.command_objects.Generated.{zero_sym, generated_sym, generated_symtab, generated_strtab, generated_symbol_names, generated, generated_and_shifted}
 use Rattle.command_laws.proofs.NameLemmas.{symbol_name}
 use Rattle.command_laws.proofs.TableLemmas.{symbol_placed, length-symbol_table, symbol_table_bytes}
-use Rattle.elf_object.proofs.SettledSections.{section_at-settled}
+use Rattle.command_outcomes.proofs.elf_object.SettledSections.{section_at-settled}
 use Rattle.command_laws.proofs.StringLemmas.{at_home, settled_is, content_inside, string_alone}
 use Rattle.command_laws.proofs.GeneratedObject.{strtab, symtab_with, shifted_symbols, shifted, shifted_is}
 use Rattle.command_laws.proofs.GeneratedIs.{generated_object}

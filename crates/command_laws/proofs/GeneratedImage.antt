@@ -13,19 +13,19 @@ use Rattle.elf_types.specs.declared.records.Part.TheVariants as part
 use Rattle.elf_xlate.specs.declared.content.Items.{Items}
 use Rattle.elf_xlate.specs.Translation.{first_unfit}
 use Rattle.elf_xlate.proofs.Broad.{none_unfit}
-use Rattle.elf_ident.specs.Front.{zero_shdr}
+use Rattle.command_outcomes.specs.elf_ident.Front.{zero_shdr}
 use Rattle.elf_layout.specs.declared.parts.PartAt.{PartAt}
 use Rattle.elf_layout.specs.Layout.{rounded_up, limit_of, refusal_of, places_of as parts_places}
 use Rattle.elf_layout.specs.Meeting.{has_bytes}
-use Rattle.elf_object.specs.Object.{Section, Piece, section_at, has_file_bytes, home_is_clean, new_section, is_dirty}
-use Rattle.elf_object.specs.Open.{created_over}
-use Rattle.elf_object.specs.Layout.{section_part, parts_of, header_part, segments_part, table_part, places_of}
-use Rattle.elf_object.specs.Image.{image, image_length}
-use Rattle.elf_object.specs.Refusal.{too_many, unfit_segment, unfit_in_piece, unfit_in_section, unfit_item, missing_in_section, missing_home, content_refusal, placing_refusal, refusal}
-use Rattle.elf_object.specs.Steps.{with_ehdr, stored_ehdr}
-use Rattle.object_laws.proofs.ImageLaws.{length-image}
-use Rattle.command_objects.specs.Rebuilt.{made_section}
-use Rattle.command_objects.specs.Generated.{generated_data, generated_symtab, generated_strtab, generated}
+use Rattle.command_outcomes.specs.elf_object.Object.{Section, Piece, section_at, has_file_bytes, home_is_clean, new_section, is_dirty}
+use Rattle.command_outcomes.specs.elf_object.Open.{created_over}
+use Rattle.command_outcomes.specs.elf_object.Layout.{section_part, parts_of, header_part, segments_part, table_part, places_of}
+use Rattle.command_outcomes.specs.elf_object.Image.{image, image_length}
+use Rattle.command_outcomes.specs.elf_object.Refusal.{too_many, unfit_segment, unfit_in_piece, unfit_in_section, unfit_item, missing_in_section, missing_home, content_refusal, placing_refusal, refusal}
+use Rattle.command_outcomes.specs.elf_object.Steps.{with_ehdr, stored_ehdr}
+use Rattle.command_outcomes.proofs.object_laws.ImageLaws.{length-image}
+use Rattle.command_outcomes.specs.command_objects.Rebuilt.{made_section}
+use Rattle.command_outcomes.specs.command_objects.Generated.{generated_data, generated_symtab, generated_strtab, generated}
 use Rattle.command_laws.specs.SelftestSizes.{above, data_bytes, digits_up_to, selftest_bytes}
 use Rattle.command_laws.proofs.NumberLemmas.{sum_to, sum_to-next, data_is}
 use Rattle.command_laws.proofs.RowLemmas.{three_more, rows_all}

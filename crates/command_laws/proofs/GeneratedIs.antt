@@ -7,16 +7,16 @@ use Rattle.elf_types.specs.declared.records.Shdr.{Shdr}
 use Rattle.elf_xlate.specs.declared.content.Items.{Items}
 use Rattle.elf_xlate.specs.declared.content.Items.TheVariants as items
 use Rattle.elf_xlate.specs.Headers.{IsShdr, shdr_fits, ehdr_fits}
-use Rattle.elf_ident.specs.Front.{zero_shdr}
-use Rattle.elf_object.specs.Object.{Object, new_section, occupies_file}
-use Rattle.elf_object.specs.Open.{created_over}
-use Rattle.elf_object.specs.Steps.{with_ehdr, stored_ehdr, own_piece}
-use Rattle.elf_object.specs.Valid.{IsPiece, OthersOwn, IsSection, IsObject}
-use Rattle.elf_object.proofs.PieceLaws.{own_piece_is, home_piece_is}
-use Rattle.object_laws.proofs.KeepLaws.{new_section_is}
+use Rattle.command_outcomes.specs.elf_ident.Front.{zero_shdr}
+use Rattle.command_outcomes.specs.elf_object.Object.{Object, new_section, occupies_file}
+use Rattle.command_outcomes.specs.elf_object.Open.{created_over}
+use Rattle.command_outcomes.specs.elf_object.Steps.{with_ehdr, stored_ehdr, own_piece}
+use Rattle.command_outcomes.specs.elf_object.Valid.{IsPiece, OthersOwn, IsSection, IsObject}
+use Rattle.command_outcomes.proofs.elf_object.PieceLaws.{own_piece_is, home_piece_is}
+use Rattle.command_outcomes.proofs.object_laws.KeepLaws.{new_section_is}
 use Rattle.strtab_build.specs.Table.{table}
-use Rattle.command_objects.specs.Rebuilt.{made_section}
-use Rattle.command_objects.specs.Generated.{generated_data, generated_symtab, generated_strtab, generated_symbol_names, generated_section_names, generated}
+use Rattle.command_outcomes.specs.command_objects.Rebuilt.{made_section}
+use Rattle.command_outcomes.specs.command_objects.Generated.{generated_data, generated_symtab, generated_strtab, generated_symbol_names, generated_section_names, generated}
 use Rattle.command_laws.proofs.TableLemmas.{section_places}
 use Rattle.command_laws.proofs.RowLemmas.{length-rows, rows_all}
 use Rattle.command_laws.proofs.GeneratedObject.{strtab, shstrtab, symbols, generated_is}

@@ -9,14 +9,14 @@ use Rattle.elf_xlate.specs.declared.content.Items.TheVariants as items
 use Rattle.elf_types.specs.Answers.{err_of}
 use Rattle.elf_types.specs.declared.errors.ElfError.{ElfError}
 use Rattle.elf_xlate.specs.Translation.{items_kind}
-use Rattle.elf_object.specs.Object.{Object, Section, Piece, section_at, piece_at, absent_section, new_section, home_piece}
-use Rattle.elf_object.specs.Answers.{content, or_empty, items_at, syms_of, kind_at, piece_count, lend_refusal, no_content}
-use Rattle.elf_object.specs.Steps.{with_ehdr, with_section, with_piece_at, with_own, own_piece}
-use Rattle.elf_object.specs.Calls.{step}
-use Rattle.elf_object.specs.Runs.{addall, added, more_sym}
-use Rattle.elf_object.proofs.PassedLaws.{step_ok}
-use Rattle.command_objects.specs.Rebuilt.{made_section}
-use Rattle.command_objects.specs.Generated.{zero_sym, generated_sym, generated_data, generated_symtab, generated_strtab, generated_symbol_names, generated_section_names, generated_sections, generated, generated_and_shifted}
+use Rattle.command_outcomes.specs.elf_object.Object.{Object, Section, Piece, section_at, piece_at, absent_section, new_section, home_piece}
+use Rattle.command_outcomes.specs.elf_object.Answers.{content, or_empty, items_at, syms_of, kind_at, piece_count, lend_refusal, no_content}
+use Rattle.command_outcomes.specs.elf_object.Steps.{with_ehdr, with_section, with_piece_at, with_own, own_piece}
+use Rattle.command_outcomes.specs.elf_object.Calls.{step}
+use Rattle.command_outcomes.specs.elf_object.Runs.{addall, added, more_sym}
+use Rattle.command_outcomes.proofs.elf_object.PassedLaws.{step_ok}
+use Rattle.command_outcomes.specs.command_objects.Rebuilt.{made_section}
+use Rattle.command_outcomes.specs.command_objects.Generated.{zero_sym, generated_sym, generated_data, generated_symtab, generated_strtab, generated_symbol_names, generated_section_names, generated_sections, generated, generated_and_shifted}
 use Rattle.command_laws.proofs.RowLemmas.{rows, length-rows, last_at, set_last}
 
 -- ---- The sections

@@ -12,16 +12,16 @@ use Rattle.elf_xlate.specs.declared.content.Items.{Items}
 use Rattle.elf_xlate.specs.declared.content.Items.TheVariants as items
 use Rattle.elf_xlate.specs.Translation.{encoded}
 use Rattle.elf_xlate.proofs.Lengths.{length_encoded}
-use Rattle.elf_object.specs.Object.{Object, Section, section_at, has_file_bytes, occupies_file, absent_section, new_section}
-use Rattle.elf_object.specs.Open.{created_over}
-use Rattle.elf_object.specs.Joined.{piece_bytes, aligned_pieces, piece_blocks, pieces_end, file_bytes}
-use Rattle.elf_object.specs.Layout.{alignment_of, section_part}
-use Rattle.elf_object.specs.Runs.{more_sym}
-use Rattle.elf_object.specs.Steps.{with_ehdr, stored_ehdr, own_piece}
+use Rattle.command_outcomes.specs.elf_object.Object.{Object, Section, section_at, has_file_bytes, occupies_file, absent_section, new_section}
+use Rattle.command_outcomes.specs.elf_object.Open.{created_over}
+use Rattle.command_outcomes.specs.elf_object.Joined.{piece_bytes, aligned_pieces, piece_blocks, pieces_end, file_bytes}
+use Rattle.command_outcomes.specs.elf_object.Layout.{alignment_of, section_part}
+use Rattle.command_outcomes.specs.elf_object.Runs.{more_sym}
+use Rattle.command_outcomes.specs.elf_object.Steps.{with_ehdr, stored_ehdr, own_piece}
 use Rattle.strtab_build.specs.Table.{table}
-use Rattle.object_laws.proofs.ItemLaws.{alone_spread}
-use Rattle.command_objects.specs.Rebuilt.{made_section}
-use Rattle.command_objects.specs.Generated.{generated_sym, generated_data, generated_symtab, generated_strtab, generated_symbol_names, generated_section_names, generated}
+use Rattle.command_outcomes.proofs.object_laws.ItemLaws.{alone_spread}
+use Rattle.command_outcomes.specs.command_objects.Rebuilt.{made_section}
+use Rattle.command_outcomes.specs.command_objects.Generated.{generated_sym, generated_data, generated_symtab, generated_strtab, generated_symbol_names, generated_section_names, generated}
 use Rattle.command_laws.specs.SelftestSizes.{digits_up_to}
 use Rattle.command_laws.proofs.TableLemmas.{length-symbol_table, length-section_table}
 use Rattle.command_laws.proofs.PlacedEnds.{IsPart}

@@ -10,14 +10,14 @@ use Rattle.elf_types.specs.Answers.{answered}
 use Rattle.elf_types.specs.declared.errors.ElfError.{ElfError}
 use Rattle.elf_types.specs.declared.records.Sym.{Sym}
 use Rattle.elf_xlate.specs.declared.content.Items.{Items}
-use Rattle.elf_object.specs.Object.{Object}
-use Rattle.elf_object.specs.Answers.{syms_of}
-use Rattle.elf_object.specs.Image.{image}
-use Rattle.elf_object.specs.Runs.{more_sym}
-use Rattle.elf_object.specs.Strings.{is_name, readable, symbol_name as name_of_symbol}
+use Rattle.command_outcomes.specs.elf_object.Object.{Object}
+use Rattle.command_outcomes.specs.elf_object.Answers.{syms_of}
+use Rattle.command_outcomes.specs.elf_object.Image.{image}
+use Rattle.command_outcomes.specs.elf_object.Runs.{more_sym}
+use Rattle.command_outcomes.specs.elf_object.Strings.{is_name, readable, symbol_name as name_of_symbol}
 use Rattle.strtab_build.proofs.DistinctLemmas.{other_sym, same_refl}
-use Rattle.command_objects.specs.Generated.{zero_sym, generated_sym, symbols_in, five_lines, told_lines}
-use Rattle.hash_model.specs.Listed.{listed_name, listed_names, find_linear_answer}
+use Rattle.command_outcomes.specs.command_objects.Generated.{zero_sym, generated_sym, symbols_in, five_lines, told_lines}
+use Rattle.command_outcomes.specs.hash_model.Listed.{listed_name, listed_names, find_linear_answer}
 use Rattle.command_laws.specs.SelftestSizes.{triangle, selftest_sum, selftest_bytes, selftest_lines}
 use Rattle.command_laws.proofs.NumberLemmas.{sum_to, sum_to-next, triangle-next}
 use Rattle.command_laws.proofs.NameLemmas.{symbol_name, symbol_names_are}

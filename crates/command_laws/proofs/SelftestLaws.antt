@@ -1,13 +1,13 @@
 -- What the self test gives for each number of sections (`SelftestLaw`).
 use Rattle.std.proofs.Common.{◌≡◌, ℕ, ◌≤◌, List, [], ◌∷◌, length, Ok, refl, sym, ap, ◌∙◌}
 use Rattle.std.specs.Prelude.{codes}
-use Rattle.elf_object.specs.Object.{Object}
-use Rattle.elf_object.specs.Image.{image}
-use Rattle.elf_object.specs.Refusal.{refusal}
-use Rattle.object_laws.specs.Laws.{ReopenLaw, SettlingKeepsItems}
-use Rattle.command_objects.specs.Files.{file_of}
+use Rattle.command_outcomes.specs.elf_object.Object.{Object}
+use Rattle.command_outcomes.specs.elf_object.Image.{image}
+use Rattle.command_outcomes.specs.elf_object.Refusal.{refusal}
+use Rattle.command_outcomes.specs.object_laws.Laws.{ReopenLaw, SettlingKeepsItems}
+use Rattle.command_outcomes.specs.command_objects.Files.{file_of}
 use Rattle.tool_output.specs.Made.{Done, written_outcome, made_file}
-use Rattle.command_objects.specs.Generated.{generated_and_shifted}
+use Rattle.command_outcomes.specs.command_objects.Generated.{generated_and_shifted}
 use Rattle.command_outcomes.specs.Selftest.{selftest_done, selftest_outcome}
 use Rattle.command_laws.specs.SelftestSizes.{selftest_lines}
 use Rattle.command_laws.specs.SelftestLaw.{SelftestGives, SelftestLaw}

@@ -8,10 +8,10 @@ use Rattle.std.proofs.lemmas.Bool.{cases_lt, lt-ltb, le-ltb, ltb-false, le-leb, 
 use Rattle.std.proofs.lemmas.List.{length-map}
 use Rattle.std.proofs.lemmas.List.Elements.{All-nil, All-cons, All-head, All-tail}
 use Rattle.elf_layout.specs.Meeting.{inserted_by, sorted_by}
-use Rattle.elf_object.specs.Sections.{first_of}
-use Rattle.hash_model.specs.Hashes.{gnu_hash}
-use Rattle.hash_model.specs.BuiltHashes.{buckets_of, order_key, gnu_order_of, is_unsorted_after, first_unsorted}
-use Rattle.command_objects.specs.Laws.{SortedAreBuilt}
+use Rattle.command_outcomes.specs.elf_object.Sections.{first_of}
+use Rattle.command_outcomes.specs.hash_model.Hashes.{gnu_hash}
+use Rattle.command_outcomes.specs.hash_model.BuiltHashes.{buckets_of, order_key, gnu_order_of, is_unsorted_after, first_unsorted}
+use Rattle.command_outcomes.specs.command_objects.Laws.{SortedAreBuilt}
 
 -- each number after the first has no smaller key than the one before
 abbrev pub Ascend : (ℕ → ℕ) → ℕ → ℕ → Type 0

@@ -13,13 +13,13 @@ use Rattle.elf_xlate.specs.declared.content.Items.{Items}
 use Rattle.elf_xlate.specs.Translation.{decoded}
 use Rattle.elf_layout.specs.Layout.{rounded_up}
 use Rattle.strtab_build.specs.Table.{string_at}
-use Rattle.elf_object.specs.Blocks.{Block, block_covers, block_end, stacked}
-use Rattle.elf_object.specs.Object.{Object, Section, section_at, home_piece, home_is_clean}
-use Rattle.elf_object.specs.Open.{home_of, home_len}
-use Rattle.elf_object.specs.Answers.{content}
-use Rattle.elf_object.specs.Joined.{piece_bytes, aligned_pieces, piece_blocks}
-use Rattle.elf_object.specs.Strings.{holds_strings, piece_over, has_nul, bytes_from, string_in, string_refusal_unread, string_refusal, string_answer}
-use Rattle.elf_object.specs.Settled.{settled_section}
+use Rattle.command_outcomes.specs.elf_object.Blocks.{Block, block_covers, block_end, stacked}
+use Rattle.command_outcomes.specs.elf_object.Object.{Object, Section, section_at, home_piece, home_is_clean}
+use Rattle.command_outcomes.specs.elf_object.Open.{home_of, home_len}
+use Rattle.command_outcomes.specs.elf_object.Answers.{content}
+use Rattle.command_outcomes.specs.elf_object.Joined.{piece_bytes, aligned_pieces, piece_blocks}
+use Rattle.command_outcomes.specs.elf_object.Strings.{holds_strings, piece_over, has_nul, bytes_from, string_in, string_refusal_unread, string_refusal, string_answer}
+use Rattle.command_outcomes.specs.elf_object.Settled.{settled_section}
 
 -- ---- A settled section
 

@@ -13,8 +13,8 @@ use Rattle.strtab_build.specs.Table.{table, place_of, string_at}
 use Rattle.strtab_build.specs.Names.{unclosed, IsNew, IsTable}
 use Rattle.strtab_build.proofs.KeptLemmas.{IsTable-push}
 use Rattle.strtab_build.proofs.TableLemmas.{table_is, length-table, length-unclosed-push, unclosed-through, string_at-place_of}
-use Rattle.elf_object.specs.Strings.{has_nul}
-use Rattle.command_objects.specs.Generated.{generated_symbol_names, generated_section_names}
+use Rattle.command_outcomes.specs.elf_object.Strings.{has_nul}
+use Rattle.command_outcomes.specs.command_objects.Generated.{generated_symbol_names, generated_section_names}
 use Rattle.command_laws.specs.SelftestSizes.{above, digits_up_to}
 use Rattle.command_laws.proofs.NumberLemmas.{sum_to, sum_to-next, digits_are}
 use Rattle.command_laws.proofs.RowLemmas.{three_in_one}

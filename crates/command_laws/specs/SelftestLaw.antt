@@ -1,10 +1,10 @@
 -- What the self test gives, for each number of sections that it takes.
 use Rattle.std.specs.Prelude.{◌≡◌, ℕ, ◌≤◌, List, [], ◌∷◌, length, None, Ok}
-use Rattle.elf_object.specs.Valid.{IsObject}
-use Rattle.elf_object.specs.Refusal.{refusal}
-use Rattle.elf_object.specs.Image.{image}
+use Rattle.command_outcomes.specs.elf_object.Valid.{IsObject}
+use Rattle.command_outcomes.specs.elf_object.Refusal.{refusal}
+use Rattle.command_outcomes.specs.elf_object.Image.{image}
 use Rattle.tool_output.specs.Reports.{shown}
-use Rattle.command_objects.specs.Generated.{generated, generated_and_shifted}
+use Rattle.command_outcomes.specs.command_objects.Generated.{generated, generated_and_shifted}
 use Rattle.tool_output.specs.Made.{outcome_with, made_file}
 use Rattle.command_outcomes.specs.Selftest.{selftest_done, selftest_outcome}
 use Rattle.command_laws.specs.SelftestSizes.{selftest_bytes, selftest_lines}

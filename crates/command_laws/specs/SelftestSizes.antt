@@ -2,7 +2,7 @@
 -- 60,000: sizes and sums in closed form.
 use Rattle.std.specs.Prelude.{ℕ, ◌+◌, ◌-◌, ◌*◌, ◌/◌, ◌%◌, List, ◌++◌, codes, decimal, Some}
 use Rattle.elf_layout.specs.Layout.{rounded_up}
-use Rattle.command_objects.specs.Generated.{line_of, found_text}
+use Rattle.command_outcomes.specs.command_objects.Generated.{line_of, found_text}
 
 -- the sum of the numbers up to one
 unfoldable pub triangle : ℕ → ℕ

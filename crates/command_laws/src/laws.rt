@@ -2,9 +2,9 @@
 //! what it ensures holds, and is proved.
 
 ghost use Rattle.command_laws.specs.SelftestLaw.{SelftestLaw};
-ghost use Rattle.command_objects.specs.Laws.{SortedAreBuilt};
+ghost use Rattle.command_outcomes.specs.command_objects.Laws.{SortedAreBuilt};
 
-use object_laws::laws::{reopen_law, settling_keeps_items};
+use command_outcomes::prelude::{reopen_law, settling_keeps_items};
 
 /// For each number of sections from 1 to 60,000, what the self test generates is an object, its
 /// update is not refused, and the command gives status 0, the image, and five lines. The image's

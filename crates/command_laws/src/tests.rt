@@ -2,10 +2,10 @@
 #![tactic(auto, unfolding(crate::proofs::Computing::all_words))]
 
 ghost use Rattle.std.specs.Prelude.{◌≡◌, [], ◌∷◌, length, codes};
-ghost use Rattle.elf_object.specs.Image.{image};
+ghost use Rattle.command_outcomes.specs.elf_object.Image.{image};
 ghost use Rattle.tool_output.specs.Marks.{said};
 ghost use Rattle.tool_output.specs.declared.outputs.Side.TheVariants.{Out};
-ghost use Rattle.command_objects.specs.Generated.{generated_and_shifted};
+ghost use Rattle.command_outcomes.specs.command_objects.Generated.{generated_and_shifted};
 ghost use Rattle.tool_output.specs.Made.{made_file};
 ghost use Rattle.command_outcomes.specs.Selftest.{selftest_outcome};
 ghost use Rattle.command_outcomes.specs.Samples.{ends_with};

@@ -1,8 +1,8 @@
 -- All words of this crate and of the object at once, for proofs by computation.
 use Rattle.std.specs.Prelude.{Bool, true}
 use Rattle.std.specs.Fmt.{digits}
-use Rattle.strtab_build.specs.Table.{distinct, strings, table as string_table, place_of as string_place}
-use Rattle.elf_object.proofs.Computing.{all_words as object_words}
+use Rattle.hash_model.specs.strtab_build.Table.{distinct, strings, table as string_table, place_of as string_place}
+use Rattle.hash_model.proofs.elf_object.Computing.{all_words as object_words}
 use Rattle.command_objects.specs.Arranged.{loaded_end, base_end, tail_of, over_base, movable, parts_from, place_from, section_from, placed_from, tail_refusal, arranged}
 use Rattle.hash_model.specs.BuiltHashes.{buckets_of, in_bucket, next_in, sysv_built, gnu_order_of, first_unsorted, hashes_of, bloom_word, chain_word, first_listed, gnu_built, hash_refusal, build_sysv_answer, gnu_order_answer, unsorted, build_gnu_answer}
 use Rattle.command_objects.specs.Copied.{names_in, section_named, update_fault, with_bytes, with_name, with_section_flags, with_added, with_names, named, with_changes, copied}
@@ -20,7 +20,7 @@ use Rattle.command_objects.specs.Removed.{removable, with_found, is_debug_name, 
 use Rattle.hash_model.specs.Reordered.{in_order, new_index, reordered_section, reordered, reorder_refusal_of, reorder_refusal}
 use Rattle.command_objects.specs.Samples.{one_section64}
 use Rattle.command_objects.specs.Split.{is_loaded_from_file, debug_section, debug_half, debug_refusal, debug_of, removed_allocated, same_header, same_phdr, same_loaded, allocated, matches, counterpart, combined_section, combined_object, combined_raw_refusal, combine_fault, unstripped}
-use Rattle.elf_object.specs.Sections.{is_allocated, is_relocations, info_is_section, is_of, is_loose, is_among, greatest, in_turn}
+use Rattle.hash_model.specs.elf_object.Sections.{is_allocated, is_relocations, info_is_section, is_of, is_loose, is_among, greatest, in_turn}
 
 -- its value says nothing: what counts is that a proof that unfolds it unfolds the others
 unfoldable pub all_words : Bool

@@ -4,8 +4,8 @@ use Rattle.std.specs.Prelude.{◌&&◌, if◌then◌else◌, map}
 use Rattle.std.proofs.Math.ListN.{get_or-map}
 use Rattle.elf_types.specs.declared.records.Kind.{Kind}
 use Rattle.elf_types.specs.declared.records.Shdr.{Shdr}
-use Rattle.elf_object.specs.Object.{Section, Piece, absent_section}
-use Rattle.elf_object.specs.Sections.{is_allocated}
+use Rattle.hash_model.specs.elf_object.Object.{Section, Piece, absent_section}
+use Rattle.hash_model.specs.elf_object.Sections.{is_allocated}
 use Rattle.command_objects.specs.KeepingLaws.{SameSection}
 
 -- what is compared of a section: its place counts where it is allocated, in a program

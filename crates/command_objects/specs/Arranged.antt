@@ -9,14 +9,14 @@ use Rattle.elf_types.specs.declared.records.Phdr.{Phdr}
 use Rattle.elf_types.specs.declared.errors.ElfError.{ElfError}
 use Rattle.elf_types.specs.declared.errors.ElfError.TheVariants.{TooLarge}
 use Rattle.elf_types.specs.declared.constants.TheConstants.{PT_NULL}
-use Rattle.elf_xlate.specs.Headers.{ehdr_size, phdr_size}
-use Rattle.elf_layout.specs.declared.parts.PartAt.{PartAt}
-use Rattle.elf_layout.specs.Layout.{in_order_from, positions, some_above, limit_of}
-use Rattle.elf_object.specs.Object.{Object, Section, is_null}
-use Rattle.elf_object.specs.Open.{created, created_over}
-use Rattle.elf_object.specs.Layout.{section_numbers, section_part, table_part}
-use Rattle.elf_object.specs.Steps.{with_ehdr, with_layout}
-use Rattle.elf_object.specs.Sections.{is_allocated, is_program, header_at, greatest}
+use Rattle.hash_model.specs.elf_xlate.Headers.{ehdr_size, phdr_size}
+use Rattle.hash_model.specs.elf_layout.declared.parts.PartAt.{PartAt}
+use Rattle.hash_model.specs.elf_layout.Layout.{in_order_from, positions, some_above, limit_of}
+use Rattle.hash_model.specs.elf_object.Object.{Object, Section, is_null}
+use Rattle.hash_model.specs.elf_object.Open.{created, created_over}
+use Rattle.hash_model.specs.elf_object.Layout.{section_numbers, section_part, table_part}
+use Rattle.hash_model.specs.elf_object.Steps.{with_ehdr, with_layout}
+use Rattle.hash_model.specs.elf_object.Sections.{is_allocated, is_program, header_at, greatest}
 
 -- an object that is made anew, and for a program the place from which on what is not loaded stands
 pub record Rebuilt : Type 0 where

@@ -6,16 +6,16 @@ use Rattle.elf_types.specs.Answers.{refused_if, first_refusal, answered, or_refu
 use Rattle.elf_types.specs.declared.records.Shdr.{Shdr}
 use Rattle.elf_types.specs.declared.errors.ElfError.{ElfError}
 use Rattle.elf_types.specs.declared.constants.TheConstants.{SHT_PROGBITS}
-use Rattle.elf_xlate.specs.declared.content.Items.TheVariants as items
-use Rattle.elf_ident.specs.Front.{zero_shdr}
-use Rattle.strtab_build.specs.Table.{table, place_of}
-use Rattle.elf_object.specs.Object.{Object, Section, occupies_file}
-use Rattle.elf_object.specs.Joined.{pieces_end}
-use Rattle.elf_object.specs.Layout.{section_numbers}
-use Rattle.elf_object.specs.Steps.{with_own, new_number}
-use Rattle.elf_object.specs.Calls.{newscn, newdata, update_shdr, replace}
-use Rattle.elf_object.specs.Sections.{is_allocated, is_program, header_at, edited, in_turn}
-use Rattle.elf_object.specs.Strings.{section_name, is_name, or_empty_name}
+use Rattle.hash_model.specs.elf_xlate.declared.content.Items.TheVariants as items
+use Rattle.hash_model.specs.elf_ident.Front.{zero_shdr}
+use Rattle.hash_model.specs.strtab_build.Table.{table, place_of}
+use Rattle.hash_model.specs.elf_object.Object.{Object, Section, occupies_file}
+use Rattle.hash_model.specs.elf_object.Joined.{pieces_end}
+use Rattle.hash_model.specs.elf_object.Layout.{section_numbers}
+use Rattle.hash_model.specs.elf_object.Steps.{with_own, new_number}
+use Rattle.hash_model.specs.elf_object.Calls.{newscn, newdata, update_shdr, replace}
+use Rattle.hash_model.specs.elf_object.Sections.{is_allocated, is_program, header_at, edited, in_turn}
+use Rattle.hash_model.specs.elf_object.Strings.{section_name, is_name, or_empty_name}
 use Rattle.command_objects.specs.Removed.{removed_by_name}
 use Rattle.command_objects.specs.Arranged.{Rebuilt, arranged}
 use Rattle.command_objects.specs.Rebuilt.{rebuilt, renews_names, table_refusal}

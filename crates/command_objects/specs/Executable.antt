@@ -12,16 +12,16 @@ use Rattle.elf_types.specs.declared.records.Sym.{Sym}
 use Rattle.elf_types.specs.declared.records.Rela.{Rela}
 use Rattle.elf_types.specs.declared.records.Dyn.{Dyn}
 use Rattle.elf_types.specs.declared.constants.TheConstants.{SHT_PROGBITS, SHT_SYMTAB, SHT_STRTAB, SHT_RELA, SHT_DYNAMIC, SHT_NOTE, SHT_NOBITS, SHT_DYNSYM, SHT_INIT_ARRAY, SHT_FINI_ARRAY, SHT_GNU_HASH, SHT_GNU_VERNEED, SHT_GNU_VERSYM, SHF_WRITE, SHF_ALLOC, SHF_EXECINSTR, SHF_INFO_LINK, SHF_TLS, PT_LOAD}
-use Rattle.elf_xlate.specs.declared.content.Items.{Items}
-use Rattle.elf_xlate.specs.declared.content.Items.TheVariants as items
-use Rattle.elf_xlate.specs.Headers.{ehdr_bytes}
-use Rattle.elf_xlate.specs.Translation.{encoded}
-use Rattle.elf_ident.specs.Front.{zero_shdr}
-use Rattle.strtab_build.specs.Table.{table, place_of}
-use Rattle.elf_object.specs.Blocks.{Block, block_end}
-use Rattle.elf_object.specs.Object.{Object, no_phdr}
-use Rattle.elf_object.specs.Open.{new_ehdr, phdrs_bytes, shdrs_bytes}
-use Rattle.elf_object.specs.Samples.{hex, object_in}
+use Rattle.hash_model.specs.elf_xlate.declared.content.Items.{Items}
+use Rattle.hash_model.specs.elf_xlate.declared.content.Items.TheVariants as items
+use Rattle.hash_model.specs.elf_xlate.Headers.{ehdr_bytes}
+use Rattle.hash_model.specs.elf_xlate.Translation.{encoded}
+use Rattle.hash_model.specs.elf_ident.Front.{zero_shdr}
+use Rattle.hash_model.specs.strtab_build.Table.{table, place_of}
+use Rattle.hash_model.specs.elf_object.Blocks.{Block, block_end}
+use Rattle.hash_model.specs.elf_object.Object.{Object, no_phdr}
+use Rattle.hash_model.specs.elf_object.Open.{new_ehdr, phdrs_bytes, shdrs_bytes}
+use Rattle.hash_model.specs.elf_object.Samples.{hex, object_in}
 use Rattle.command_objects.specs.Generated.{zero_sym}
 
 -- ---- Names

@@ -8,11 +8,11 @@ use Rattle.elf_types.specs.declared.records.Kind.TheVariants as kinds
 use Rattle.elf_types.specs.declared.records.Shdr.{Shdr}
 use Rattle.elf_types.specs.declared.records.Sym.{Sym}
 use Rattle.elf_types.specs.declared.constants.TheConstants.{SHT_SYMTAB, SHT_GROUP, SHT_SYMTAB_SHNDX, SHN_LORESERVE}
-use Rattle.elf_object.specs.Object.{Object}
-use Rattle.elf_object.specs.Answers.{items_at, words_of, syms_of}
-use Rattle.elf_object.specs.Layout.{section_numbers}
-use Rattle.elf_object.specs.SymbolSections.{is_extended}
-use Rattle.elf_object.specs.Sections.{is_loose, info_is_section, header_at, is_among, first_of, number_or_0}
+use Rattle.hash_model.specs.elf_object.Object.{Object}
+use Rattle.hash_model.specs.elf_object.Answers.{items_at, words_of, syms_of}
+use Rattle.hash_model.specs.elf_object.Layout.{section_numbers}
+use Rattle.hash_model.specs.elf_object.SymbolSections.{is_extended}
+use Rattle.hash_model.specs.elf_object.Sections.{is_loose, info_is_section, header_at, is_among, first_of, number_or_0}
 
 -- ---- The map
 

@@ -9,15 +9,15 @@ use Rattle.elf_types.specs.declared.records.Shdr.{Shdr}
 use Rattle.elf_types.specs.declared.records.Sym.{Sym}
 use Rattle.elf_types.specs.declared.errors.ElfError.{ElfError}
 use Rattle.elf_types.specs.declared.constants.TheConstants.{SHT_PROGBITS, SHT_SYMTAB, SHT_STRTAB, SHF_ALLOC, STB_GLOBAL, STT_OBJECT}
-use Rattle.elf_xlate.specs.declared.content.Items.TheVariants as items
-use Rattle.elf_ident.specs.Front.{zero_shdr}
-use Rattle.strtab_build.specs.Table.{table, place_of}
-use Rattle.elf_object.specs.Object.{Object, Section, new_section}
-use Rattle.elf_object.specs.Open.{created, new_ehdr}
-use Rattle.elf_object.specs.Steps.{with_ehdr, with_sections}
-use Rattle.elf_object.specs.Calls.{step}
-use Rattle.elf_object.specs.Runs.{addall}
-use Rattle.elf_object.specs.Answers.{items_at, syms_of}
+use Rattle.hash_model.specs.elf_xlate.declared.content.Items.TheVariants as items
+use Rattle.hash_model.specs.elf_ident.Front.{zero_shdr}
+use Rattle.hash_model.specs.strtab_build.Table.{table, place_of}
+use Rattle.hash_model.specs.elf_object.Object.{Object, Section, new_section}
+use Rattle.hash_model.specs.elf_object.Open.{created, new_ehdr}
+use Rattle.hash_model.specs.elf_object.Steps.{with_ehdr, with_sections}
+use Rattle.hash_model.specs.elf_object.Calls.{step}
+use Rattle.hash_model.specs.elf_object.Runs.{addall}
+use Rattle.hash_model.specs.elf_object.Answers.{items_at, syms_of}
 use Rattle.command_objects.specs.Rebuilt.{made_section}
 use Rattle.hash_model.specs.Listed.{find_linear_answer}
 

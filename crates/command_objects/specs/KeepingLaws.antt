@@ -5,13 +5,13 @@ use Rattle.elf_types.specs.declared.records.Ehdr.{Ehdr}
 use Rattle.elf_types.specs.declared.records.Shdr.{Shdr}
 use Rattle.elf_types.specs.declared.errors.ElfError.{ElfError}
 use Rattle.elf_types.specs.declared.errors.ElfError.TheVariants.{TooLarge}
-use Rattle.elf_ident.specs.Front.{zero_shdr}
-use Rattle.elf_object.specs.Object.{Object, Section, section_at}
-use Rattle.elf_object.specs.Open.{opened}
-use Rattle.elf_object.specs.Refusal.{refusal}
+use Rattle.hash_model.specs.elf_ident.Front.{zero_shdr}
+use Rattle.hash_model.specs.elf_object.Object.{Object, Section, section_at}
+use Rattle.hash_model.specs.elf_object.Open.{opened}
+use Rattle.hash_model.specs.elf_object.Refusal.{refusal}
 use Rattle.elf_types.specs.Lists.{AreBytes}
-use Rattle.elf_object.specs.Sections.{is_allocated, is_program, header_at, is_among, in_turn}
-use Rattle.elf_object.specs.Strings.{section_name, or_empty_name}
+use Rattle.hash_model.specs.elf_object.Sections.{is_allocated, is_program, header_at, is_among, in_turn}
+use Rattle.hash_model.specs.elf_object.Strings.{section_name, or_empty_name}
 use Rattle.command_objects.specs.Removed.{removed_sections, removed_by_name}
 use Rattle.command_objects.specs.Arranged.{Rebuilt}
 use Rattle.command_objects.specs.Rebuilt.{rebuilt, renews_names}

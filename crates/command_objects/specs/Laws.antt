@@ -8,17 +8,17 @@ use Rattle.elf_types.specs.declared.records.Phdr.{Phdr}
 use Rattle.elf_types.specs.declared.records.Sym.{Sym}
 use Rattle.elf_types.specs.declared.errors.ElfError.{ElfError}
 use Rattle.elf_types.specs.declared.constants.TheConstants.{PT_LOAD, SHT_NULL, SHT_REL, SHT_RELA}
-use Rattle.elf_xlate.specs.Fields.{Field, field, place_in}
-use Rattle.elf_xlate.specs.Headers.{ehdr_size, shdr_size}
-use Rattle.elf_ident.specs.declared.fronts.Front.{Front}
-use Rattle.elf_ident.specs.Front.{front, needs_first}
-use Rattle.elf_object.specs.Object.{Object}
-use Rattle.elf_object.specs.Open.{begun, opened, standing_header}
-use Rattle.elf_object.specs.Answers.{items_at, syms_of, rels_of, relas_of}
-use Rattle.elf_object.specs.Derived.{where_any}
+use Rattle.hash_model.specs.elf_xlate.Fields.{Field, field, place_in}
+use Rattle.hash_model.specs.elf_xlate.Headers.{ehdr_size, shdr_size}
+use Rattle.hash_model.specs.elf_ident.declared.fronts.Front.{Front}
+use Rattle.hash_model.specs.elf_ident.Front.{front, needs_first}
+use Rattle.hash_model.specs.elf_object.Object.{Object}
+use Rattle.hash_model.specs.elf_object.Open.{begun, opened, standing_header}
+use Rattle.hash_model.specs.elf_object.Answers.{items_at, syms_of, rels_of, relas_of}
+use Rattle.hash_model.specs.elf_object.Derived.{where_any}
 use Rattle.elf_types.specs.Lists.{AreBytes}
-use Rattle.elf_object.specs.Valid.{IsObject}
-use Rattle.elf_object.specs.Sections.{header_at}
+use Rattle.hash_model.specs.elf_object.Valid.{IsObject}
+use Rattle.hash_model.specs.elf_object.Sections.{header_at}
 use Rattle.command_objects.specs.Arranged.{Rebuilt}
 use Rattle.command_objects.specs.Rebuilt.{rebuilt, stripped}
 use Rattle.command_objects.specs.Copied.{Changes, copied}

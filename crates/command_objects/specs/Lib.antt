@@ -1,3 +1,9 @@
+pub use Rattle.hash_model.specs.elf_ident
+pub use Rattle.hash_model.specs.elf_layout
+pub use Rattle.hash_model.specs.elf_object
+pub use Rattle.hash_model.specs.elf_outside
+pub use Rattle.hash_model.specs.elf_xlate
+pub use Rattle.hash_model.specs as hash_model
 pub mod Removed
 pub mod Followed
 pub mod Arranged
@@ -12,3 +18,4 @@ pub mod Programs
 pub mod Executable
 pub mod Laws
 pub mod KeepingLaws
+pub mod Passed

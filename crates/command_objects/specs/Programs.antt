@@ -9,13 +9,13 @@ use Rattle.elf_types.specs.declared.records.Sym.{Sym}
 use Rattle.elf_types.specs.declared.records.Rela.{Rela}
 use Rattle.elf_types.specs.declared.errors.ElfError.{ElfError}
 use Rattle.elf_types.specs.declared.constants.TheConstants.{SHT_PROGBITS, SHT_SYMTAB, SHT_STRTAB, SHT_RELA, SHT_HASH, SHT_NOBITS, SHT_DYNSYM, SHT_GROUP, SHT_SYMTAB_SHNDX, SHT_GNU_HASH, SHT_GNU_VERSYM, SHF_ALLOC, PT_LOAD}
-use Rattle.elf_xlate.specs.declared.content.Items.{Items}
-use Rattle.elf_xlate.specs.declared.content.Items.TheVariants as items
-use Rattle.elf_ident.specs.Front.{zero_shdr}
-use Rattle.strtab_build.specs.Table.{table, place_of}
-use Rattle.elf_object.specs.Object.{Object, Section, new_section, no_phdr}
-use Rattle.elf_object.specs.Open.{created, new_ehdr}
-use Rattle.elf_object.specs.Samples.{object_in, hex, symbols32}
+use Rattle.hash_model.specs.elf_xlate.declared.content.Items.{Items}
+use Rattle.hash_model.specs.elf_xlate.declared.content.Items.TheVariants as items
+use Rattle.hash_model.specs.elf_ident.Front.{zero_shdr}
+use Rattle.hash_model.specs.strtab_build.Table.{table, place_of}
+use Rattle.hash_model.specs.elf_object.Object.{Object, Section, new_section, no_phdr}
+use Rattle.hash_model.specs.elf_object.Open.{created, new_ehdr}
+use Rattle.hash_model.specs.elf_object.Samples.{object_in, hex, symbols32}
 use Rattle.command_objects.specs.Arranged.{Rebuilt}
 use Rattle.command_objects.specs.Rebuilt.{made_section, assembled, stripped}
 use Rattle.command_objects.specs.Copied.{Changes, copied}
@@ -26,7 +26,7 @@ use Rattle.command_objects.specs.Rehashed.{rehashed, smallest_shape}
 use Rattle.hash_model.specs.Listed.{listed_names}
 use Rattle.hash_model.specs.HashSections.{is_whole_sysv, is_whole_gnu}
 use Rattle.hash_model.specs.BuiltHashes.{GnuShape, build_sysv_answer, build_gnu_answer}
-use Rattle.elf_object.specs.Answers.{items_at, words_of, bytes_of}
+use Rattle.hash_model.specs.elf_object.Answers.{items_at, words_of, bytes_of}
 use Rattle.command_objects.specs.Files.{file_of, file_made}
 use Rattle.command_objects.specs.Generated.{zero_sym}
 use Rattle.command_objects.specs.Samples.{bytes_or_none, made_or_none, no_changes}

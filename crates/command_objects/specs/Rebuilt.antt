@@ -6,15 +6,15 @@ use Rattle.elf_types.specs.declared.records.Shdr.{Shdr}
 use Rattle.elf_types.specs.declared.errors.ElfError.{ElfError}
 use Rattle.elf_types.specs.declared.errors.ElfError.TheVariants.{TooLarge}
 use Rattle.elf_types.specs.declared.constants.TheConstants.{SHT_STRTAB}
-use Rattle.elf_xlate.specs.declared.content.Items.{Items}
-use Rattle.elf_xlate.specs.declared.content.Items.TheVariants as items
-use Rattle.strtab_build.specs.Table.{table, place_of}
-use Rattle.elf_object.specs.Object.{Object, Section, section_at, new_section, no_home, occupies_file}
-use Rattle.elf_object.specs.Answers.{items_at, words_of, raw_refusal, data_refusal}
-use Rattle.elf_object.specs.Steps.{with_ehdr, with_phdrs, with_sections, own_piece}
-use Rattle.elf_object.specs.Calls.{newphdr_refusal, update_ehdr_refusal}
-use Rattle.elf_object.specs.Strings.{section_name, or_empty_name}
-use Rattle.elf_object.specs.Sections.{is_allocated, header_at, is_among}
+use Rattle.hash_model.specs.elf_xlate.declared.content.Items.{Items}
+use Rattle.hash_model.specs.elf_xlate.declared.content.Items.TheVariants as items
+use Rattle.hash_model.specs.strtab_build.Table.{table, place_of}
+use Rattle.hash_model.specs.elf_object.Object.{Object, Section, section_at, new_section, no_home, occupies_file}
+use Rattle.hash_model.specs.elf_object.Answers.{items_at, words_of, raw_refusal, data_refusal}
+use Rattle.hash_model.specs.elf_object.Steps.{with_ehdr, with_phdrs, with_sections, own_piece}
+use Rattle.hash_model.specs.elf_object.Calls.{newphdr_refusal, update_ehdr_refusal}
+use Rattle.hash_model.specs.elf_object.Strings.{section_name, or_empty_name}
+use Rattle.hash_model.specs.elf_object.Sections.{is_allocated, header_at, is_among}
 use Rattle.command_objects.specs.Removed.{removed_sections, linking_to}
 use Rattle.command_objects.specs.Followed.{renumbering, kept_sections, kept_from_1, followed, followed_header, followed_group, followed_syms, followed_words, symbols_follow, members_follow, indexes_follow, words_for, syms_in}
 use Rattle.command_objects.specs.Arranged.{Rebuilt, tail_of, over_base, arranged}

@@ -8,12 +8,12 @@ use Rattle.elf_types.specs.declared.records.Order.{Order}
 use Rattle.elf_types.specs.declared.records.Kind.TheVariants as kinds
 use Rattle.elf_types.specs.declared.errors.ElfError.{ElfError}
 use Rattle.elf_types.specs.declared.constants.TheConstants.{SHT_DYNSYM, SHT_HASH, SHT_GNU_HASH}
-use Rattle.elf_xlate.specs.declared.content.Items.TheVariants as items
-use Rattle.elf_object.specs.Object.{Object}
-use Rattle.elf_object.specs.Answers.{bytes_of, words_of}
-use Rattle.elf_object.specs.Steps.{with_layout}
-use Rattle.elf_object.specs.Calls.{data_answer, replace}
-use Rattle.elf_object.specs.Sections.{is_of, is_program, edited}
+use Rattle.hash_model.specs.elf_xlate.declared.content.Items.TheVariants as items
+use Rattle.hash_model.specs.elf_object.Object.{Object}
+use Rattle.hash_model.specs.elf_object.Answers.{bytes_of, words_of}
+use Rattle.hash_model.specs.elf_object.Steps.{with_layout}
+use Rattle.hash_model.specs.elf_object.Calls.{data_answer, replace}
+use Rattle.hash_model.specs.elf_object.Sections.{is_of, is_program, edited}
 use Rattle.hash_model.specs.HashSections.{gnu_head}
 use Rattle.hash_model.specs.BuiltHashes.{GnuShape, gnu_order_answer, build_gnu_answer, build_sysv_answer}
 use Rattle.hash_model.specs.Reordered.{reordered, reorder_refusal}

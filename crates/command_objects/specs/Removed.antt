@@ -4,10 +4,10 @@ use Rattle.std.specs.Prelude.{ℕ, Bool, false, not, ◌==◌, ◌&&◌, ◌||�
 use Rattle.std.specs.List.{list_any, list_all, starts_with}
 use Rattle.std.specs.Str.{bytes_eq}
 use Rattle.elf_types.specs.declared.constants.TheConstants.{SHT_SYMTAB, SHT_STRTAB, SHT_GROUP, SHT_SYMTAB_SHNDX}
-use Rattle.elf_object.specs.Object.{Object}
-use Rattle.elf_object.specs.Layout.{section_numbers}
-use Rattle.elf_object.specs.Strings.{section_name, is_name}
-use Rattle.elf_object.specs.Sections.{is_allocated, is_relocations, header_at, is_among}
+use Rattle.hash_model.specs.elf_object.Object.{Object}
+use Rattle.hash_model.specs.elf_object.Layout.{section_numbers}
+use Rattle.hash_model.specs.elf_object.Strings.{section_name, is_name}
+use Rattle.hash_model.specs.elf_object.Sections.{is_allocated, is_relocations, header_at, is_among}
 
 -- the sections that may be removed
 unfoldable pub removable : Object → List ℕ

@@ -1,7 +1,7 @@
 -- Small images on which the definitions are computed, and forms of answers that the tests compare.
 use Rattle.std.specs.Prelude.{ℕ, List, [], ◌∷◌, ◌++◌, codes, false, Result, Ok, Err}
-use Rattle.elf_object.specs.Object.{Object}
-use Rattle.elf_object.specs.Samples.{small64, symbols32, symbols64, with_number, object_in, hex}
+use Rattle.hash_model.specs.elf_object.Object.{Object}
+use Rattle.hash_model.specs.elf_object.Samples.{small64, symbols32, symbols64, with_number, object_in, hex}
 use Rattle.command_objects.specs.Arranged.{Rebuilt}
 use Rattle.command_objects.specs.Files.{file_of, file_made}
 use Rattle.command_objects.specs.Rebuilt.{stripped}

@@ -14,14 +14,14 @@ use Rattle.elf_types.specs.declared.records.Phdr.{Phdr}
 use Rattle.elf_types.specs.declared.records.Shdr.{Shdr}
 use Rattle.elf_types.specs.declared.errors.ElfError.{ElfError}
 use Rattle.elf_types.specs.declared.constants.TheConstants.{SHT_NOBITS}
-use Rattle.elf_xlate.specs.declared.content.Items.TheVariants as items
-use Rattle.elf_object.specs.Object.{Object, Section, section_at, new_section, occupies_file}
-use Rattle.elf_object.specs.Open.{created}
-use Rattle.elf_object.specs.Answers.{raw_refusal}
-use Rattle.elf_object.specs.Layout.{section_numbers}
-use Rattle.elf_object.specs.Due.{all_sections}
-use Rattle.elf_object.specs.Calls.{newphdr_refusal}
-use Rattle.elf_object.specs.Sections.{is_allocated, header_at, first_of}
+use Rattle.hash_model.specs.elf_xlate.declared.content.Items.TheVariants as items
+use Rattle.hash_model.specs.elf_object.Object.{Object, Section, section_at, new_section, occupies_file}
+use Rattle.hash_model.specs.elf_object.Open.{created}
+use Rattle.hash_model.specs.elf_object.Answers.{raw_refusal}
+use Rattle.hash_model.specs.elf_object.Layout.{section_numbers}
+use Rattle.hash_model.specs.elf_object.Due.{all_sections}
+use Rattle.hash_model.specs.elf_object.Calls.{newphdr_refusal}
+use Rattle.hash_model.specs.elf_object.Sections.{is_allocated, header_at, first_of}
 use Rattle.command_objects.specs.Arranged.{Rebuilt, tail_of, over_base, arranged}
 use Rattle.command_objects.specs.Rebuilt.{made_section, assembled, index_refusal}
 

@@ -3,8 +3,8 @@
 #![tactic(auto, unfolding(crate::proofs::Computing::all_words))]
 
 ghost use Rattle.std.specs.Prelude.{◌≡◌, [], ◌∷◌, take, drop, length, codes, Ok, Err, None};
-ghost use Rattle.elf_object.specs.Object.{header_of, section_at};
-ghost use Rattle.elf_object.specs.Samples.{small64, header64, symbols64, object_in};
+ghost use Rattle.hash_model.specs.elf_object.Object.{header_of, section_at};
+ghost use Rattle.hash_model.specs.elf_object.Samples.{small64, header64, symbols64, object_in};
 ghost use Rattle.command_objects.specs.Files.{file_of};
 ghost use Rattle.command_objects.specs.Copied.{copied};
 ghost use Rattle.command_objects.specs.Copied.CopyFault.{NoSection, NoTable};

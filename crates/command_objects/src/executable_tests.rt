@@ -3,9 +3,9 @@
 #![tactic(auto, unfolding(crate::proofs::Computing::all_words))]
 
 ghost use Rattle.std.specs.Prelude.{◌≡◌, [], ◌∷◌, take, drop, length, map, false, Ok, None};
-ghost use Rattle.elf_object.specs.Object.{section_at};
-ghost use Rattle.elf_object.specs.Answers.{items_at};
-ghost use Rattle.elf_object.specs.Due.{all_sections};
+ghost use Rattle.hash_model.specs.elf_object.Object.{section_at};
+ghost use Rattle.hash_model.specs.elf_object.Answers.{items_at};
+ghost use Rattle.hash_model.specs.elf_object.Due.{all_sections};
 ghost use Rattle.command_objects.specs.Removed.{removed_sections};
 ghost use Rattle.command_objects.specs.Rebuilt.{stripped};
 ghost use Rattle.command_objects.specs.Split.{debug_half, debug_refusal, removed_allocated, unstripped};

@@ -3,11 +3,11 @@
 #![tactic(auto, unfolding(crate::proofs::Computing::all_words))]
 
 ghost use Rattle.std.specs.Prelude.{◌≡◌, [], ◌∷◌, map, codes, true, false, Ok, Err, Some, None};
-ghost use Rattle.elf_object.specs.Samples.{symbols32, symbols64, hex};
-ghost use Rattle.elf_object.specs.Answers.{items_at, bytes_of, halves_of, words_of, relas_of};
+ghost use Rattle.hash_model.specs.elf_object.Samples.{symbols32, symbols64, hex};
+ghost use Rattle.hash_model.specs.elf_object.Answers.{items_at, bytes_of, halves_of, words_of, relas_of};
 ghost use Rattle.elf_types.specs.declared.errors.ElfError.TheVariants.{Unsorted};
 ghost use Rattle.command_objects.specs.Programs.{a_shared_object, rehashed_again, small_shape, small_hash, two_buckets, two_buckets_hash, has_whole_sysv, has_whole_gnu, has_whole_gnu_32, words_32};
-ghost use Rattle.elf_object.specs.Due.{all_sections};
+ghost use Rattle.hash_model.specs.elf_object.Due.{all_sections};
 ghost use Rattle.hash_model.specs.HashSections.{is_whole_sysv};
 ghost use Rattle.hash_model.specs.Hashes.{elf_hash, gnu_hash};
 ghost use Rattle.hash_model.specs.Listed.{listed_names, find_linear_answer};

@@ -8,6 +8,7 @@ mod copy_tests;
 mod executable_tests;
 #[cfg(test)]
 mod hash_tests;
+pub mod prelude;
 #[cfg(test)]
 mod program_tests;
 #[cfg(test)]

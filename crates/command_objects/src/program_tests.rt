@@ -3,9 +3,9 @@
 #![tactic(auto, unfolding(crate::proofs::Computing::all_words))]
 
 ghost use Rattle.std.specs.Prelude.{◌≡◌, [], ◌∷◌, take, drop, length, map, codes, true, false, Ok, Err, None, Some};
-ghost use Rattle.elf_object.specs.Object.{header_of, section_at};
-ghost use Rattle.elf_object.specs.Answers.{items_at, words_of, syms_of};
-ghost use Rattle.elf_object.specs.Strings.{section_name};
+ghost use Rattle.hash_model.specs.elf_object.Object.{header_of, section_at};
+ghost use Rattle.hash_model.specs.elf_object.Answers.{items_at, words_of, syms_of};
+ghost use Rattle.hash_model.specs.elf_object.Strings.{section_name};
 ghost use Rattle.command_objects.specs.Removed.{removed_sections, removed_by_name};
 ghost use Rattle.command_objects.specs.Followed.{followed_word, followed_extended};
 ghost use Rattle.command_objects.specs.Copied.{copied};

@@ -4,10 +4,10 @@
 ghost use Rattle.std.specs.Prelude.{◌≡◌, [], ◌∷◌, take, drop, length, ◌^◌, codes, true, false, Ok, Err, Some, None};
 ghost use Rattle.elf_types.specs.Answers.{err_of};
 ghost use Rattle.elf_types.specs.declared.errors.ElfError.TheVariants.{OutOfFile, Ragged, NoSection, TooLarge};
-ghost use Rattle.elf_object.specs.Object.{header_of, section_at};
-ghost use Rattle.elf_object.specs.Calls.{step};
-ghost use Rattle.elf_object.specs.Runs.{set_shdr};
-ghost use Rattle.elf_object.specs.Samples.{small64, small32, symbols64, symbols32, missing, ragged, addralign_set};
+ghost use Rattle.hash_model.specs.elf_object.Object.{header_of, section_at};
+ghost use Rattle.hash_model.specs.elf_object.Calls.{step};
+ghost use Rattle.hash_model.specs.elf_object.Runs.{set_shdr};
+ghost use Rattle.hash_model.specs.elf_object.Samples.{small64, small32, symbols64, symbols32, missing, ragged, addralign_set};
 ghost use Rattle.command_objects.specs.Removed.{removed_sections};
 ghost use Rattle.command_objects.specs.Rebuilt.{rebuilt, stripped};
 ghost use Rattle.command_objects.specs.Files.{file_made};

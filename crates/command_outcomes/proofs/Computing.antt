@@ -2,14 +2,14 @@
 -- computation.
 use Rattle.std.specs.Prelude.{Bool, true}
 use Rattle.elf_types.specs.Text.{numbered, numbered_twice, kind_text, part_text, unfit_text, overlap_text, held_text, error_text}
-use Rattle.elf_ident.specs.FileKinds.{file_kind}
-use Rattle.tool_output.specs.Messages.{message}
-use Rattle.tool_output.specs.Names.{shown_name}
+use Rattle.command_objects.specs.elf_ident.FileKinds.{file_kind}
+use Rattle.object_output.specs.tool_output.Messages.{message}
+use Rattle.object_output.specs.tool_output.Names.{shown_name}
 use Rattle.command_objects.proofs.Computing.{all_words as objects_words}
-use Rattle.tool_output.specs.Marks.{said}
-use Rattle.tool_output.specs.Reports.{shown, refusal_report}
-use Rattle.tool_output.specs.Outcomes.{write_of}
-use Rattle.tool_output.specs.Made.{written_outcome}
+use Rattle.object_output.specs.tool_output.Marks.{said}
+use Rattle.object_output.specs.tool_output.Reports.{shown, refusal_report}
+use Rattle.object_output.specs.tool_output.Outcomes.{write_of}
+use Rattle.object_output.specs.tool_output.Made.{written_outcome}
 use Rattle.object_output.specs.Images.{object_by, file_object}
 use Rattle.command_outcomes.specs.Files.{bytes_named, object_named, bytes_of_each}
 use Rattle.command_outcomes.specs.Strip.{strip_alone, strip_split, strip_done, strip_outcome, unstrip_complaint, unstrip_done, unstrip_outcome}

@@ -6,19 +6,19 @@ use Rattle.std.specs.Option.{option_map}
 use Rattle.std.proofs.lemmas.Slice.Eq.{bytes_eq-Decides}
 use Rattle.std.proofs.lemmas.Bool.{true≢false}
 use Rattle.std.proofs.lemmas.List.{take_all}
-use Rattle.elf_outside.specs.Counts.{Rose}
-use Rattle.elf_outside.specs.Kept.{Names, kept, bytes_kept, closed}
-use Rattle.elf_outside.specs.MemFiles.{emptied, faults_after_open}
-use Rattle.elf_outside.specs.Writes.{Appends}
-use Rattle.elf_outside.specs.declared.file_sets.OpenFault.{OpenFault}
-use Rattle.elf_outside.specs.declared.file_sets.OpenFault.TheVariants.{Failed}
-use Rattle.elf_outside.specs.declared.memory.device.MemDevice.{MemDevice}
-use Rattle.elf_outside.specs.declared.memory.files.Kept.{Kept}
-use Rattle.elf_outside.specs.declared.memory.files.MemFiles.{MemFiles}
-use Rattle.tool_output.specs.declared.outputs.Side.{Side}
-use Rattle.tool_output.specs.Marks.{on}
-use Rattle.tool_output.specs.Outcomes.{FileWrite, write_of, MayHold}
-use Rattle.tool_output.specs.Made.{made_file}
+use Rattle.object_output.specs.elf_outside.Counts.{Rose}
+use Rattle.object_output.specs.elf_outside.Kept.{Names, kept, bytes_kept, closed}
+use Rattle.object_output.specs.elf_outside.MemFiles.{emptied, faults_after_open}
+use Rattle.object_output.specs.elf_outside.Writes.{Appends}
+use Rattle.object_output.specs.elf_outside.declared.file_sets.OpenFault.{OpenFault}
+use Rattle.object_output.specs.elf_outside.declared.file_sets.OpenFault.TheVariants.{Failed}
+use Rattle.object_output.specs.elf_outside.declared.memory.device.MemDevice.{MemDevice}
+use Rattle.object_output.specs.elf_outside.declared.memory.files.Kept.{Kept}
+use Rattle.object_output.specs.elf_outside.declared.memory.files.MemFiles.{MemFiles}
+use Rattle.object_output.specs.tool_output.declared.outputs.Side.{Side}
+use Rattle.object_output.specs.tool_output.Marks.{on}
+use Rattle.object_output.specs.tool_output.Outcomes.{FileWrite, write_of, MayHold}
+use Rattle.object_output.specs.tool_output.Made.{made_file}
 use Rattle.command_outcomes.specs.OpenedAgain.{SecondOpenFails, OpensAgain, StopsWhereUnread}
 
 module _ (old new : MemFiles) (out bytes : List ℕ) (answer : Result MemDevice OpenFault) (run : OpensAgain old new out bytes answer) where

@@ -2,15 +2,15 @@
 use Rattle.std.specs.Prelude.{ℕ, List, ◌++◌, map, Result, Ok, codes}
 use Rattle.elf_types.specs.Answers.{◌>>=◌}
 use Rattle.elf_types.specs.Text.{error_text}
-use Rattle.elf_outside.specs.Names.{Map}
+use Rattle.object_output.specs.elf_outside.Names.{Map}
 use Rattle.tool_text.specs.declared.commands.CopyChanges.{CopyChanges}
 use Rattle.command_objects.specs.Copied.{Changes, CopyFault, copied}
 use Rattle.command_objects.specs.Copied.CopyFault.{NoSection, NoBytes, Allocated, Fixed, NoTable, Strip}
 use Rattle.command_objects.specs.Rehashed.{RehashFault, rehashed}
 use Rattle.command_objects.specs.Rehashed.RehashFault.{NoDynamicHash, Refused}
 use Rattle.command_objects.specs.Files.{file_of}
-use Rattle.tool_output.specs.Outcomes.{Outcome}
-use Rattle.tool_output.specs.Made.{Done, Complaint, written_outcome, made, complaint, of_file}
+use Rattle.object_output.specs.tool_output.Outcomes.{Outcome}
+use Rattle.object_output.specs.tool_output.Made.{Done, Complaint, written_outcome, made, complaint, of_file}
 use Rattle.command_outcomes.specs.Files.{object_named, bytes_of_each}
 use Rattle.command_outcomes.specs.Strip.{or_complaint}
 

@@ -1,10 +1,10 @@
 -- The files that a command reads whole: each is there, or ends the command.
 use Rattle.std.specs.Prelude.{ℕ, List, [], ◌∷◌, Result, Ok, codes}
 use Rattle.elf_types.specs.Answers.{or_refused, ◌>>=◌}
-use Rattle.elf_object.specs.Object.{Object}
-use Rattle.elf_outside.specs.Names.{Map}
+use Rattle.command_objects.specs.elf_object.Object.{Object}
+use Rattle.object_output.specs.elf_outside.Names.{Map}
 use Rattle.tool_text.specs.declared.commands.NamedFile.{NamedFile}
-use Rattle.tool_output.specs.Made.{Complaint, complaint, of_file}
+use Rattle.object_output.specs.tool_output.Made.{Complaint, complaint, of_file}
 use Rattle.object_output.specs.Images.{file_object}
 
 unfoldable pub bytes_named : Map → List ℕ → Result (List ℕ) Complaint

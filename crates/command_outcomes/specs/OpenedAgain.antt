@@ -1,15 +1,15 @@
 -- The self test over files in memory: OUT is made, and is then opened again. Where that fails the
 -- run has shown nothing, and OUT holds its image.
 use Rattle.std.specs.Prelude.{◌≡◌, ℕ, List, [], ◌∷◌, Option, Some, Result, Ok, IsErrOf}
-use Rattle.elf_outside.specs.Counts.{Rose}
-use Rattle.elf_outside.specs.Kept.{bytes_kept}
-use Rattle.elf_outside.specs.MemFiles.{Creates, TakesBack, HandsOut}
-use Rattle.elf_outside.specs.declared.file_sets.OpenFault.{OpenFault}
-use Rattle.elf_outside.specs.declared.file_sets.OpenFault.TheVariants.{Failed}
-use Rattle.elf_outside.specs.declared.memory.device.MemDevice.{MemDevice}
-use Rattle.elf_outside.specs.declared.memory.files.MemFiles.{MemFiles}
-use Rattle.tool_output.specs.Outcomes.{Outcome, Delivers}
-use Rattle.tool_output.specs.Made.{made_file}
+use Rattle.object_output.specs.elf_outside.Counts.{Rose}
+use Rattle.object_output.specs.elf_outside.Kept.{bytes_kept}
+use Rattle.object_output.specs.elf_outside.MemFiles.{Creates, TakesBack, HandsOut}
+use Rattle.object_output.specs.elf_outside.declared.file_sets.OpenFault.{OpenFault}
+use Rattle.object_output.specs.elf_outside.declared.file_sets.OpenFault.TheVariants.{Failed}
+use Rattle.object_output.specs.elf_outside.declared.memory.device.MemDevice.{MemDevice}
+use Rattle.object_output.specs.elf_outside.declared.memory.files.MemFiles.{MemFiles}
+use Rattle.object_output.specs.tool_output.Outcomes.{Outcome, Delivers}
+use Rattle.object_output.specs.tool_output.Made.{made_file}
 
 -- no file was opened or made yet, and the second opening is to fail
 pub record SecondOpenFails (files : MemFiles) : Type 0 where

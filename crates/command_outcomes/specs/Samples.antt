@@ -1,13 +1,13 @@
 -- Files by their names, and options, on which the outcomes are computed.
 use Rattle.std.specs.Prelude.{ℕ, Bool, false, List, [], ◌∷◌, codes, map, length, if◌then◌else◌, Option, Some, None}
 use Rattle.std.specs.Str.{bytes_eq}
-use Rattle.elf_outside.specs.Names.{Map}
+use Rattle.object_output.specs.elf_outside.Names.{Map}
 use Rattle.tool_text.specs.declared.commands.StripOptions.{StripOptions}
 use Rattle.tool_text.specs.declared.commands.CopyChanges.{CopyChanges}
-use Rattle.elf_object.specs.Samples.{small64, header64, with_number}
-use Rattle.tool_output.specs.Marks.{Mark, said}
-use Rattle.tool_output.specs.Outcomes.{Outcome, FileWrite, write_of, held_after}
-use Rattle.tool_output.specs.declared.outputs.Side.TheVariants.{Error}
+use Rattle.command_objects.specs.elf_object.Samples.{small64, header64, with_number}
+use Rattle.object_output.specs.tool_output.Marks.{Mark, said}
+use Rattle.object_output.specs.tool_output.Outcomes.{Outcome, FileWrite, write_of, held_after}
+use Rattle.object_output.specs.tool_output.declared.outputs.Side.TheVariants.{Error}
 use Rattle.command_objects.specs.Executable.{executable64, stripped_executable64, debug_executable64}
 use Rattle.command_outcomes.specs.Strip.{strip_outcome}
 

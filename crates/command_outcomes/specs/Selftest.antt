@@ -1,11 +1,11 @@
 -- The self test: an image that is generated, written, opened again, and told of in five lines.
 use Rattle.std.specs.Prelude.{ℕ, List, [], ◌∷◌, Result, Ok, codes}
 use Rattle.elf_types.specs.Answers.{◌>>=◌}
-use Rattle.elf_object.specs.Open.{opened}
+use Rattle.command_objects.specs.elf_object.Open.{opened}
 use Rattle.command_objects.specs.Generated.{generated_and_shifted, told_lines}
 use Rattle.command_objects.specs.Files.{file_of}
-use Rattle.tool_output.specs.Outcomes.{Outcome}
-use Rattle.tool_output.specs.Made.{Done, Complaint, written_outcome, made_file, of_file}
+use Rattle.object_output.specs.tool_output.Outcomes.{Outcome}
+use Rattle.object_output.specs.tool_output.Made.{Done, Complaint, written_outcome, made_file, of_file}
 
 unfoldable pub selftest_done : List ℕ → ℕ → Result Done Complaint
 selftest_done out n =

@@ -3,16 +3,16 @@ use Rattle.std.specs.Prelude.{ℕ, List, [], ◌∷◌, Option, Some, None, Resu
 use Rattle.elf_types.specs.Answers.{answered, ◌>>=◌}
 use Rattle.elf_types.specs.Text.{error_text, numbered}
 use Rattle.std.specs.Option.{option_map}
-use Rattle.elf_outside.specs.Names.{Map}
+use Rattle.object_output.specs.elf_outside.Names.{Map}
 use Rattle.tool_text.specs.declared.commands.StripOptions.{StripOptions}
-use Rattle.elf_object.specs.Object.{Object}
+use Rattle.command_objects.specs.elf_object.Object.{Object}
 use Rattle.command_objects.specs.Removed.{removed_sections}
 use Rattle.command_objects.specs.Rebuilt.{rebuilt}
 use Rattle.command_objects.specs.Split.{debug_of, removed_allocated, unstripped, UnstripFault}
 use Rattle.command_objects.specs.Split.UnstripFault.{Elf, Debug, Mismatch}
 use Rattle.command_objects.specs.Files.{file_of}
-use Rattle.tool_output.specs.Outcomes.{Outcome}
-use Rattle.tool_output.specs.Made.{Done, Complaint, written_outcome, made, made_file, complaint, of_file}
+use Rattle.object_output.specs.tool_output.Outcomes.{Outcome}
+use Rattle.object_output.specs.tool_output.Made.{Done, Complaint, written_outcome, made, made_file, complaint, of_file}
 use Rattle.command_outcomes.specs.Files.{object_named}
 
 -- ---- strip

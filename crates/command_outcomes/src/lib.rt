@@ -3,5 +3,6 @@
 #![tactic(auto)]
 
 pub mod laws;
+pub mod prelude;
 #[cfg(test)]
 mod tests;

@@ -3,15 +3,15 @@
 #![tactic(auto, unfolding(crate::proofs::Computing::all_words))]
 
 ghost use Rattle.std.specs.Prelude.{◌≡◌, [], ◌∷◌, codes, true, false, None, Some, Result};
-ghost use Rattle.elf_outside.specs.declared.file_sets.OpenFault.{OpenFault};
-ghost use Rattle.elf_outside.specs.declared.memory.device.MemDevice.{MemDevice};
-ghost use Rattle.elf_outside.specs.declared.memory.files.MemFiles.{MemFiles};
-ghost use Rattle.elf_object.specs.Samples.{small64};
-ghost use Rattle.tool_output.specs.Marks.{said};
+ghost use Rattle.object_output.specs.elf_outside.declared.file_sets.OpenFault.{OpenFault};
+ghost use Rattle.object_output.specs.elf_outside.declared.memory.device.MemDevice.{MemDevice};
+ghost use Rattle.object_output.specs.elf_outside.declared.memory.files.MemFiles.{MemFiles};
+ghost use Rattle.command_objects.specs.elf_object.Samples.{small64};
+ghost use Rattle.object_output.specs.tool_output.Marks.{said};
 ghost use Rattle.command_objects.specs.Samples.{one_section64};
 ghost use Rattle.command_objects.specs.Executable.{stripped_executable64, debug_executable64, combined_executable64};
-ghost use Rattle.tool_output.specs.Made.{made_file};
-ghost use Rattle.tool_output.specs.declared.outputs.Side.TheVariants.{Out};
+ghost use Rattle.object_output.specs.tool_output.Made.{made_file};
+ghost use Rattle.object_output.specs.tool_output.declared.outputs.Side.TheVariants.{Out};
 ghost use Rattle.command_outcomes.specs.Strip.{strip_outcome, unstrip_outcome};
 ghost use Rattle.command_outcomes.specs.Copy.{copy_outcome, rehash_outcome};
 ghost use Rattle.command_outcomes.specs.Selftest.{selftest_outcome};

@@ -1,1 +1,3 @@
+pub use Rattle.command_objects.specs as command_objects
+pub use Rattle.command_objects.specs.elf_object
 pub mod Stated

@@ -13,9 +13,9 @@ use Rattle.elf_object.specs.Object.{Object, Section, header_of, occupies_file}
 use Rattle.elf_object.specs.Calls.{newscn_refusal}
 use Rattle.elf_object.specs.Steps.{with_null_section, own_piece}
 use Rattle.command_objects.specs.Copied.{added_header, with_added}
-use Rattle.strip_laws.proofs.MadeSections.{bytes_encoded}
+use Rattle.copy_laws.proofs.strip_laws.MadeSections.{bytes_encoded}
 use Rattle.strip_contents.specs.declared.arranged.Arranged.{Arranged}
-use Rattle.strip_stream.proofs.FrontLaws.{held_bytes_stay}
+use Rattle.strip_contents.proofs.strip_stream.FrontLaws.{held_bytes_stay}
 use Rattle.copy_changes.specs.declared.faults.CopyFault.{CopyFault}
 use Rattle.copy_changes.specs.declared.faults.CopyFault.TheVariants as faults
 use Rattle.copy_contents.specs.Rows.{IsRow, Origin, IsContents}

@@ -11,10 +11,10 @@ use Rattle.elf_object.specs.Steps.{with_ehdr, with_phdrs, stored_ehdr}
 use Rattle.elf_object.specs.Open.{created_over}
 use Rattle.command_objects.specs.Arranged.{Rebuilt, over_base, placed_from, tail_refusal, arranged}
 use Rattle.command_objects.specs.Rebuilt.{assembled, rebuilt, rebuilt_object, rebuilt_tail, rebuilt_index, rebuilt_sections}
-use Rattle.strip_laws.proofs.RebuiltLaws.{rebuilt_known}
-use Rattle.object_making.specs.Placing.{made_of}
-use Rattle.listed_layout.specs.declared.listed.Listed.{Listed}
-use Rattle.strip_rebuild.proofs.RebuildLaws.{tail_within}
+use Rattle.copy_laws.proofs.strip_laws.RebuiltLaws.{rebuilt_known}
+use Rattle.copy_edits.specs.object_making.Placing.{made_of}
+use Rattle.strip_contents.specs.listed_layout.declared.listed.Listed.{Listed}
+use Rattle.elf_copy.proofs.strip_rebuild.RebuildLaws.{tail_within}
 use Rattle.strip_contents.specs.declared.arranged.Arranged.{Arranged}
 use Rattle.strip_contents.specs.Plans.{IsRefusedTo, ArrangesTo, IsListable, ArrangedAnswers}
 use Rattle.strip_contents.proofs.GatherLaws.{placing_keeps, gathered_ranged}

@@ -28,20 +28,20 @@ use Rattle.elf_object.specs.Sections.{header_at, is_among, is_of, is_loose, is_a
 use Rattle.command_objects.specs.Followed.{kept_sections, kept_from_1, followed_header, symbols_follow, members_follow, indexes_follow, extended_table, has_indexes_of, is_the}
 use Rattle.command_objects.specs.Arranged.{Rebuilt, place_from, section_from, placed_from}
 use Rattle.command_objects.specs.Rebuilt.{rebuilt, made_section, kept_items, kept_names, rebuilt_items, rebuilt_header, rebuilt_section, rebuilt_sections, rebuilt_object, rebuilt_tail, renews_names}
-use Rattle.strip_laws.specs.Made.{FitsClass}
-use Rattle.strip_laws.proofs.ArrangedLaws.{arranged_keeps}
-use Rattle.strip_laws.proofs.FollowedLaws.{rebuilt_items_fit}
-use Rattle.strip_laws.proofs.KeptLaws.{IsInRange, range_within}
-use Rattle.strip_laws.proofs.MadeSections.{section_placed}
-use Rattle.strip_laws.proofs.RebuiltLaws.{rebuilt_known, rebuilt_is_object}
+use Rattle.copy_laws.specs.strip_laws.Made.{FitsClass}
+use Rattle.copy_laws.proofs.strip_laws.ArrangedLaws.{arranged_keeps}
+use Rattle.copy_laws.proofs.strip_laws.FollowedLaws.{rebuilt_items_fit}
+use Rattle.copy_laws.proofs.strip_laws.KeptLaws.{IsInRange, range_within}
+use Rattle.copy_laws.proofs.strip_laws.MadeSections.{section_placed}
+use Rattle.copy_laws.proofs.strip_laws.RebuiltLaws.{rebuilt_known, rebuilt_is_object}
 use Rattle.copy_laws.proofs.EachChange.{SamePieces}
 use Rattle.copy_laws.proofs.AllChanges.{places_leave}
 use Rattle.copy_laws.proofs.Reopened.{front_is}
-use Rattle.object_making.specs.Placing.{made_of}
-use Rattle.image_ranges.specs.declared.ranges.ByteRange.{ByteRange}
-use Rattle.image_ranges.specs.Ranges.{range_bytes, pieces_at}
-use Rattle.strip_rebuild.proofs.KeptLaws.{table_parts}
-use Rattle.strip_rebuild.proofs.NumberLaws.{kept_with_0}
+use Rattle.copy_edits.specs.object_making.Placing.{made_of}
+use Rattle.strip_contents.specs.image_ranges.declared.ranges.ByteRange.{ByteRange}
+use Rattle.strip_contents.specs.image_ranges.Ranges.{range_bytes, pieces_at}
+use Rattle.elf_copy.proofs.strip_rebuild.KeptLaws.{table_parts}
+use Rattle.elf_copy.proofs.strip_rebuild.NumberLaws.{kept_with_0}
 use Rattle.strip_contents.specs.declared.arranged.Arranged.{Arranged}
 use Rattle.strip_contents.proofs.GatherLaws.{placing_keeps}
 use Rattle.copy_contents.specs.Arranging.{IsGatheredBy}

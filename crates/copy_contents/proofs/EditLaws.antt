@@ -23,11 +23,11 @@ use Rattle.elf_object.specs.Valid.{IsObject}
 use Rattle.object_laws.proofs.KeepLaws.{replace_keeps, update_shdr_keeps}
 use Rattle.elf_object.specs.Sections.{header_at, edited}
 use Rattle.command_objects.specs.Copied.{or_strip}
-use Rattle.strip_laws.proofs.CopyLaws.{edited_keeps}
-use Rattle.strip_laws.proofs.MadeSections.{bytes_encoded}
-use Rattle.object_making.proofs.RefusedLaws.{alone, passes_first}
+use Rattle.copy_laws.proofs.strip_laws.CopyLaws.{edited_keeps}
+use Rattle.copy_laws.proofs.strip_laws.MadeSections.{bytes_encoded}
+use Rattle.copy_edits.proofs.object_making.RefusedLaws.{alone, passes_first}
 use Rattle.strip_contents.specs.declared.arranged.Arranged.{Arranged}
-use Rattle.strip_stream.proofs.FrontLaws.{held_bytes_stay}
+use Rattle.strip_contents.proofs.strip_stream.FrontLaws.{held_bytes_stay}
 use Rattle.copy_changes.specs.declared.faults.CopyFault.TheVariants as faults
 use Rattle.copy_edits.specs.Steps.{IsThere}
 use Rattle.copy_edits.proofs.EditLaws.{edit_done, keeps_own, keeps_header}

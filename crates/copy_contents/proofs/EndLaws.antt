@@ -14,16 +14,16 @@ use Rattle.object_laws.proofs.ImageLaws.{joined-none}
 use Rattle.object_laws.proofs.StandLaws.{file_bytes_when}
 use Rattle.elf_object.specs.Sections.{header_at}
 use Rattle.command_objects.specs.Arranged.{placed_from}
-use Rattle.strip_laws.proofs.ArrangedLaws.{placed_from_is}
-use Rattle.strip_laws.proofs.WritableLaws.{OwnFits, HasOwnPieces, HasContent, is_writable, placed_content}
+use Rattle.copy_laws.proofs.strip_laws.ArrangedLaws.{placed_from_is}
+use Rattle.copy_laws.proofs.strip_laws.WritableLaws.{OwnFits, HasOwnPieces, HasContent, is_writable, placed_content}
 use Rattle.copy_laws.proofs.Reopened.{piece_bytes_are}
-use Rattle.object_making.specs.Placing.{arranged_refusal}
-use Rattle.image_ranges.specs.declared.ranges.ByteRange.{ByteRange}
-use Rattle.image_ranges.specs.Ranges.{range_bytes, pieces_at}
+use Rattle.copy_edits.specs.object_making.Placing.{arranged_refusal}
+use Rattle.strip_contents.specs.image_ranges.declared.ranges.ByteRange.{ByteRange}
+use Rattle.strip_contents.specs.image_ranges.Ranges.{range_bytes, pieces_at}
 use Rattle.strip_contents.specs.declared.arranged.Arranged.{Arranged}
 use Rattle.strip_contents.specs.Contents.{kept_size}
 use Rattle.strip_contents.specs.Plans.{arranged_object, HasRanges, MayBeWritten}
-use Rattle.listed_layout.specs.Listing.{IsListed}
+use Rattle.strip_contents.specs.listed_layout.Listing.{IsListed}
 use Rattle.copy_contents.specs.Arranging.{IsGatheredBy}
 use Rattle.copy_contents.specs.Rows.{no_range, size_in, Origin, IsListedAs}
 use Rattle.copy_contents.proofs.NameLaws.{one_aligned}

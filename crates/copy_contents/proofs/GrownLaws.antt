@@ -25,8 +25,8 @@ use Rattle.elf_object.proofs.StepLaws.{section_count-with_section, section_at-wi
 use Rattle.object_laws.proofs.KeepLaws.{zero_shdr_is, newscn_keeps, update_shdr_keeps, newdata_keeps}
 use Rattle.elf_object.specs.Sections.{edited}
 use Rattle.command_objects.specs.Copied.{CopyFault as StatedFault, or_strip, added_header, with_added}
-use Rattle.strip_laws.proofs.CopyLaws.{edited_keeps}
-use Rattle.object_making.proofs.RefusedLaws.{alone, passes_first}
+use Rattle.copy_laws.proofs.strip_laws.CopyLaws.{edited_keeps}
+use Rattle.copy_edits.proofs.object_making.RefusedLaws.{alone, passes_first}
 use Rattle.copy_edits.specs.Steps.{IsThere}
 use Rattle.copy_contents.proofs.RowLaws.{HasSameFrame}
 use Rattle.copy_contents.proofs.EditLaws.{here_none, free_none, bytes_fit}

@@ -16,17 +16,17 @@ use Rattle.elf_ident.specs.Front.{zero_shdr}
 use Rattle.elf_object.specs.Object.{Object, Section, section_at, occupies_file}
 use Rattle.elf_object.specs.Calls.{home_answer}
 use Rattle.elf_object.proofs.AnswerLaws.{home_value}
-use Rattle.elf_descriptor.specs.State.{State}
+use Rattle.copy_edits.specs.elf_descriptor.State.{State}
 use Rattle.object_laws.proofs.StandLaws.{section_at-past}
 use Rattle.elf_object.specs.Sections.{header_at}
 use Rattle.copy_laws.proofs.RenewedNames.{strings_fill}
-use Rattle.image_ranges.specs.declared.ranges.ByteRange.{ByteRange}
-use Rattle.image_ranges.specs.Ranges.{range_bytes}
-use Rattle.strip_rebuild.specs.Makes.{AsksFor}
-use Rattle.strip_rebuild.proofs.AskLaws.{asks_nothing, asks_more, asks_as}
+use Rattle.strip_contents.specs.image_ranges.declared.ranges.ByteRange.{ByteRange}
+use Rattle.strip_contents.specs.image_ranges.Ranges.{range_bytes}
+use Rattle.elf_copy.specs.strip_rebuild.Makes.{AsksFor}
+use Rattle.elf_copy.proofs.strip_rebuild.AskLaws.{asks_nothing, asks_more, asks_as}
 use Rattle.strip_contents.specs.declared.arranged.Arranged.{Arranged}
-use Rattle.strip_stream.specs.Fronts.{HoldsMore}
-use Rattle.strip_stream.proofs.FrontLaws.{held_bytes_stay}
+use Rattle.strip_contents.specs.strip_stream.Fronts.{HoldsMore}
+use Rattle.strip_contents.proofs.strip_stream.FrontLaws.{held_bytes_stay}
 use Rattle.copy_contents.specs.Rows.{no_range, header_in, size_in, range_in, IsRow, Origin, origin, IsListedAs, IsContents, has_strings}
 use Rattle.copy_contents.specs.Plans.{table_due, HoldsTable}
 use Rattle.copy_contents.proofs.PushLaws.{zero_type}

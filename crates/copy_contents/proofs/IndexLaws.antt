@@ -11,8 +11,8 @@ use Rattle.std.proofs.lemmas.Slice.Eq.{bytes_eq-Decides}
 use Rattle.elf_object.specs.Object.{Object}
 use Rattle.elf_object.specs.Strings.{section_name, is_name}
 use Rattle.command_objects.specs.Copied.{names_in, section_named}
-use Rattle.gelf_view.specs.Records.{string_front, shorter_than}
-use Rattle.gelf_view.proofs.EndedStrings.{front_short, short_name}
+use Rattle.copy_edits.specs.gelf_view.Records.{string_front, shorter_than}
+use Rattle.copy_edits.proofs.gelf_view.EndedStrings.{front_short, short_name}
 use Rattle.sought_names.specs.declared.sections.NameIndex.{NameIndex}
 use Rattle.sought_names.specs.Names.{is_sought, AreUpTo}
 use Rattle.sought_names.specs.Rows.{stands_under, IsFirst}

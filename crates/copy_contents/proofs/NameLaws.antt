@@ -24,7 +24,7 @@ use Rattle.elf_object.specs.Joined.{piece_bytes, aligned_pieces, section_end}
 use Rattle.elf_object.specs.Steps.{own_piece}
 use Rattle.elf_object.specs.Strings.{holds_strings, kind_of_piece, has_nul, bytes_from, readable, section_name, is_name}
 use Rattle.elf_object.proofs.StepLaws.{same_kind-same}
-use Rattle.gelf_view.specs.Records.{string_front}
+use Rattle.copy_edits.specs.gelf_view.Records.{string_front}
 use Rattle.copy_laws.proofs.RenewedNames.{strings_fill}
 use Rattle.strip_contents.specs.declared.arranged.Arranged.{Arranged}
 use Rattle.copy_changes.specs.declared.changes.NameBytes.{NameBytes}

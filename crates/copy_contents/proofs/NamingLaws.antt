@@ -7,8 +7,8 @@ use Rattle.std.proofs.lemmas.Bool.{eqb-false}
 use Rattle.elf_types.specs.declared.errors.ElfError.{ElfError}
 use Rattle.elf_object.specs.Object.{Object}
 use Rattle.elf_object.specs.Strings.{or_empty_name, has_nul}
-use Rattle.gelf_view.specs.Records.{string_front}
-use Rattle.strip_names.specs.Names.{IsAddedAt}
+use Rattle.copy_edits.specs.gelf_view.Records.{string_front}
+use Rattle.copy_names.specs.strip_names.Names.{IsAddedAt}
 use Rattle.strip_contents.specs.declared.arranged.Arranged.{Arranged}
 use Rattle.copy_changes.specs.declared.changes.Changes.{Changes}
 use Rattle.copy_changes.specs.declared.changes.NameBytes.{NameBytes}

@@ -17,7 +17,7 @@ use Rattle.elf_object.specs.Valid.{IsObject}
 use Rattle.object_laws.proofs.KeepLaws.{newnull_keeps}
 use Rattle.elf_object.specs.Sections.{header_at}
 use Rattle.command_objects.specs.Copied.{CopyFault as StatedFault, with_added}
-use Rattle.strip_laws.proofs.CopyLaws.{edited_keeps}
+use Rattle.copy_laws.proofs.strip_laws.CopyLaws.{edited_keeps}
 use Rattle.strip_contents.specs.declared.arranged.Arranged.{Arranged}
 use Rattle.copy_changes.specs.declared.faults.CopyFault.{CopyFault}
 use Rattle.copy_edits.specs.Steps.{IsAltered}

@@ -10,20 +10,20 @@ use Rattle.elf_object.specs.Object.{Object}
 use Rattle.elf_object.specs.Due.{homes_due}
 use Rattle.elf_object.specs.Valid.{IsObject}
 use Rattle.elf_object.specs.Words.{Wants, Answers}
-use Rattle.elf_descriptor.specs.State.{State}
-use Rattle.elf_descriptor.specs.Reads.{Queries}
+use Rattle.copy_edits.specs.elf_descriptor.State.{State}
+use Rattle.copy_edits.specs.elf_descriptor.Reads.{Queries}
 use Rattle.command_objects.specs.Arranged.{Rebuilt, arranged}
 use Rattle.command_objects.specs.Files.{file_of, file_made}
 use Rattle.command_objects.specs.Rebuilt.{rebuilt, renews_names}
 use Rattle.command_objects.specs.Removed.{removed_by_name}
 use Rattle.command_objects.specs.Copied.{Changes, CopyFault as StatedFault, or_strip, with_changes, copied}
-use Rattle.strip_laws.specs.Made.{FitsClass}
-use Rattle.object_making.specs.Placing.{made_of}
-use Rattle.strip_removed.specs.Calls as calls
-use Rattle.strip_removed.specs.Steps.{IsRemovable}
-use Rattle.strip_rebuild.specs.Makes.{AsksFor}
-use Rattle.strip_rebuild.proofs.AskLaws.{asks_reads, asks_as, asks_stop, asks_more, asks_nothing, asks_twice}
-use Rattle.strip_rebuild.proofs.NumberLaws.{zero_stays}
+use Rattle.copy_laws.specs.strip_laws.Made.{FitsClass}
+use Rattle.copy_edits.specs.object_making.Placing.{made_of}
+use Rattle.copy_edits.specs.strip_removed.Calls as calls
+use Rattle.copy_edits.specs.strip_removed.Steps.{IsRemovable}
+use Rattle.elf_copy.specs.strip_rebuild.Makes.{AsksFor}
+use Rattle.elf_copy.proofs.strip_rebuild.AskLaws.{asks_reads, asks_as, asks_stop, asks_more, asks_nothing, asks_twice}
+use Rattle.elf_copy.proofs.strip_rebuild.NumberLaws.{zero_stays}
 use Rattle.strip_contents.specs.declared.arranged.Arranged.{Arranged}
 use Rattle.strip_contents.specs.declared.plans.RangedPlan.{RangedPlan}
 use Rattle.strip_contents.specs.Plans.{arranged_object, IsArrangedAs, PlansCopied, ArrangedAnswers, ArrangesRebuilt, FileAnswers, stream_due}

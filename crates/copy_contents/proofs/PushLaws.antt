@@ -10,7 +10,7 @@ use Rattle.elf_ident.specs.Front.{zero_shdr}
 use Rattle.elf_object.specs.Object.{Object, header_of, section_at, occupies_file}
 use Rattle.elf_object.specs.Valid.{IsObject}
 use Rattle.elf_object.specs.Sections.{header_at}
-use Rattle.image_ranges.specs.declared.ranges.ByteRange.{ByteRange}
+use Rattle.strip_contents.specs.image_ranges.declared.ranges.ByteRange.{ByteRange}
 use Rattle.strip_contents.specs.declared.arranged.Arranged.{Arranged}
 use Rattle.copy_contents.specs.Rows.{no_range, header_in, size_in, range_in, IsRow, Origin, IsListedAs, IsContents}
 use Rattle.copy_contents.proofs.RowLaws.{row_as, class_as, HasSameFrame, frame_as}

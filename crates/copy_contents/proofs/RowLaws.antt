@@ -24,8 +24,8 @@ use Rattle.elf_object.specs.Valid.{IsObject}
 use Rattle.elf_object.proofs.StepLaws.{section_count-with_section, section_at-with_section, section_at-with_section_other}
 use Rattle.elf_object.specs.Sections.{header_at}
 use Rattle.copy_edits.specs.Steps.{IsThere}
-use Rattle.image_ranges.specs.declared.ranges.ByteRange.{ByteRange}
-use Rattle.image_ranges.specs.Ranges.{range_bytes}
+use Rattle.strip_contents.specs.image_ranges.declared.ranges.ByteRange.{ByteRange}
+use Rattle.strip_contents.specs.image_ranges.Ranges.{range_bytes}
 use Rattle.strip_contents.specs.declared.arranged.Arranged.{Arranged}
 use Rattle.copy_contents.specs.Rows.{no_range, header_in, size_in, range_in, IsRow, Origin, HasFrameOf, IsListedAs, IsContents}
 

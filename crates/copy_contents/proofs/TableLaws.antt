@@ -3,8 +3,8 @@ use Rattle.std.proofs.Common.{◌≡◌, ◌⊎◌, inl, inr, ◌+◌, ◌-◌, 
 use Rattle.std.specs.Prelude.{min, nat_lt, is_some, IfSome}
 use Rattle.std.proofs.lemmas.Bool.{cases_lt}
 use Rattle.std.proofs.lemmas.List.{length-take, length-drop, drop_all, drop-drop, drop-take, take_all, take-take}
-use Rattle.gelf_view.specs.Records.{string_front, shorter_than}
-use Rattle.gelf_view.proofs.EndedStrings.{front_short}
+use Rattle.copy_edits.specs.gelf_view.Records.{string_front, shorter_than}
+use Rattle.copy_edits.proofs.gelf_view.EndedStrings.{front_short}
 
 -- ---- So many of them and one more, or those that are there
 

@@ -4,7 +4,7 @@ use Rattle.std.specs.Prelude.{◌≡◌, ◌⊎◌, Some, Result, IfOk, IfErr}
 use Rattle.elf_types.specs.declared.errors.ElfError.{ElfError}
 use Rattle.elf_types.specs.declared.errors.ElfError.TheVariants.{Memory, TooLarge}
 use Rattle.elf_object.specs.Object.{Object}
-use Rattle.object_making.specs.Placing.{arranged_refusal}
+use Rattle.copy_edits.specs.object_making.Placing.{arranged_refusal}
 use Rattle.strip_contents.specs.declared.arranged.Arranged.{Arranged}
 use Rattle.strip_contents.specs.Plans.{IsGathered, IsArrangedAs, IsListable}
 

@@ -4,9 +4,9 @@ use Rattle.elf_types.specs.declared.records.Shdr.{Shdr}
 use Rattle.elf_types.specs.Lists.{AreBytes}
 use Rattle.elf_ident.specs.Front.{zero_shdr}
 use Rattle.elf_object.specs.Object.{occupies_file}
-use Rattle.image_ranges.specs.declared.ranges.ByteRange.{ByteRange}
+use Rattle.strip_contents.specs.image_ranges.declared.ranges.ByteRange.{ByteRange}
 use Rattle.strip_contents.specs.declared.arranged.Arranged.{Arranged}
-use Rattle.strip_stream.specs.Fronts.{HoldsMore}
+use Rattle.strip_contents.specs.strip_stream.Fronts.{HoldsMore}
 use Rattle.copy_contents.specs.Rows.{header_in}
 
 -- a section has other bytes, which were put behind those that are held

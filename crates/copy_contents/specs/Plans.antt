@@ -7,16 +7,16 @@ use Rattle.elf_outside.specs.Asks.{ReadRose}
 use Rattle.elf_outside.specs.declared.sources.Source.{Ghosts}
 use Rattle.elf_object.specs.Object.{Object, section_at}
 use Rattle.elf_object.specs.Due.{homes_due}
-use Rattle.elf_descriptor.specs.State.{State}
+use Rattle.copy_edits.specs.elf_descriptor.State.{State}
 use Rattle.command_objects.specs.Arranged.{Rebuilt, arranged}
 use Rattle.command_objects.specs.Files.{file_of, file_made}
 use Rattle.command_objects.specs.Rebuilt.{rebuilt, renews_names}
 use Rattle.command_objects.specs.Removed.{removed_by_name}
 use Rattle.command_objects.specs.Copied.{Changes, CopyFault as StatedFault, or_strip, with_changes, copied}
-use Rattle.object_making.specs.Placing.{made_of}
-use Rattle.strip_removed.specs.Calls.{names_home}
-use Rattle.strip_removed.specs.Steps.{IsRemovable}
-use Rattle.strip_rebuild.specs.Makes.{AsksFor}
+use Rattle.copy_edits.specs.object_making.Placing.{made_of}
+use Rattle.copy_edits.specs.strip_removed.Calls.{names_home}
+use Rattle.copy_edits.specs.strip_removed.Steps.{IsRemovable}
+use Rattle.elf_copy.specs.strip_rebuild.Makes.{AsksFor}
 use Rattle.strip_contents.specs.declared.arranged.Arranged.{Arranged}
 use Rattle.strip_contents.specs.declared.plans.RangedPlan.{RangedPlan}
 use Rattle.strip_contents.specs.Plans.{CopiesAs, FileAnswers, stream_due}

@@ -16,9 +16,9 @@ use Rattle.elf_object.specs.Steps.{own_piece}
 use Rattle.elf_object.specs.Strings.{section_name, or_empty_name}
 use Rattle.elf_object.specs.Valid.{IsObject}
 use Rattle.elf_object.specs.Sections.{header_at}
-use Rattle.gelf_view.specs.Records.{string_front}
-use Rattle.image_ranges.specs.declared.ranges.ByteRange.{ByteRange}
-use Rattle.image_ranges.specs.Ranges.{range_bytes}
+use Rattle.copy_edits.specs.gelf_view.Records.{string_front}
+use Rattle.strip_contents.specs.image_ranges.declared.ranges.ByteRange.{ByteRange}
+use Rattle.strip_contents.specs.image_ranges.Ranges.{range_bytes}
 use Rattle.strip_contents.specs.declared.arranged.Arranged.{Arranged}
 use Rattle.strip_contents.specs.Contents.{kept_size}
 

@@ -1,7 +1,7 @@
 -- Steps of copy on what was gathered of an object.
 use Rattle.std.specs.Prelude.{ℕ, Bool, true, false, [], Option, Some, None, Result, Err, OnOk}
 use Rattle.elf_object.specs.Object.{Object}
-use Rattle.elf_descriptor.specs.State.{State}
+use Rattle.copy_edits.specs.elf_descriptor.State.{State}
 use Rattle.command_objects.specs.Copied.{CopyFault as StatedFault}
 use Rattle.copy_changes.specs.declared.faults.CopyFault.{CopyFault}
 use Rattle.copy_changes.specs.Stated.{IsUnread}

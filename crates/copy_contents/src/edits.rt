@@ -3,14 +3,13 @@
 ghost use Rattle.std.specs.Prelude.{◌≡◌, ◌<◌, ◌^◌, length, slice_set, OnOk, IfOk, IfErr};
 ghost use Rattle.elf_types.specs.declared.errors.ElfError.TheVariants.{Memory};
 ghost use Rattle.elf_types.specs.Lists.{AreBytes};
-ghost use Rattle.strip_stream.specs.Fronts.{HoldsMore};
+ghost use Rattle.strip_contents.specs.strip_stream.Fronts.{HoldsMore};
 ghost use Rattle.copy_contents.specs.Edits.{HasBytes, IsPushedLast};
 
 use elf_types::{Addrs, ElfError, List, Shdr, Shdrs, bytes_are_ranged};
-use image_ranges::ByteRange;
 use shared_bytes::SharedBytes;
 use strip_contents::Arranged;
-use strip_stream::hold_shared;
+use strip_contents::prelude::{ByteRange, hold_shared};
 
 /// Holds bytes behind the others, and answers their range. It refuses `Memory` alone.
 pub(crate) fn hold_bytes(held: &mut SharedBytes, bytes: &[u8]) -> Result<ByteRange, ElfError>

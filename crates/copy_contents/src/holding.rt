@@ -9,12 +9,12 @@ ghost use Rattle.copy_contents.specs.Rows.{has_strings, range_in};
 use crate::edits::{hold_bytes, set_range};
 use crate::rows::range_of;
 use crate::tables::has_strings;
-use elf_descriptor::Elf;
+use copy_edits::prelude::Elf;
 use elf_outside::Source;
 use elf_types::{ElfError, Octets, ScnId};
-use image_ranges::ByteRange;
 use std::alloc::Global;
 use strip_contents::Arranged;
+use strip_contents::prelude::ByteRange;
 
 /// How long the home of the names is.
 fn names_len<S: Source>(elf: &Elf<S>) -> u64

@@ -5,7 +5,7 @@ ghost use Rattle.elf_types.specs.declared.errors.ElfError.TheVariants.{Memory};
 ghost use Rattle.elf_object.specs.Object.{Object};
 ghost use Rattle.elf_object.specs.Strings.{is_name};
 ghost use Rattle.command_objects.specs.Copied.{names_in};
-ghost use Rattle.gelf_view.specs.Records.{string_front};
+ghost use Rattle.copy_edits.specs.gelf_view.Records.{string_front};
 ghost use Rattle.sought_names.specs.Names.{is_sought, AreUpTo};
 ghost use Rattle.sought_names.specs.Rows.{stands_under};
 ghost use Rattle.copy_contents.specs.Rows.{Origin, IsContents, header_in, held_in};
@@ -14,12 +14,12 @@ ghost use Rattle.copy_contents.specs.Indexes.{IsIndexOf};
 use crate::rows::header_of;
 use crate::tables::{copy_front, table_of};
 use copy_changes::{Changes, NameBits, NameBytes};
+use copy_edits::prelude::string_in;
 use elf_types::ElfError;
-use gelf_view::string_in;
-use image_ranges::ByteRange;
 use sought_names::{NameIndex, NameSet};
 use std::alloc::Global;
 use strip_contents::Arranged;
+use strip_contents::prelude::ByteRange;
 
 // ---- Names that are looked for
 

@@ -5,8 +5,8 @@ ghost use Rattle.elf_types.specs.declared.errors.ElfError.TheVariants.{Memory};
 ghost use Rattle.elf_object.specs.Object.{Object};
 ghost use Rattle.elf_object.specs.Strings.{or_empty_name};
 ghost use Rattle.command_objects.specs.Copied.{changes_names};
-ghost use Rattle.strip_names.specs.Known.{known_at, NotesName, AreHeld};
-ghost use Rattle.strip_names.specs.Names.{IsAddedAt};
+ghost use Rattle.copy_names.specs.strip_names.Known.{known_at, NotesName, AreHeld};
+ghost use Rattle.copy_names.specs.strip_names.Names.{IsAddedAt};
 ghost use Rattle.copy_changes.specs.Stated.{HasPlainNames, stated_changes};
 ghost use Rattle.copy_edits.specs.Names.{name_now};
 ghost use Rattle.copy_names.specs.Texts.{all_texts, AddsTo};
@@ -16,17 +16,17 @@ ghost use Rattle.copy_contents.specs.Rows.{Origin, IsContents, HasNamesIn, held_
 use crate::rows::header_of;
 use crate::tables::{OldTable, copy_string, name_near, old_table};
 use copy_changes::Changes;
+use copy_edits::prelude::string_in;
 use copy_edits::{mark_of, new_name};
+use copy_names::prelude::push_place;
 use copy_names::{
     Making, Naming, begin_table, changes_names, finish_names, hold_names, place_added, place_found,
     place_text,
 };
 use elf_types::{ElfError, List};
-use gelf_view::string_in;
 use shared_strings::NOWHERE;
 use std::alloc::Global;
 use strip_contents::Arranged;
-use strip_names::push_place;
 
 /// Adds the name at a place of a table that is held to a table in the making, appends its place to
 /// the others, notes it under that place, and answers whether the table is not too large. The text

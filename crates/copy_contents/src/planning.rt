@@ -3,8 +3,8 @@
 ghost use Rattle.std.specs.Prelude.{◌≡◌, false, true, IsTrue};
 ghost use Rattle.elf_object.specs.Object.{is_dirty};
 ghost use Rattle.elf_object.specs.Valid.{IsTied};
-ghost use Rattle.strip_laws.specs.Made.{FitsClass};
-ghost use Rattle.strip_removed.specs.Steps.{IsRemovable};
+ghost use Rattle.copy_laws.specs.strip_laws.Made.{FitsClass};
+ghost use Rattle.copy_edits.specs.strip_removed.Steps.{IsRemovable};
 ghost use Rattle.copy_changes.specs.Stated.{HasPlainNames, stated_changes};
 ghost use Rattle.copy_contents.specs.Rows.{IsCountedAs};
 ghost use Rattle.copy_contents.specs.Plans.{PlansLast, PlansChanged, PlansHeld, StreamsWithout, StreamsCopied};
@@ -13,13 +13,12 @@ use crate::arranging::arrange_again;
 use crate::changing::make_changes;
 use crate::holding::hold_table;
 use copy_changes::{Changes, CopyFault};
-use elf_descriptor::Elf;
+use copy_edits::prelude::{Elf, SectionSet, removed_by_name};
+use copy_names::prelude::renews_names;
 use elf_outside::Source;
 use elf_types::ElfError;
 use std::alloc::Global;
 use strip_contents::{Arranged, RangedPlan, arrange_rebuilt, plan_arranged};
-use strip_kept::renews_names;
-use strip_removed::{SectionSet, removed_by_name};
 
 /// Gives what is not loaded its places, and plans the image.
 fn plan_last<S: Source>(alloc: Global, elf: &Elf<S>, x: Arranged) -> Result<RangedPlan, ElfError>

@@ -4,8 +4,8 @@ ghost use Rattle.std.specs.Prelude.{◌≡◌};
 ghost use Rattle.copy_contents.specs.Rows.{header_in, size_in, range_in};
 
 use elf_types::{NULL_SECTION, Shdr};
-use image_ranges::ByteRange;
 use strip_contents::Arranged;
+use strip_contents::prelude::ByteRange;
 
 /// The header of a section, and one of zeros where there is none.
 #[tactic(auto, unfolding(elf_ident::specs::Front::zero_shdr))]

@@ -2,16 +2,16 @@
 
 ghost use Rattle.std.specs.Prelude.{◌≡◌, ◌+◌, min, drop, take, true, is_some, IfOk, IfErr, IfSome};
 ghost use Rattle.elf_types.specs.declared.errors.ElfError.TheVariants.{Memory};
-ghost use Rattle.gelf_view.specs.Records.{string_front};
+ghost use Rattle.copy_edits.specs.gelf_view.Records.{string_front};
 ghost use Rattle.copy_contents.specs.Rows.{HasNamesIn, has_strings, held_in};
 
 use crate::rows::{header_of, range_of};
+use copy_edits::prelude::string_in;
 use elf_types::constants::SHT_STRTAB;
 use elf_types::{ElfError, Octets};
-use gelf_view::string_in;
-use image_ranges::ByteRange;
 use std::alloc::Global;
 use strip_contents::Arranged;
+use strip_contents::prelude::ByteRange;
 
 /// How many bytes of a name are copied at first, and one more.
 const FIRST: u64 = 63;

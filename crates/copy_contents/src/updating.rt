@@ -21,12 +21,12 @@ use crate::finding::find_named;
 use crate::indexing::{fill_index, index_names, seek_updated};
 use crate::rows::{header_of, size_of};
 use copy_changes::{CopyFault, NameBytes, fault_allocated, fault_no_bytes};
+use copy_edits::prelude::strip_removed_is_allocated as is_allocated;
 use elf_object::occupies_file;
 use elf_types::Octets;
 use sought_names::{NameIndex, NameSet};
 use std::alloc::Global;
 use strip_contents::Arranged;
-use strip_removed::is_allocated;
 
 /// Whether other bytes would give a section that is loaded another length.
 fn changes_length(x: &Arranged, s: u32, bytes: &Octets) -> bool

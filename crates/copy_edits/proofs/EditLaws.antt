@@ -9,19 +9,19 @@ use Rattle.elf_types.specs.Answers.{refused_if, answered, IsRefusal, ◌>>=◌}
 use Rattle.elf_xlate.specs.declared.content.Items.{Items}
 use Rattle.elf_xlate.specs.Headers.{shdr_fits}
 use Rattle.elf_xlate.specs.Translation.{first_unfit}
-use Rattle.elf_object.specs.Object.{Object, Section, new_section}
-use Rattle.elf_object.specs.Answers.{no_section, no_data, reserved, piece_count}
-use Rattle.elf_object.specs.Steps.{with_section, with_piece_at, with_own, with_shdr, with_new_section, with_new_piece, new_number}
-use Rattle.elf_object.specs.Words.{Edits, handing_back}
-use Rattle.elf_object.specs.Calls.{Call, update_shdr_refusal, replace_refusal, newscn_refusal, newdata_refusal, unfit_items}
-use Rattle.elf_object.specs.Calls as calls
-use Rattle.elf_object.proofs.AnswerLaws.{answered_value}
-use Rattle.elf_object.proofs.RefusalLaws.{Refuses, test_refuses, first_refuses}
-use Rattle.elf_object.proofs.StepLaws.{section_count-with_section}
-use Rattle.elf_descriptor.specs.State.{State}
-use Rattle.elf_descriptor.specs.Edits.{stepped, grown}
-use Rattle.elf_object.specs.Sections.{edited}
-use Rattle.command_objects.specs.Copied.{or_strip}
+use Rattle.copy_laws.specs.elf_object.Object.{Object, Section, new_section}
+use Rattle.copy_laws.specs.elf_object.Answers.{no_section, no_data, reserved, piece_count}
+use Rattle.copy_laws.specs.elf_object.Steps.{with_section, with_piece_at, with_own, with_shdr, with_new_section, with_new_piece, new_number}
+use Rattle.copy_laws.specs.elf_object.Words.{Edits, handing_back}
+use Rattle.copy_laws.specs.elf_object.Calls.{Call, update_shdr_refusal, replace_refusal, newscn_refusal, newdata_refusal, unfit_items}
+use Rattle.copy_laws.specs.elf_object.Calls as calls
+use Rattle.copy_laws.proofs.elf_object.AnswerLaws.{answered_value}
+use Rattle.copy_laws.proofs.elf_object.RefusalLaws.{Refuses, test_refuses, first_refuses}
+use Rattle.copy_laws.proofs.elf_object.StepLaws.{section_count-with_section}
+use Rattle.object_making.specs.elf_descriptor.State.{State}
+use Rattle.object_making.specs.elf_descriptor.Edits.{stepped, grown}
+use Rattle.copy_laws.specs.elf_object.Sections.{edited}
+use Rattle.copy_changes.specs.command_objects.Copied.{or_strip}
 use Rattle.object_making.specs.Refused.{RefusedBy}
 use Rattle.object_making.proofs.RefusedLaws.{answer_refused, edits_refused}
 use Rattle.object_making.proofs.AddLaws.{newscn_states, newdata_states}

@@ -10,14 +10,14 @@ use Rattle.elf_types.specs.declared.errors.ElfError.{ElfError}
 use Rattle.elf_types.specs.declared.errors.ElfError.TheVariants.{Memory, Read, Write}
 use Rattle.elf_outside.specs.Counts.{Rose}
 use Rattle.elf_outside.specs.declared.sources.Source.{Ghosts}
-use Rattle.elf_object.specs.Object.{Object}
-use Rattle.elf_object.specs.Layout.{section_numbers}
-use Rattle.elf_object.specs.Strings.{section_name, is_name}
-use Rattle.elf_object.specs.Words.{Wants, Answers}
-use Rattle.elf_descriptor.specs.State.{State}
-use Rattle.elf_descriptor.specs.Reads.{Queries, wanted}
-use Rattle.gelf_view.specs.SectionNames as names
-use Rattle.command_objects.specs.Copied.{names_in, section_named, CopyFault as StatedFault}
+use Rattle.copy_laws.specs.elf_object.Object.{Object}
+use Rattle.copy_laws.specs.elf_object.Layout.{section_numbers}
+use Rattle.copy_laws.specs.elf_object.Strings.{section_name, is_name}
+use Rattle.copy_laws.specs.elf_object.Words.{Wants, Answers}
+use Rattle.object_making.specs.elf_descriptor.State.{State}
+use Rattle.object_making.specs.elf_descriptor.Reads.{Queries, wanted}
+use Rattle.strip_removed.specs.gelf_view.SectionNames as names
+use Rattle.copy_changes.specs.command_objects.Copied.{names_in, section_named, CopyFault as StatedFault}
 use Rattle.strip_removed.specs.Calls.{ReadsNames}
 use Rattle.strip_removed.proofs.NameLaws.{ok_is, name_ends, name_value, name_end}
 use Rattle.copy_changes.specs.declared.changes.NameBytes.{NameBytes}

@@ -11,16 +11,16 @@ use Rattle.elf_types.specs.declared.errors.ElfError.{ElfError}
 use Rattle.elf_types.specs.declared.errors.ElfError.TheVariants.{NoSection, NotStrings, OutOfFile, NoString, Unended}
 use Rattle.elf_types.specs.Answers.{refused_if, first_refusal, answered}
 use Rattle.strtab_build.specs.Table.{string_at}
-use Rattle.elf_object.specs.Blocks.{Block, block_covers, stacked}
-use Rattle.elf_object.specs.Object.{Object, Section, section_at, absent_section, home_is_clean}
-use Rattle.elf_object.specs.Joined.{aligned_pieces, piece_blocks, pieces_end, section_end}
-use Rattle.elf_object.specs.Steps.{with_section, with_shdr}
-use Rattle.elf_object.specs.Strings.{holds_strings, has_nul, bytes_from, readable, string_answer, string_refusal, string_refusal_unread, piece_over, section_name}
-use Rattle.elf_object.proofs.StepLaws.{section_count-with_section, section_at-with_shdr, section_at-with_shdr_other}
-use Rattle.elf_descriptor.specs.State.{State}
-use Rattle.elf_object.specs.Sections.{is_allocated, is_program, header_at, in_turn}
-use Rattle.command_objects.specs.Copied.{differ, with_bits, flags_fault, with_section_flags}
-use Rattle.command_objects.specs.Copied.CopyFault.{Fixed}
+use Rattle.copy_laws.specs.elf_object.Blocks.{Block, block_covers, stacked}
+use Rattle.copy_laws.specs.elf_object.Object.{Object, Section, section_at, absent_section, home_is_clean}
+use Rattle.copy_laws.specs.elf_object.Joined.{aligned_pieces, piece_blocks, pieces_end, section_end}
+use Rattle.copy_laws.specs.elf_object.Steps.{with_section, with_shdr}
+use Rattle.copy_laws.specs.elf_object.Strings.{holds_strings, has_nul, bytes_from, readable, string_answer, string_refusal, string_refusal_unread, piece_over, section_name}
+use Rattle.copy_laws.proofs.elf_object.StepLaws.{section_count-with_section, section_at-with_shdr, section_at-with_shdr_other}
+use Rattle.object_making.specs.elf_descriptor.State.{State}
+use Rattle.copy_laws.specs.elf_object.Sections.{is_allocated, is_program, header_at, in_turn}
+use Rattle.copy_changes.specs.command_objects.Copied.{differ, with_bits, flags_fault, with_section_flags}
+use Rattle.copy_changes.specs.command_objects.Copied.CopyFault.{Fixed}
 use Rattle.copy_laws.proofs.EachChange.{flagged_known}
 use Rattle.copy_changes.specs.declared.changes.NameBytes.{NameBytes}
 use Rattle.copy_changes.specs.declared.changes.NameBits.{NameBits}

@@ -10,11 +10,11 @@ use Rattle.std.proofs.lemmas.Option.{unwrap_or-slice_get, slice_get_read}
 use Rattle.elf_types.specs.declared.errors.ElfError.{ElfError}
 use Rattle.elf_types.specs.declared.errors.ElfError.TheVariants.{Memory}
 use Rattle.elf_types.specs.Answers.{FollowsBy, ◌>>=◌}
-use Rattle.elf_object.specs.Object.{Object}
-use Rattle.elf_object.specs.Strings.{section_name}
-use Rattle.elf_descriptor.specs.State.{State}
-use Rattle.elf_object.specs.Sections.{in_turn}
-use Rattle.command_objects.specs.Copied.{names_in, section_named, with_name, CopyFault as StatedFault}
+use Rattle.copy_laws.specs.elf_object.Object.{Object}
+use Rattle.copy_laws.specs.elf_object.Strings.{section_name}
+use Rattle.object_making.specs.elf_descriptor.State.{State}
+use Rattle.copy_laws.specs.elf_object.Sections.{in_turn}
+use Rattle.copy_changes.specs.command_objects.Copied.{names_in, section_named, with_name, CopyFault as StatedFault}
 use Rattle.copy_changes.specs.declared.changes.NameBytes.{NameBytes}
 use Rattle.copy_changes.specs.declared.faults.CopyFault.{CopyFault}
 use Rattle.copy_changes.specs.declared.faults.CopyFault.TheVariants as faults

@@ -4,9 +4,9 @@ use Rattle.std.specs.Prelude.{IsTrue, IfSome}
 use Rattle.elf_types.specs.declared.errors.ElfError.{ElfError}
 use Rattle.elf_types.specs.declared.errors.ElfError.TheVariants.{Memory}
 use Rattle.elf_types.specs.Answers.{answered, ◌>>=◌}
-use Rattle.elf_object.specs.Object.{Object}
-use Rattle.elf_descriptor.specs.State.{State}
-use Rattle.command_objects.specs.Copied.{CopyFault as StatedFault}
+use Rattle.copy_laws.specs.elf_object.Object.{Object}
+use Rattle.object_making.specs.elf_descriptor.State.{State}
+use Rattle.copy_changes.specs.command_objects.Copied.{CopyFault as StatedFault}
 use Rattle.copy_changes.specs.declared.faults.CopyFault.{CopyFault}
 use Rattle.copy_changes.specs.declared.faults.CopyFault.TheVariants as faults
 use Rattle.copy_changes.specs.Stated.{stated_fault, IsUnread}

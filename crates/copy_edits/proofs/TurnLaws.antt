@@ -3,10 +3,10 @@ use Rattle.std.proofs.Common.{◌≡◌, ℕ, ◌+◌, ◌<◌, ◌≤◌, List,
 use Rattle.std.specs.Prelude.{IsTrue}
 use Rattle.std.proofs.lemmas.List.{at_drop_more, at_drop_all}
 use Rattle.elf_types.specs.Answers.{◌>>=◌}
-use Rattle.elf_object.specs.Object.{Object}
-use Rattle.elf_descriptor.specs.State.{State}
-use Rattle.elf_object.specs.Sections.{in_turn}
-use Rattle.command_objects.specs.Copied.{CopyFault as StatedFault}
+use Rattle.copy_laws.specs.elf_object.Object.{Object}
+use Rattle.object_making.specs.elf_descriptor.State.{State}
+use Rattle.copy_laws.specs.elf_object.Sections.{in_turn}
+use Rattle.copy_changes.specs.command_objects.Copied.{CopyFault as StatedFault}
 use Rattle.copy_changes.specs.declared.faults.CopyFault.{CopyFault}
 use Rattle.copy_changes.specs.Stated.{stated_fault}
 use Rattle.copy_edits.specs.Steps.{KeepsIndex, Alters}

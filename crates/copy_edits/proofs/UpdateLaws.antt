@@ -3,11 +3,11 @@ use Rattle.std.proofs.Common.{◌≡◌, ◌==◌, ◌&&◌, ◌-◌, ◌^◌, �
 use Rattle.std.specs.Prelude.{min}
 use Rattle.std.proofs.lemmas.Bool.{cases_lt, ne_eqb}
 use Rattle.elf_types.specs.Answers.{refused_if, first_refusal}
-use Rattle.elf_object.specs.Object.{Object, occupies_file}
-use Rattle.elf_object.specs.Joined.{pieces_end}
-use Rattle.elf_object.specs.Sections.{is_allocated, is_program, header_at}
-use Rattle.command_objects.specs.Copied.{update_fault}
-use Rattle.command_objects.specs.Copied.CopyFault.{NoBytes, Allocated}
+use Rattle.copy_laws.specs.elf_object.Object.{Object, occupies_file}
+use Rattle.copy_laws.specs.elf_object.Joined.{pieces_end}
+use Rattle.copy_laws.specs.elf_object.Sections.{is_allocated, is_program, header_at}
+use Rattle.copy_changes.specs.command_objects.Copied.{update_fault}
+use Rattle.copy_changes.specs.command_objects.Copied.CopyFault.{NoBytes, Allocated}
 use Rattle.copy_changes.specs.declared.faults.CopyFault.{CopyFault}
 use Rattle.copy_changes.specs.Stated.{IsFault}
 use Rattle.copy_edits.specs.Steps.{IsFaultIf}

@@ -3,11 +3,11 @@ use Rattle.std.specs.Prelude.{ℕ, List, Result}
 use Rattle.elf_types.specs.Answers.{answered, ◌>>=◌}
 use Rattle.elf_xlate.specs.declared.content.Items.{Items}
 use Rattle.elf_xlate.specs.declared.content.Items.TheVariants as items
-use Rattle.elf_object.specs.Object.{Object}
-use Rattle.elf_object.specs.Steps.{new_number}
-use Rattle.elf_object.specs.Calls.{newscn, newdata, replace, update_shdr}
-use Rattle.elf_object.specs.Sections.{header_at, edited}
-use Rattle.command_objects.specs.Copied.{CopyFault, or_strip, update_fault, flags_fault, with_bits, added_header}
+use Rattle.copy_laws.specs.elf_object.Object.{Object}
+use Rattle.copy_laws.specs.elf_object.Steps.{new_number}
+use Rattle.copy_laws.specs.elf_object.Calls.{newscn, newdata, replace, update_shdr}
+use Rattle.copy_laws.specs.elf_object.Sections.{header_at, edited}
+use Rattle.copy_changes.specs.command_objects.Copied.{CopyFault, or_strip, update_fault, flags_fault, with_bits, added_header}
 
 -- a section with other bytes
 abbrev pub updated_at : Object → ℕ → List ℕ → List ℕ → Result Object CopyFault

@@ -2,9 +2,9 @@
 -- section has a mark: 0, or one more than the index of the change that names it last.
 use Rattle.std.specs.Prelude.{ℕ, ◌-◌, ◌==◌, List, ◌∷◌, map, slice_get, unwrap_or, Option, Some, None, if◌then◌else◌}
 use Rattle.std.specs.Option.{option_map}
-use Rattle.elf_object.specs.Object.{Object}
-use Rattle.elf_object.specs.Layout.{section_numbers}
-use Rattle.elf_object.specs.Strings.{section_name}
+use Rattle.copy_laws.specs.elf_object.Object.{Object}
+use Rattle.copy_laws.specs.elf_object.Layout.{section_numbers}
+use Rattle.copy_laws.specs.elf_object.Strings.{section_name}
 use Rattle.copy_changes.specs.declared.changes.NameBytes.{NameBytes}
 
 -- the mark of a section; where there is none it is 0

@@ -1,9 +1,9 @@
 -- What a step of copy finds in an object that was made anew, and what it changes.
 use Rattle.std.specs.Prelude.{◌≡◌, ◌≤◌, ◌<◌, ℕ, List, length, Option, Some, None, IsTrue, IfSome, Result, Ok, Err}
 use Rattle.elf_types.specs.Answers.{FollowsBy}
-use Rattle.elf_object.specs.Object.{Object}
-use Rattle.elf_descriptor.specs.State.{State}
-use Rattle.command_objects.specs.Copied.{CopyFault as StatedFault}
+use Rattle.copy_laws.specs.elf_object.Object.{Object}
+use Rattle.object_making.specs.elf_descriptor.State.{State}
+use Rattle.copy_changes.specs.command_objects.Copied.{CopyFault as StatedFault}
 use Rattle.copy_changes.specs.declared.faults.CopyFault.{CopyFault}
 use Rattle.copy_changes.specs.Stated.{stated_fault, IsFault, IsUnread}
 

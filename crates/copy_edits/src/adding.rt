@@ -1,25 +1,25 @@
 //! Sections are added.
 
 ghost use Rattle.std.specs.Prelude.{◌≡◌, map};
-ghost use Rattle.elf_object.specs.Sections.{in_turn};
-ghost use Rattle.command_objects.specs.Copied.{added_header, with_added};
+ghost use Rattle.copy_laws.specs.elf_object.Sections.{in_turn};
+ghost use Rattle.copy_changes.specs.command_objects.Copied.{added_header, with_added};
 ghost use Rattle.copy_changes.specs.Stated.{bytes_pair};
 ghost use Rattle.copy_edits.specs.Edits.{filled_at, with_filled};
 ghost use Rattle.copy_edits.specs.Steps.{Alters};
 
 use crate::edits::{add_bare, add_items, put_header, refuse};
 use copy_changes::{CopyFault, NameBytes};
-use elf_descriptor::Elf;
 use elf_outside::NoSource;
 use elf_types::constants::SHT_PROGBITS;
 use elf_types::{NULL_SECTION, Octets, Shdr};
 use elf_xlate::Items;
+use object_making::prelude::Elf;
 use std::alloc::Global;
 
 /// The header of a section that is added: data of a program without flags, at any place.
 ///
 /// Source: objcopy(1) of the development tools, `--add-section`.
-#[tactic(auto, unfolding(elf_ident::specs::Front::zero_shdr))]
+#[tactic(auto, unfolding(copy_laws::specs::Passed::zero_shdr))]
 pub fn added_header() -> Shdr
     ensures { result ≡ added_header }
 {

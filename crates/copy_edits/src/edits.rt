@@ -1,17 +1,17 @@
 //! Edits of an object that was made anew, each refused by a fault of copy.
 
 ghost use Rattle.std.specs.Prelude.{◌≡◌, IfOk, Err};
-ghost use Rattle.elf_object.specs.Steps.{new_number};
-ghost use Rattle.elf_object.specs.Calls as calls;
-ghost use Rattle.elf_object.specs.Sections.{edited};
-ghost use Rattle.command_objects.specs.Copied.{or_strip};
+ghost use Rattle.copy_laws.specs.elf_object.Steps.{new_number};
+ghost use Rattle.copy_laws.specs.elf_object.Calls as calls;
+ghost use Rattle.copy_laws.specs.elf_object.Sections.{edited};
+ghost use Rattle.copy_changes.specs.command_objects.Copied.{or_strip};
 ghost use Rattle.copy_edits.specs.Steps.{Alters};
 
 use copy_changes::CopyFault;
-use elf_descriptor::Elf;
 use elf_outside::NoSource;
 use elf_types::{DataId, ScnId, Shdr};
 use elf_xlate::Items;
+use object_making::prelude::Elf;
 
 /// Stores items in the first piece of a section.
 pub(crate) fn put_items(elf: &mut Elf<NoSource>, s: u32, items: Items) -> Result<(), CopyFault>

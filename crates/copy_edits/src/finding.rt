@@ -2,18 +2,18 @@
 
 ghost use Rattle.std.specs.Prelude.{◌≡◌, ◌<◌, bytes_eq, length, position, IsTrue, IfOk, IfSome};
 ghost use Rattle.std.specs.Option.{option_copied};
-ghost use Rattle.elf_object.specs.Strings.{is_name};
-ghost use Rattle.command_objects.specs.Copied.{names_in, section_named};
+ghost use Rattle.copy_laws.specs.elf_object.Strings.{is_name};
+ghost use Rattle.copy_changes.specs.command_objects.Copied.{names_in, section_named};
 ghost use Rattle.strip_removed.specs.Calls.{ReadsNames};
 ghost use Rattle.copy_edits.specs.Names.{mark_of, new_name, name_now, names_now};
 ghost use Rattle.copy_edits.specs.Steps.{IsThere, IsNumber, Finds};
 
 use copy_changes::{CopyFault, NameBytes, fault_no_section};
-use elf_descriptor::Elf;
 use elf_outside::{NoSource, Source};
 use elf_types::{ElfError, List, Octets, ScnId};
-use gelf_view::is_named;
+use object_making::prelude::Elf;
 use std::alloc::Global;
+use strip_removed::prelude::is_named;
 
 // ---- Names as they are by now
 

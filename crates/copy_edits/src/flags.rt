@@ -1,9 +1,9 @@
 //! Sections get other flags.
 
 ghost use Rattle.std.specs.Prelude.{◌≡◌, ◌<◌, ◌&&◌, length, map};
-ghost use Rattle.elf_object.specs.Calls as calls;
-ghost use Rattle.elf_object.specs.Sections.{is_allocated, is_program, header_at, edited, in_turn};
-ghost use Rattle.command_objects.specs.Copied.{or_strip, differ, with_bits, flags_fault, with_section_flags};
+ghost use Rattle.copy_laws.specs.elf_object.Calls as calls;
+ghost use Rattle.copy_laws.specs.elf_object.Sections.{is_allocated, is_program, header_at, edited, in_turn};
+ghost use Rattle.copy_changes.specs.command_objects.Copied.{or_strip, differ, with_bits, flags_fault, with_section_flags};
 ghost use Rattle.copy_changes.specs.Stated.{bits_pair};
 ghost use Rattle.copy_edits.specs.Names.{names_now};
 ghost use Rattle.copy_edits.specs.Edits.{flagged_at};
@@ -12,9 +12,9 @@ ghost use Rattle.copy_edits.specs.Steps.{IsThere, IsFaultIf, Alters};
 use crate::edits::put_header;
 use crate::finding::find_section;
 use copy_changes::{CopyFault, NameBits, NameBytes, fault_fixed};
-use elf_descriptor::Elf;
 use elf_outside::NoSource;
 use elf_types::{List, ScnId, Shdr};
+use object_making::prelude::Elf;
 use std::alloc::Global;
 use strip_removed::is_allocated;
 

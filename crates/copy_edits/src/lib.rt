@@ -7,6 +7,7 @@ mod adding;
 mod edits;
 mod finding;
 mod flags;
+pub mod prelude;
 mod renaming;
 mod updating;
 

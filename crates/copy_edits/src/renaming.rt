@@ -3,17 +3,17 @@
 ghost use Rattle.std.specs.Prelude.{◌≡◌, length, map, slice_set, Some, IfOk, IfErr};
 ghost use Rattle.std.proofs.Math.ListN.{replicate};
 ghost use Rattle.elf_types.specs.declared.errors.ElfError.TheVariants.{Memory};
-ghost use Rattle.elf_object.specs.Sections.{in_turn};
-ghost use Rattle.command_objects.specs.Copied.{names_in, with_name};
+ghost use Rattle.copy_laws.specs.elf_object.Sections.{in_turn};
+ghost use Rattle.copy_changes.specs.command_objects.Copied.{names_in, with_name};
 ghost use Rattle.copy_changes.specs.Stated.{bytes_pair};
 ghost use Rattle.copy_edits.specs.Names.{new_name, names_now};
 ghost use Rattle.copy_edits.specs.Steps.{Finds};
 
 use crate::finding::find_section;
 use copy_changes::{CopyFault, NameBytes};
-use elf_descriptor::Elf;
 use elf_outside::NoSource;
 use elf_types::{ElfError, List};
+use object_making::prelude::Elf;
 use std::alloc::Global;
 
 /// As many marks as there are sections, each 0. It refuses `Memory` alone.

@@ -2,10 +2,10 @@
 
 ghost use Rattle.std.specs.Prelude.{◌≡◌, ◌<◌, ◌==◌, ◌&&◌, not, length, map};
 ghost use Rattle.elf_xlate.specs.declared.content.Items.TheVariants as items;
-ghost use Rattle.elf_object.specs.Joined.{pieces_end};
-ghost use Rattle.elf_object.specs.Calls as calls;
-ghost use Rattle.elf_object.specs.Sections.{is_allocated, is_program, header_at, edited, in_turn};
-ghost use Rattle.command_objects.specs.Copied.{or_strip, update_fault, with_bytes};
+ghost use Rattle.copy_laws.specs.elf_object.Joined.{pieces_end};
+ghost use Rattle.copy_laws.specs.elf_object.Calls as calls;
+ghost use Rattle.copy_laws.specs.elf_object.Sections.{is_allocated, is_program, header_at, edited, in_turn};
+ghost use Rattle.copy_changes.specs.command_objects.Copied.{or_strip, update_fault, with_bytes};
 ghost use Rattle.copy_changes.specs.Stated.{bytes_pair};
 ghost use Rattle.copy_edits.specs.Edits.{updated_at};
 ghost use Rattle.copy_edits.specs.Steps.{IsThere, IsFaultIf, Alters};
@@ -13,11 +13,11 @@ ghost use Rattle.copy_edits.specs.Steps.{IsThere, IsFaultIf, Alters};
 use crate::edits::put_items;
 use crate::finding::find_unrenamed;
 use copy_changes::{CopyFault, NameBytes, fault_allocated, fault_no_bytes};
-use elf_descriptor::Elf;
-use elf_object::occupies_file;
+use copy_laws::prelude::occupies_file;
 use elf_outside::NoSource;
 use elf_types::{Octets, ScnId};
 use elf_xlate::Items;
+use object_making::prelude::Elf;
 use std::alloc::Global;
 use strip_removed::is_allocated;
 

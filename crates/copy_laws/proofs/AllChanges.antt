@@ -4,9 +4,9 @@ use Rattle.std.specs.Prelude.{if◌then◌else◌, nat_eq}
 use Rattle.std.specs.List.{list_any}
 use Rattle.std.proofs.lemmas.Bool.{or_parts, eqb-false}
 use Rattle.std.proofs.lemmas.List.Folds.{list_any-append}
-use Rattle.elf_ident.proofs.Refusals.{bind_ok}
-use Rattle.elf_object.specs.Object.{Object, Section, section_at}
-use Rattle.elf_object.specs.Sections.{header_at, is_among, in_turn}
+use Rattle.object_laws.proofs.elf_ident.Refusals.{bind_ok}
+use Rattle.object_laws.specs.elf_object.Object.{Object, Section, section_at}
+use Rattle.object_laws.specs.elf_object.Sections.{header_at, is_among, in_turn}
 use Rattle.command_objects.specs.Removed.{removed_by_name}
 use Rattle.command_objects.specs.Arranged.{Rebuilt, arranged, place_from, section_from}
 use Rattle.command_objects.specs.Rebuilt.{rebuilt, renews_names}

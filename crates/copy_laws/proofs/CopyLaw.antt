@@ -5,11 +5,11 @@ use Rattle.std.proofs.lemmas.Bool.{ne_eqb, and_right}
 use Rattle.elf_types.specs.declared.records.Class.{Class}
 use Rattle.elf_types.specs.declared.records.Kind.{Kind}
 use Rattle.elf_types.specs.declared.records.Order.{Order}
-use Rattle.elf_xlate.specs.Translation.{EncodesAsDecoded}
-use Rattle.elf_object.specs.Layout.{places_of}
-use Rattle.elf_object.specs.Object.{Object, Section, section_at}
+use Rattle.object_laws.specs.elf_xlate.Translation.{EncodesAsDecoded}
+use Rattle.object_laws.specs.elf_object.Layout.{places_of}
+use Rattle.object_laws.specs.elf_object.Object.{Object, Section, section_at}
 use Rattle.object_laws.specs.Laws.{ReopenLaw}
-use Rattle.elf_object.specs.Sections.{header_at}
+use Rattle.object_laws.specs.elf_object.Sections.{header_at}
 use Rattle.command_objects.specs.Removed.{removed_by_name}
 use Rattle.command_objects.specs.Arranged.{Rebuilt}
 use Rattle.command_objects.specs.Rebuilt.{renews_names, rebuilt_object}

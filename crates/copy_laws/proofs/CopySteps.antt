@@ -4,11 +4,11 @@ use Rattle.std.specs.Prelude.{All}
 use Rattle.elf_types.specs.Lists.{AreBytes}
 use Rattle.elf_types.specs.declared.records.Phdr.{Phdr}
 use Rattle.elf_types.specs.declared.errors.ElfError.{ElfError}
-use Rattle.elf_xlate.specs.Headers.{IsPhdr}
-use Rattle.elf_object.specs.Object.{Object}
-use Rattle.elf_object.specs.Open.{opened}
-use Rattle.elf_object.specs.Settled.{settle}
-use Rattle.elf_object.specs.Valid.{IsObject, as_opened}
+use Rattle.object_laws.specs.elf_xlate.Headers.{IsPhdr}
+use Rattle.object_laws.specs.elf_object.Object.{Object}
+use Rattle.object_laws.specs.elf_object.Open.{opened}
+use Rattle.object_laws.specs.elf_object.Settled.{settle}
+use Rattle.object_laws.specs.elf_object.Valid.{IsObject, as_opened}
 use Rattle.object_laws.specs.Laws.{ReopenLaw}
 use Rattle.object_laws.proofs.OpenLaws.{opened_is, opened_phdrs}
 use Rattle.command_objects.specs.Removed.{removed_by_name}

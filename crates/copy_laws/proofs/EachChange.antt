@@ -7,16 +7,16 @@ use Rattle.elf_types.specs.Answers.{refused_if, first_refusal, answered}
 use Rattle.elf_types.specs.declared.records.Shdr.{Shdr}
 use Rattle.elf_types.specs.declared.errors.ElfError.{ElfError}
 use Rattle.elf_types.specs.declared.errors.ElfError.TheVariants.{NoSection, Reserved, NoData}
-use Rattle.elf_xlate.specs.declared.content.Items.{Items}
-use Rattle.elf_xlate.specs.declared.content.Items.TheVariants as items
-use Rattle.elf_ident.proofs.Refusals.{answered_ok, bind_ok}
-use Rattle.elf_object.specs.Object.{Object, Section, section_at, absent_section, new_section, occupies_file}
-use Rattle.elf_object.specs.Answers.{piece_count, reserved, no_data}
-use Rattle.elf_object.specs.Calls.{Call, newscn, update_shdr, newdata, replace, replace_refusal, unfit_items}
-use Rattle.elf_object.specs.Steps.{new_number, with_section, with_piece_at, with_own, with_shdr, with_new_section, with_new_piece, own_piece}
-use Rattle.elf_object.proofs.PassedLaws.{passed_one}
-use Rattle.elf_object.proofs.StepLaws.{section_count-with_section, section_at-with_section, section_at-with_section_other, section_at-with_own, section_at-with_own_other}
-use Rattle.elf_object.specs.Sections.{header_at, edited}
+use Rattle.object_laws.specs.elf_xlate.declared.content.Items.{Items}
+use Rattle.object_laws.specs.elf_xlate.declared.content.Items.TheVariants as items
+use Rattle.object_laws.proofs.elf_ident.Refusals.{answered_ok, bind_ok}
+use Rattle.object_laws.specs.elf_object.Object.{Object, Section, section_at, absent_section, new_section, occupies_file}
+use Rattle.object_laws.specs.elf_object.Answers.{piece_count, reserved, no_data}
+use Rattle.object_laws.specs.elf_object.Calls.{Call, newscn, update_shdr, newdata, replace, replace_refusal, unfit_items}
+use Rattle.object_laws.specs.elf_object.Steps.{new_number, with_section, with_piece_at, with_own, with_shdr, with_new_section, with_new_piece, own_piece}
+use Rattle.object_laws.proofs.elf_object.PassedLaws.{passed_one}
+use Rattle.object_laws.proofs.elf_object.StepLaws.{section_count-with_section, section_at-with_section, section_at-with_section_other, section_at-with_own, section_at-with_own_other}
+use Rattle.object_laws.specs.elf_object.Sections.{header_at, edited}
 use Rattle.command_objects.specs.Copied.{or_strip, names_in, section_named, update_fault, with_bytes, flags_fault, with_bits, with_section_flags, added_header, with_added}
 use Rattle.command_objects.specs.Copied.CopyFault.{NoBytes}
 use Rattle.command_objects.specs.KeepingLaws.{without_places}

@@ -9,19 +9,19 @@ use Rattle.elf_types.specs.Lists.{AreBytes}
 use Rattle.elf_types.specs.declared.records.Shdr.{Shdr}
 use Rattle.elf_types.specs.declared.errors.ElfError.TheVariants.{NoSection, Unfit}
 use Rattle.elf_types.specs.declared.records.Part.TheVariants as part
-use Rattle.elf_xlate.specs.Headers.{ehdr_fits}
-use Rattle.elf_xlate.specs.declared.content.Items.{Items}
-use Rattle.elf_xlate.specs.declared.content.Items.TheVariants as items
-use Rattle.elf_ident.proofs.Refusals.{bind_ok}
-use Rattle.elf_object.specs.Object.{Object, Section, section_at, occupies_file}
-use Rattle.elf_object.specs.Joined.{file_bytes}
-use Rattle.elf_object.specs.Answers.{piece_count}
-use Rattle.elf_object.specs.Steps.{own_piece, stored_ehdr}
-use Rattle.elf_object.specs.Calls.{update_ehdr_refusal}
-use Rattle.elf_object.proofs.PassedLaws.{passed_two}
-use Rattle.elf_object.proofs.StepLaws.{section_count-with_own}
+use Rattle.object_laws.specs.elf_xlate.Headers.{ehdr_fits}
+use Rattle.object_laws.specs.elf_xlate.declared.content.Items.{Items}
+use Rattle.object_laws.specs.elf_xlate.declared.content.Items.TheVariants as items
+use Rattle.object_laws.proofs.elf_ident.Refusals.{bind_ok}
+use Rattle.object_laws.specs.elf_object.Object.{Object, Section, section_at, occupies_file}
+use Rattle.object_laws.specs.elf_object.Joined.{file_bytes}
+use Rattle.object_laws.specs.elf_object.Answers.{piece_count}
+use Rattle.object_laws.specs.elf_object.Steps.{own_piece, stored_ehdr}
+use Rattle.object_laws.specs.elf_object.Calls.{update_ehdr_refusal}
+use Rattle.object_laws.proofs.elf_object.PassedLaws.{passed_two}
+use Rattle.object_laws.proofs.elf_object.StepLaws.{section_count-with_own}
 use Rattle.object_laws.specs.Laws.{ReopenLaw}
-use Rattle.elf_object.specs.Sections.{header_at, in_turn, is_among}
+use Rattle.object_laws.specs.elf_object.Sections.{header_at, in_turn, is_among}
 use Rattle.command_objects.specs.Removed.{removed_by_name}
 use Rattle.command_objects.specs.Followed.{kept_sections, kept_from_1}
 use Rattle.command_objects.specs.Arranged.{Rebuilt}

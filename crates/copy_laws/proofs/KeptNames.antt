@@ -11,17 +11,17 @@ use Rattle.elf_types.specs.declared.records.Class.{Class}
 use Rattle.elf_types.specs.declared.records.Kind.{Kind}
 use Rattle.elf_types.specs.declared.records.Order.{Order}
 use Rattle.elf_types.specs.declared.records.Shdr.{Shdr}
-use Rattle.elf_xlate.specs.Translation.{EncodesAsDecoded}
+use Rattle.object_laws.specs.elf_xlate.Translation.{EncodesAsDecoded}
 use Rattle.strtab_build.specs.Table.{table}
-use Rattle.elf_object.specs.Layout.{places_of}
-use Rattle.elf_object.specs.Object.{Object, Section, section_at}
-use Rattle.elf_object.specs.Open.{opened}
-use Rattle.elf_object.specs.Settled.{settle}
-use Rattle.elf_object.specs.Strings.{string_answer, readable, section_name, or_empty_name}
-use Rattle.elf_object.specs.Valid.{as_opened}
+use Rattle.object_laws.specs.elf_object.Layout.{places_of}
+use Rattle.object_laws.specs.elf_object.Object.{Object, Section, section_at}
+use Rattle.object_laws.specs.elf_object.Open.{opened}
+use Rattle.object_laws.specs.elf_object.Settled.{settle}
+use Rattle.object_laws.specs.elf_object.Strings.{string_answer, readable, section_name, or_empty_name}
+use Rattle.object_laws.specs.elf_object.Valid.{as_opened}
 use Rattle.object_laws.proofs.KeepLaws.{section_at_is}
 use Rattle.object_laws.proofs.StandLaws.{type-placed}
-use Rattle.elf_object.specs.Sections.{header_at, is_among}
+use Rattle.object_laws.specs.elf_object.Sections.{header_at, is_among}
 use Rattle.command_objects.specs.Removed.{removed_by_name}
 use Rattle.command_objects.specs.Followed.{kept_from_1}
 use Rattle.command_objects.specs.Arranged.{Rebuilt}

@@ -12,21 +12,21 @@ use Rattle.elf_types.specs.declared.records.Order.{Order}
 use Rattle.elf_types.specs.declared.records.Shdr.{Shdr}
 use Rattle.elf_types.specs.declared.errors.ElfError.{ElfError}
 use Rattle.elf_types.specs.declared.errors.ElfError.TheVariants.{OutOfFile}
-use Rattle.elf_xlate.specs.declared.content.Items.{Items}
-use Rattle.elf_xlate.specs.declared.content.Items.TheVariants as items
-use Rattle.elf_xlate.specs.Translation.{encoded, EncodesAsDecoded}
+use Rattle.object_laws.specs.elf_xlate.declared.content.Items.{Items}
+use Rattle.object_laws.specs.elf_xlate.declared.content.Items.TheVariants as items
+use Rattle.object_laws.specs.elf_xlate.Translation.{encoded, EncodesAsDecoded}
 use Rattle.strtab_build.specs.Table.{table}
-use Rattle.elf_object.specs.Object.{Object, Section, Piece, section_at, absent_section, new_section, occupies_file}
-use Rattle.elf_object.specs.Open.{home_len}
-use Rattle.elf_object.specs.Answers.{no_section, out_of_file, raw_refusal, data_refusal}
-use Rattle.elf_object.specs.Joined.{file_bytes}
-use Rattle.elf_object.specs.Steps.{own_piece}
-use Rattle.elf_object.specs.Valid.{IsObject}
-use Rattle.elf_object.proofs.PassedLaws.{none_first, none_rest, not_refused}
+use Rattle.object_laws.specs.elf_object.Object.{Object, Section, Piece, section_at, absent_section, new_section, occupies_file}
+use Rattle.object_laws.specs.elf_object.Open.{home_len}
+use Rattle.object_laws.specs.elf_object.Answers.{no_section, out_of_file, raw_refusal, data_refusal}
+use Rattle.object_laws.specs.elf_object.Joined.{file_bytes}
+use Rattle.object_laws.specs.elf_object.Steps.{own_piece}
+use Rattle.object_laws.specs.elf_object.Valid.{IsObject}
+use Rattle.object_laws.proofs.elf_object.PassedLaws.{none_first, none_rest, not_refused}
 use Rattle.object_laws.proofs.ImageLaws.{joined-none}
 use Rattle.object_laws.proofs.KeepLaws.{section_at_is}
 use Rattle.object_laws.proofs.StandLaws.{file_bytes_when}
-use Rattle.elf_object.specs.Sections.{header_at}
+use Rattle.object_laws.specs.elf_object.Sections.{header_at}
 use Rattle.command_objects.specs.Followed.{renumbering}
 use Rattle.command_objects.specs.Arranged.{Rebuilt}
 use Rattle.command_objects.specs.Rebuilt.{renews_names, rebuilt_items, kept_items, kept_names, kept_refusal, items_follow, made_section, rebuilt_header, rebuilt_section, rebuilt_sections, rebuilt_object, rebuilt_index}

@@ -1,3 +1,6 @@
+pub use Rattle.object_laws.proofs.elf_object
+pub use Rattle.object_laws.proofs as object_laws
+pub use Rattle.strip_laws.proofs as strip_laws
 pub mod NoneRemoved
 pub mod EachChange
 pub mod NamesAndPlaces

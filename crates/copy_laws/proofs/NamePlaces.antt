@@ -3,10 +3,10 @@ use Rattle.std.proofs.Common.{◌≡◌, ℕ, ◌<◌, Bool, true, false, List, 
 use Rattle.std.specs.Prelude.{if◌then◌else◌, map}
 use Rattle.std.proofs.lemmas.Bool.{cases_eq}
 use Rattle.elf_types.specs.declared.records.Shdr.{Shdr}
-use Rattle.elf_object.specs.Object.{Object, Section}
-use Rattle.elf_object.specs.Steps.{with_shdr}
-use Rattle.elf_object.proofs.StepLaws.{section_at-with_shdr, section_at-with_shdr_other}
-use Rattle.elf_object.specs.Sections.{header_at, in_turn}
+use Rattle.object_laws.specs.elf_object.Object.{Object, Section}
+use Rattle.object_laws.specs.elf_object.Steps.{with_shdr}
+use Rattle.object_laws.proofs.elf_object.StepLaws.{section_at-with_shdr, section_at-with_shdr_other}
+use Rattle.object_laws.specs.elf_object.Sections.{header_at, in_turn}
 use Rattle.command_objects.specs.Copied.{Changes, with_section_flags, with_bits, changes_names, named}
 use Rattle.copy_laws.proofs.EachChange.{SamePieces, pieces_both, IsFlagged, flagged_known, flagged_follows}
 use Rattle.copy_laws.proofs.NamesAndPlaces.{named_known}

@@ -8,15 +8,15 @@ use Rattle.std.proofs.lemmas.List.{length-map, get_or-map}
 use Rattle.std.proofs.lemmas.List.FromFn.{length-enumerate_from, get_or-enumerate_from}
 use Rattle.elf_types.specs.Answers.{refused_if, first_refusal, answered}
 use Rattle.elf_types.specs.declared.records.Shdr.{Shdr}
-use Rattle.elf_xlate.specs.declared.content.Items.{Items}
-use Rattle.elf_xlate.specs.declared.content.Items.TheVariants as items
+use Rattle.object_laws.specs.elf_xlate.declared.content.Items.{Items}
+use Rattle.object_laws.specs.elf_xlate.declared.content.Items.TheVariants as items
 use Rattle.strtab_build.specs.Table.{table, place_of}
-use Rattle.elf_ident.proofs.Refusals.{answered_ok, bind_ok}
-use Rattle.elf_object.specs.Object.{Object, Section, Piece, section_at, piece_at, absent_section, home_piece}
-use Rattle.elf_object.specs.Steps.{with_ehdr, stored_ehdr, own_piece}
-use Rattle.elf_object.specs.Strings.{or_empty_name}
-use Rattle.elf_object.proofs.StepLaws.{section_at-with_own}
-use Rattle.elf_object.specs.Sections.{header_at}
+use Rattle.object_laws.proofs.elf_ident.Refusals.{answered_ok, bind_ok}
+use Rattle.object_laws.specs.elf_object.Object.{Object, Section, Piece, section_at, piece_at, absent_section, home_piece}
+use Rattle.object_laws.specs.elf_object.Steps.{with_ehdr, stored_ehdr, own_piece}
+use Rattle.object_laws.specs.elf_object.Strings.{or_empty_name}
+use Rattle.object_laws.proofs.elf_object.StepLaws.{section_at-with_own}
+use Rattle.object_laws.specs.elf_object.Sections.{header_at}
 use Rattle.command_objects.specs.Arranged.{place_from, section_from, table_place_from, placed_from}
 use Rattle.command_objects.specs.Rebuilt.{table_refusal}
 use Rattle.command_objects.specs.Copied.{or_strip, named_section, with_names, named}

@@ -8,10 +8,10 @@ use Rattle.std.proofs.lemmas.List.{take-append-drop}
 use Rattle.elf_types.specs.declared.records.Shdr.{Shdr}
 use Rattle.elf_types.specs.declared.records.Sym.{Sym}
 use Rattle.elf_types.specs.declared.constants.TheConstants.{SHT_STRTAB, SHN_LORESERVE}
-use Rattle.elf_object.specs.Object.{Object}
-use Rattle.elf_object.specs.Layout.{section_numbers}
-use Rattle.elf_object.specs.SymbolSections.{is_extended}
-use Rattle.elf_object.specs.Sections.{is_among, is_allocated, is_relocations, header_at, number_or_0, info_is_section}
+use Rattle.object_laws.specs.elf_object.Object.{Object}
+use Rattle.object_laws.specs.elf_object.Layout.{section_numbers}
+use Rattle.object_laws.specs.elf_object.SymbolSections.{is_extended}
+use Rattle.object_laws.specs.elf_object.Sections.{is_among, is_allocated, is_relocations, header_at, number_or_0, info_is_section}
 use Rattle.command_objects.specs.Removed.{removable, with_found, with_followers, removed_by_name, relocates_removed, indexes_removed, has_removed_users, linking_to, is_named}
 use Rattle.command_objects.specs.Followed.{Renumbering, kept_sections, kept_from_1, renumbering, renumbered, is_section_number, followed, followed_header, followed_member, followed_group, without_section, followed_sym, followed_extended, followed_word, word_counts, followed_by_word, followed_syms, word_of_sym, followed_words}
 

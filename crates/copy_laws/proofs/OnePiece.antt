@@ -6,15 +6,15 @@ use Rattle.std.proofs.lemmas.Bool.{cases_eq, cases_lt}
 use Rattle.std.proofs.lemmas.List.{length-map}
 use Rattle.std.proofs.lemmas.List.FromFn.{length-enumerate_from}
 use Rattle.elf_types.specs.declared.records.Shdr.{Shdr}
-use Rattle.elf_xlate.specs.declared.content.Items.{Items}
-use Rattle.elf_xlate.specs.declared.content.Items.TheVariants as items
-use Rattle.elf_object.specs.Object.{Object, Section, Piece, section_at, piece_at, absent_section, new_section, home_piece, occupies_file}
-use Rattle.elf_object.specs.Steps.{with_own, own_piece, with_ehdr}
-use Rattle.elf_object.proofs.StepLaws.{section_at-with_own, section_at-with_own_other}
+use Rattle.object_laws.specs.elf_xlate.declared.content.Items.{Items}
+use Rattle.object_laws.specs.elf_xlate.declared.content.Items.TheVariants as items
+use Rattle.object_laws.specs.elf_object.Object.{Object, Section, Piece, section_at, piece_at, absent_section, new_section, home_piece, occupies_file}
+use Rattle.object_laws.specs.elf_object.Steps.{with_own, own_piece, with_ehdr}
+use Rattle.object_laws.proofs.elf_object.StepLaws.{section_at-with_own, section_at-with_own_other}
 use Rattle.object_laws.proofs.KeepLaws.{at_or}
 use Rattle.object_laws.proofs.RangeLaws.{each_made}
 use Rattle.object_laws.proofs.StandLaws.{section_at-past}
-use Rattle.elf_object.specs.Sections.{in_turn}
+use Rattle.object_laws.specs.elf_object.Sections.{in_turn}
 use Rattle.command_objects.specs.Followed.{kept_sections}
 use Rattle.command_objects.specs.Arranged.{Rebuilt, section_from, table_place_from, placed_from}
 use Rattle.command_objects.specs.Rebuilt.{rebuilt, made_section, rebuilt_items, rebuilt_header, rebuilt_section, rebuilt_sections, rebuilt_object, rebuilt_tail}

@@ -7,21 +7,21 @@ use Rattle.std.proofs.lemmas.Bool.{and_parts, eq-eqb, eqb-true}
 use Rattle.std.proofs.lemmas.List.{length-map, length-set, length-drop, get_or-map, get_or-drop, get_or-set_other}
 use Rattle.std.proofs.lemmas.List.Elements.{All-nil, All-cons, All-head, All-tail, All-map, All-set, All-drop, Contains-get_or}
 use Rattle.std.proofs.lemmas.List.FromFn.{length-map-range_with_len, get_or-map-range_with_len}
-use Rattle.elf_ident.proofs.Refusals.{bind_ok}
+use Rattle.object_laws.proofs.elf_ident.Refusals.{bind_ok}
 use Rattle.elf_types.specs.Lists.{AreBytes}
 use Rattle.elf_types.specs.declared.records.Shdr.{Shdr}
 use Rattle.elf_types.specs.declared.constants.TheConstants.{SHT_STRTAB}
-use Rattle.elf_xlate.specs.declared.content.Items.{Items}
-use Rattle.elf_xlate.specs.declared.content.Items.TheVariants as items
+use Rattle.object_laws.specs.elf_xlate.declared.content.Items.{Items}
+use Rattle.object_laws.specs.elf_xlate.declared.content.Items.TheVariants as items
 use Rattle.strtab_build.specs.Table.{table, place_of}
-use Rattle.elf_object.specs.Blocks.{stacked}
-use Rattle.elf_object.specs.Joined.{piece_blocks}
-use Rattle.elf_object.specs.Object.{Object, Section, section_at, occupies_file}
-use Rattle.elf_object.specs.Layout.{section_numbers}
-use Rattle.elf_object.specs.Steps.{own_piece}
-use Rattle.elf_object.specs.Strings.{section_name, or_empty_name}
+use Rattle.object_laws.specs.elf_object.Blocks.{stacked}
+use Rattle.object_laws.specs.elf_object.Joined.{piece_blocks}
+use Rattle.object_laws.specs.elf_object.Object.{Object, Section, section_at, occupies_file}
+use Rattle.object_laws.specs.elf_object.Layout.{section_numbers}
+use Rattle.object_laws.specs.elf_object.Steps.{own_piece}
+use Rattle.object_laws.specs.elf_object.Strings.{section_name, or_empty_name}
 use Rattle.object_laws.proofs.RangeLaws.{each_made}
-use Rattle.elf_object.specs.Sections.{is_allocated, header_at, is_among, in_turn}
+use Rattle.object_laws.specs.elf_object.Sections.{is_allocated, header_at, is_among, in_turn}
 use Rattle.command_objects.specs.Removed.{linking_to}
 use Rattle.command_objects.specs.Followed.{kept_from_1}
 use Rattle.command_objects.specs.Rebuilt.{renews_names, has_names_alone, kept_names, kept_items, made_section, rebuilt_items, rebuilt_header, rebuilt_name, rebuilt_object}

@@ -6,26 +6,26 @@ use Rattle.std.proofs.lemmas.Bool.{or_left, or_right, ne_eqb}
 use Rattle.std.proofs.lemmas.List.{length-map}
 use Rattle.std.proofs.lemmas.List.FromFn.{length-enumerate_from}
 use Rattle.elf_types.specs.declared.records.Shdr.{Shdr}
-use Rattle.elf_xlate.specs.declared.content.Items.{Items}
-use Rattle.elf_xlate.specs.Translation.{encoded}
+use Rattle.object_laws.specs.elf_xlate.declared.content.Items.{Items}
+use Rattle.object_laws.specs.elf_xlate.Translation.{encoded}
 use Rattle.elf_layout.specs.declared.parts.Places.{Places}
-use Rattle.elf_object.specs.Blocks.{stacked, last_end, spread}
-use Rattle.elf_object.specs.Object.{Object, Section, Piece, section_at, header_of, occupies_file, is_null, is_dirty, some_section_marked}
-use Rattle.elf_object.specs.Open.{home_len, opened, created_over}
-use Rattle.elf_object.specs.Joined.{piece_bytes, aligned_pieces, piece_blocks, pieces_end, file_bytes}
-use Rattle.elf_object.specs.Derived.{where_any, derived_header, numbered_shdr}
-use Rattle.elf_object.specs.Layout.{places_of, placed_header, placed_shdr, placed_by, section_place}
-use Rattle.elf_object.specs.Image.{image}
-use Rattle.elf_object.specs.Settled.{settled_section, settled_over, settle}
-use Rattle.elf_object.specs.Steps.{own_piece, with_ehdr, with_phdrs, stored_ehdr}
-use Rattle.elf_object.specs.Valid.{as_opened}
-use Rattle.elf_object.proofs.SettledSections.{section_at-settled}
+use Rattle.object_laws.specs.elf_object.Blocks.{stacked, last_end, spread}
+use Rattle.object_laws.specs.elf_object.Object.{Object, Section, Piece, section_at, header_of, occupies_file, is_null, is_dirty, some_section_marked}
+use Rattle.object_laws.specs.elf_object.Open.{home_len, opened, created_over}
+use Rattle.object_laws.specs.elf_object.Joined.{piece_bytes, aligned_pieces, piece_blocks, pieces_end, file_bytes}
+use Rattle.object_laws.specs.elf_object.Derived.{where_any, derived_header, numbered_shdr}
+use Rattle.object_laws.specs.elf_object.Layout.{places_of, placed_header, placed_shdr, placed_by, section_place}
+use Rattle.object_laws.specs.elf_object.Image.{image}
+use Rattle.object_laws.specs.elf_object.Settled.{settled_section, settled_over, settle}
+use Rattle.object_laws.specs.elf_object.Steps.{own_piece, with_ehdr, with_phdrs, stored_ehdr}
+use Rattle.object_laws.specs.elf_object.Valid.{as_opened}
+use Rattle.object_laws.proofs.elf_object.SettledSections.{section_at-settled}
 use Rattle.object_laws.proofs.ImageLaws.{section_at-placed, placed-dirty}
 use Rattle.object_laws.proofs.ItemLaws.{alone_spread}
 use Rattle.object_laws.proofs.SettledLaws.{settle-dirty, section_extent}
 use Rattle.object_laws.proofs.StandLaws.{where_some, section_count-placed, joined-placed, file_bytes_when}
 use Rattle.object_laws.proofs.AgainLaws.{placed_section_header}
-use Rattle.elf_object.specs.Sections.{header_at}
+use Rattle.object_laws.specs.elf_object.Sections.{header_at}
 use Rattle.command_objects.specs.Arranged.{over_base}
 use Rattle.command_objects.specs.Rebuilt.{rebuilt_object, rebuilt_index, rebuilt_sections, rebuilt_tail, assembled}
 use Rattle.command_objects.specs.KeepingLaws.{without_places}

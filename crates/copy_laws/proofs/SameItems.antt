@@ -16,20 +16,20 @@ use Rattle.elf_types.specs.declared.records.Sym.{Sym}
 use Rattle.elf_types.specs.declared.errors.ElfError.{ElfError}
 use Rattle.elf_types.specs.declared.errors.ElfError.TheVariants.{OutOfFile, Ragged}
 use Rattle.elf_types.specs.declared.constants.TheConstants.{SHT_SYMTAB, SHT_GROUP, SHT_SYMTAB_SHNDX}
-use Rattle.elf_xlate.specs.declared.content.Items.{Items}
-use Rattle.elf_xlate.specs.declared.content.Items.TheVariants as items
-use Rattle.elf_xlate.specs.Translation.{decoded, encoded, items_kind, EncodesAsDecoded}
-use Rattle.elf_xlate.proofs.Decoded.{decoded_kind}
-use Rattle.elf_ident.specs.declared.fronts.Front.{Front}
-use Rattle.elf_ident.specs.Front.{front, zero_shdr}
-use Rattle.elf_object.specs.Object.{Object, Section, Piece, section_at, piece_at, absent_section, home_piece}
-use Rattle.elf_object.specs.Open.{home_len, home_of, home_bytes, opened_section, begun, begun_or_refused, opened}
-use Rattle.elf_object.specs.Answers.{content, or_empty, items_at, words_of, syms_of, same_kind, no_section, no_data, no_content, raw_refusal, data_refusal}
-use Rattle.elf_object.specs.Valid.{IsObject}
-use Rattle.elf_object.proofs.PassedLaws.{none_first, none_rest}
-use Rattle.elf_object.proofs.StepLaws.{same_kind-true}
+use Rattle.object_laws.specs.elf_xlate.declared.content.Items.{Items}
+use Rattle.object_laws.specs.elf_xlate.declared.content.Items.TheVariants as items
+use Rattle.object_laws.specs.elf_xlate.Translation.{decoded, encoded, items_kind, EncodesAsDecoded}
+use Rattle.object_laws.proofs.elf_xlate.Decoded.{decoded_kind}
+use Rattle.object_laws.specs.elf_ident.declared.fronts.Front.{Front}
+use Rattle.object_laws.specs.elf_ident.Front.{front, zero_shdr}
+use Rattle.object_laws.specs.elf_object.Object.{Object, Section, Piece, section_at, piece_at, absent_section, home_piece}
+use Rattle.object_laws.specs.elf_object.Open.{home_len, home_of, home_bytes, opened_section, begun, begun_or_refused, opened}
+use Rattle.object_laws.specs.elf_object.Answers.{content, or_empty, items_at, words_of, syms_of, same_kind, no_section, no_data, no_content, raw_refusal, data_refusal}
+use Rattle.object_laws.specs.elf_object.Valid.{IsObject}
+use Rattle.object_laws.proofs.elf_object.PassedLaws.{none_first, none_rest}
+use Rattle.object_laws.proofs.elf_object.StepLaws.{same_kind-true}
 use Rattle.object_laws.proofs.KeepLaws.{section_at_is}
-use Rattle.elf_object.specs.Sections.{is_allocated, is_of, is_loose, first_of, header_at}
+use Rattle.object_laws.specs.elf_object.Sections.{is_allocated, is_of, is_loose, first_of, header_at}
 use Rattle.command_objects.specs.Followed.{renumbering, has_indexes_of, extended_table, is_the, kept_from_1, followed_syms, followed_words, followed_group, symbols_follow, members_follow, indexes_follow, words_for, syms_in}
 use Rattle.command_objects.specs.Rebuilt.{items_follow, kept_items, kept_refusal}
 use Rattle.strip_laws.proofs.MadeSections.{bytes_encoded}

@@ -11,18 +11,18 @@ use Rattle.elf_types.specs.declared.records.Shdr.{Shdr}
 use Rattle.elf_types.specs.declared.errors.ElfError.{ElfError}
 use Rattle.elf_types.specs.declared.errors.ElfError.TheVariants.{NoSection, NotStrings, OutOfFile, NoString, Unended}
 use Rattle.elf_types.specs.declared.constants.TheConstants.{SHT_NULL, SHT_NOBITS, SHT_STRTAB}
-use Rattle.elf_xlate.specs.declared.content.Items.TheVariants as items
-use Rattle.elf_xlate.specs.Translation.{items_kind}
+use Rattle.object_laws.specs.elf_xlate.declared.content.Items.TheVariants as items
+use Rattle.object_laws.specs.elf_xlate.Translation.{items_kind}
 use Rattle.elf_layout.specs.Layout.{rounded_up}
 use Rattle.strtab_build.specs.Table.{string_at}
-use Rattle.elf_object.specs.Blocks.{Block, block_covers, block_end, stacked, last_end}
-use Rattle.elf_object.specs.Object.{Object, Section, Piece, section_at, home_piece, home_is_clean}
-use Rattle.elf_object.specs.Answers.{no_section, same_kind}
-use Rattle.elf_object.specs.Joined.{piece_bytes, aligned_pieces, piece_blocks, pieces_end}
-use Rattle.elf_object.specs.Steps.{own_piece}
-use Rattle.elf_object.specs.Strings.{holds_strings, kind_of_piece, piece_over, has_nul, bytes_from, string_refusal_unread, string_refusal, string_answer}
-use Rattle.elf_object.proofs.StepLaws.{same_kind-same}
-use Rattle.elf_object.specs.Sections.{header_at}
+use Rattle.object_laws.specs.elf_object.Blocks.{Block, block_covers, block_end, stacked, last_end}
+use Rattle.object_laws.specs.elf_object.Object.{Object, Section, Piece, section_at, home_piece, home_is_clean}
+use Rattle.object_laws.specs.elf_object.Answers.{no_section, same_kind}
+use Rattle.object_laws.specs.elf_object.Joined.{piece_bytes, aligned_pieces, piece_blocks, pieces_end}
+use Rattle.object_laws.specs.elf_object.Steps.{own_piece}
+use Rattle.object_laws.specs.elf_object.Strings.{holds_strings, kind_of_piece, piece_over, has_nul, bytes_from, string_refusal_unread, string_refusal, string_answer}
+use Rattle.object_laws.proofs.elf_object.StepLaws.{same_kind-same}
+use Rattle.object_laws.specs.elf_object.Sections.{header_at}
 use Rattle.strip_laws.proofs.MadeSections.{bytes_encoded}
 use Rattle.copy_laws.proofs.SameItems.{IsOpenedAt}
 

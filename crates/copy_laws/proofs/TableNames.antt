@@ -17,11 +17,11 @@ use Rattle.strtab_build.specs.Table.{others, distinct, strings, table, place_of,
 use Rattle.strtab_build.specs.Names.{unclosed}
 use Rattle.strtab_build.proofs.DistinctLemmas.{distinct-distinct}
 use Rattle.strtab_build.proofs.TableLemmas.{table_is, table-distinct, string_at-place_of}
-use Rattle.elf_object.specs.Blocks.{Block, block_covers, stacked}
-use Rattle.elf_object.specs.Object.{Object, section_at}
-use Rattle.elf_object.specs.Joined.{piece_blocks}
-use Rattle.elf_object.specs.Strings.{piece_over, has_nul, string_in, string_refusal, string_answer, readable, section_name, or_empty_name}
-use Rattle.elf_object.specs.Sections.{header_at}
+use Rattle.object_laws.specs.elf_object.Blocks.{Block, block_covers, stacked}
+use Rattle.object_laws.specs.elf_object.Object.{Object, section_at}
+use Rattle.object_laws.specs.elf_object.Joined.{piece_blocks}
+use Rattle.object_laws.specs.elf_object.Strings.{piece_over, has_nul, string_in, string_refusal, string_answer, readable, section_name, or_empty_name}
+use Rattle.object_laws.specs.elf_object.Sections.{header_at}
 use Rattle.copy_laws.proofs.SectionStrings.{IsStringSection, string_there}
 
 -- ---- A name in a table

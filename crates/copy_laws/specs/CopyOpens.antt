@@ -1,8 +1,8 @@
 -- What copy writes is an image (objcopy(1) has the like of it).
 use Rattle.std.specs.Prelude.{◌≡◌, ℕ, List, Ok}
 use Rattle.elf_types.specs.Lists.{AreBytes}
-use Rattle.elf_object.specs.Object.{Object}
-use Rattle.elf_object.specs.Open.{opened}
+use Rattle.object_laws.specs.elf_object.Object.{Object}
+use Rattle.object_laws.specs.elf_object.Open.{opened}
 use Rattle.command_objects.specs.Arranged.{Rebuilt}
 use Rattle.command_objects.specs.Copied.{Changes, copied}
 use Rattle.command_objects.specs.Files.{file_of}

@@ -4,8 +4,8 @@
 ghost use Rattle.command_objects.specs.KeepingLaws.{CopyLaw};
 ghost use Rattle.copy_laws.specs.CopyOpens.{CopyOpens};
 
-use elf_xlate::encodes_as_decoded;
 use object_laws::laws::reopen_law;
+use object_laws::prelude::encodes_as_decoded;
 
 /// What copy writes of an image, for changes in their ranges, opens again.
 pub fn copy_opens()

@@ -8,8 +8,8 @@ use Rattle.elf_types.specs.declared.errors.ElfError.{ElfError}
 use Rattle.elf_types.specs.declared.errors.ElfError.TheVariants.{Memory, TooLarge}
 use Rattle.strtab_build.specs.Table.{table, place_of, distinct}
 use Rattle.tool_text.specs.Reading.{is_section_name}
-use Rattle.elf_object.specs.Object.{Object}
-use Rattle.elf_object.specs.Strings.{section_name, or_empty_name}
+use Rattle.copy_changes.specs.elf_object.Object.{Object}
+use Rattle.copy_changes.specs.elf_object.Strings.{section_name, or_empty_name}
 use Rattle.strip_names.specs.declared.known.KnownPlaces.{KnownPlaces}
 use Rattle.strip_names.specs.Known.{NotesName}
 use Rattle.strip_names.specs.Names.{is_too_large, IsAddedAt}

@@ -14,18 +14,18 @@ use Rattle.elf_xlate.specs.declared.content.Items.{Items}
 use Rattle.elf_xlate.specs.declared.content.Items.TheVariants as items
 use Rattle.elf_xlate.specs.Headers.{shdr_fits}
 use Rattle.elf_xlate.specs.Translation.{first_unfit}
-use Rattle.elf_object.specs.Object.{Object, Section, Piece, section_at, piece_at, absent_section}
-use Rattle.elf_object.specs.Answers.{no_section, no_data, reserved, piece_count}
-use Rattle.elf_object.specs.Steps.{with_section, with_piece_at, with_own, with_shdr, own_piece}
-use Rattle.elf_object.specs.Calls.{update_shdr_refusal, replace_refusal, unfit_items}
-use Rattle.elf_object.specs.Calls as calls
-use Rattle.elf_object.specs.Words.{handing_back}
-use Rattle.elf_object.specs.Valid.{IsObject}
-use Rattle.elf_object.proofs.StepLaws.{section_count-with_section, section_at-with_shdr, section_at-with_shdr_other}
-use Rattle.object_laws.proofs.KeepLaws.{section_at_is}
-use Rattle.elf_descriptor.specs.State.{State}
-use Rattle.elf_descriptor.specs.Edits.{stepped}
-use Rattle.elf_object.specs.Sections.{header_at}
+use Rattle.copy_changes.specs.elf_object.Object.{Object, Section, Piece, section_at, piece_at, absent_section}
+use Rattle.copy_changes.specs.elf_object.Answers.{no_section, no_data, reserved, piece_count}
+use Rattle.copy_changes.specs.elf_object.Steps.{with_section, with_piece_at, with_own, with_shdr, own_piece}
+use Rattle.copy_changes.specs.elf_object.Calls.{update_shdr_refusal, replace_refusal, unfit_items}
+use Rattle.copy_changes.specs.elf_object.Calls as calls
+use Rattle.copy_changes.specs.elf_object.Words.{handing_back}
+use Rattle.copy_changes.specs.elf_object.Valid.{IsObject}
+use Rattle.copy_changes.proofs.elf_object.StepLaws.{section_count-with_section, section_at-with_shdr, section_at-with_shdr_other}
+use Rattle.copy_edits.proofs.object_laws.KeepLaws.{section_at_is}
+use Rattle.object_making.specs.elf_descriptor.State.{State}
+use Rattle.object_making.specs.elf_descriptor.Edits.{stepped}
+use Rattle.copy_changes.specs.elf_object.Sections.{header_at}
 use Rattle.object_making.proofs.RefusedLaws.{alone, passes_first}
 use Rattle.copy_names.specs.declared.naming.NewNames.{NewNames}
 use Rattle.copy_edits.specs.Steps.{IsThere, KeepsIndex, Alters}

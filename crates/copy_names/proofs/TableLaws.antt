@@ -7,7 +7,7 @@ use Rattle.elf_types.specs.declared.errors.ElfError.TheVariants as errors
 use Rattle.elf_types.specs.Answers.{refused_if}
 use Rattle.strtab_build.specs.Table.{table, place_of}
 use Rattle.strtab_build.proofs.TableLemmas.{table-distinct}
-use Rattle.command_objects.specs.Rebuilt.{table_refusal}
+use Rattle.copy_changes.specs.command_objects.Rebuilt.{table_refusal}
 use Rattle.copy_names.specs.declared.naming.Naming.{Naming}
 use Rattle.copy_names.specs.declared.naming.Naming.TheVariants.{Stay, NoTable, TooLarge, Anew}
 use Rattle.copy_names.specs.Texts.{AreAdded, AddsTo, IsTableOf}

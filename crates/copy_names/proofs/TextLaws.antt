@@ -13,10 +13,10 @@ use Rattle.elf_types.specs.Answers.{refused_if}
 use Rattle.strtab_build.specs.Table.{distinct, strings, table, place_of}
 use Rattle.strtab_build.proofs.DistinctLemmas.{same_refl, distinct-append, distinct-append_left, fold-behind}
 use Rattle.strtab_build.proofs.TableLemmas.{place_of-append, place_of-distinct, table_same}
-use Rattle.elf_object.specs.Object.{Object}
-use Rattle.elf_object.specs.Layout.{section_numbers}
-use Rattle.elf_object.specs.Strings.{or_empty_name}
-use Rattle.command_objects.specs.Rebuilt.{table_refusal}
+use Rattle.copy_changes.specs.elf_object.Object.{Object}
+use Rattle.copy_changes.specs.elf_object.Layout.{section_numbers}
+use Rattle.copy_changes.specs.elf_object.Strings.{or_empty_name}
+use Rattle.copy_changes.specs.command_objects.Rebuilt.{table_refusal}
 use Rattle.strip_names.specs.Names.{IsAddedAt}
 use Rattle.copy_changes.specs.declared.changes.NameBytes.{NameBytes}
 use Rattle.copy_changes.specs.declared.changes.Changes.{Changes}

@@ -1,2 +1,3 @@
+pub use Rattle.strip_names.specs as strip_names
 pub mod Texts
 pub mod Stores

@@ -4,10 +4,10 @@ use Rattle.std.specs.Prelude.{◌≡◌, ℕ, ◌==◌, Bool, true, false, List,
 use Rattle.std.specs.List.{enumerate_from}
 use Rattle.elf_types.specs.declared.errors.ElfError.TheVariants as errors
 use Rattle.elf_xlate.specs.declared.content.Items.TheVariants as items
-use Rattle.elf_object.specs.Object.{Object, Section}
-use Rattle.elf_object.specs.Steps.{with_own}
-use Rattle.command_objects.specs.Copied.{CopyFault as StatedFault}
-use Rattle.command_objects.specs.Rebuilt.{table_refusal}
+use Rattle.copy_changes.specs.elf_object.Object.{Object, Section}
+use Rattle.copy_changes.specs.elf_object.Steps.{with_own}
+use Rattle.copy_changes.specs.command_objects.Copied.{CopyFault as StatedFault}
+use Rattle.copy_changes.specs.command_objects.Rebuilt.{table_refusal}
 use Rattle.copy_names.specs.declared.naming.NewNames.{NewNames}
 use Rattle.copy_edits.specs.Steps.{IsThere}
 use Rattle.copy_names.specs.declared.naming.Naming.{Naming}

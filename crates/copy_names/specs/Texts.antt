@@ -3,9 +3,9 @@
 use Rattle.std.specs.Prelude.{◌≡◌, ◌≤◌, ℕ, ◌-◌, ◌^◌, Bool, true, false, List, ◌∷◌, ◌++◌, length, drop, map, take, Some, None}
 use Rattle.elf_types.specs.declared.errors.ElfError.TheVariants as errors
 use Rattle.strtab_build.specs.Table.{distinct, table, place_of}
-use Rattle.elf_object.specs.Object.{Object}
-use Rattle.elf_object.specs.Strings.{or_empty_name}
-use Rattle.command_objects.specs.Rebuilt.{table_refusal}
+use Rattle.copy_changes.specs.elf_object.Object.{Object}
+use Rattle.copy_changes.specs.elf_object.Strings.{or_empty_name}
+use Rattle.copy_changes.specs.command_objects.Rebuilt.{table_refusal}
 use Rattle.copy_names.specs.declared.naming.NewNames.{NewNames}
 use Rattle.copy_changes.specs.declared.changes.Changes.{Changes}
 use Rattle.copy_changes.specs.Stated.{stated_changes}

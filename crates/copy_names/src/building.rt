@@ -4,8 +4,8 @@ ghost use Rattle.std.specs.Prelude.{◌≡◌, ◌==◌, ◌+◌, ◌-◌, ◌�
 ghost use Rattle.std.specs.List.{list_all};
 ghost use Rattle.elf_types.specs.declared.errors.ElfError.TheVariants.{Memory};
 ghost use Rattle.tool_text.specs.Reading.{is_section_name};
-ghost use Rattle.command_objects.specs.Copied.{changes_names};
-ghost use Rattle.strip_removed.specs.Calls.{ReadsNames};
+ghost use Rattle.copy_changes.specs.command_objects.Copied.{changes_names};
+ghost use Rattle.copy_edits.specs.strip_removed.Calls.{ReadsNames};
 ghost use Rattle.strip_names.specs.Known.{known_at};
 ghost use Rattle.copy_changes.specs.Stated.{bytes_pair, HasPlainNames, stated_changes};
 ghost use Rattle.copy_names.specs.Texts.{all_texts, AreAdded, AddsTo};
@@ -14,12 +14,12 @@ ghost use Rattle.copy_names.specs.Stores.{IsBuilt, IsNaming};
 use crate::naming::{Naming, NewNames};
 use crate::placing::{Making, place_section, place_text};
 use copy_changes::{Changes, NameBytes};
-use elf_descriptor::Elf;
 use elf_outside::Source;
 use elf_types::{ElfError, List, ScnId};
-use shared_strings::{NOWHERE, SharedStrings};
+use object_making::prelude::Elf;
 use std::alloc::Global;
 use strip_names::KnownPlaces;
+use strip_names::prelude::{NOWHERE, SharedStrings};
 
 /// Adds the names of the sections from 1 on, and answers whether the table is not too large.
 fn place_sections<S: Source>(

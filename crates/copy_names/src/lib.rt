@@ -5,6 +5,7 @@
 mod building;
 mod naming;
 mod placing;
+pub mod prelude;
 mod storing;
 
 pub use building::{begin_table, changes_names, finish_names, place_added, plan_names};

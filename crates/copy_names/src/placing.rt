@@ -3,20 +3,20 @@
 ghost use Rattle.std.specs.Prelude.{◌≡◌, ◌≢◌, ◌<◌, ◌∷◌, ◌++◌, [], true, false, length, All, IsTrue, IfOk, OnOk, IfErr};
 ghost use Rattle.std.specs.Option.{option_copied};
 ghost use Rattle.elf_types.specs.declared.errors.ElfError.TheVariants.{Memory};
-ghost use Rattle.elf_object.specs.Strings as strings;
-ghost use Rattle.strip_removed.specs.Calls.{ReadsNames};
+ghost use Rattle.copy_changes.specs.elf_object.Strings as strings;
+ghost use Rattle.copy_edits.specs.strip_removed.Calls.{ReadsNames};
 ghost use Rattle.strip_names.specs.Known.{KnowsMore, NotesName, AreHeld};
 ghost use Rattle.strip_names.specs.Names.{is_too_large, old_name, IsAddedAt};
 ghost use Rattle.copy_changes.specs.Stated.{HasPlainNames};
 ghost use Rattle.copy_edits.specs.Names.{name_now};
 
 use copy_changes::Changes;
+use copy_edits::prelude::gelf_view_section_name as section_name;
 use copy_edits::{mark_of, new_name};
-use elf_descriptor::Elf;
 use elf_outside::Source;
 use elf_types::{ElfError, List, ScnId, Words};
-use gelf_view::section_name;
-use shared_strings::{NOWHERE, SharedStrings};
+use object_making::prelude::Elf;
+use strip_names::prelude::{NOWHERE, SharedStrings};
 use strip_names::{KnownPlaces, name_field, note_place, push_place};
 
 /// A table of names in the making.

@@ -2,19 +2,19 @@
 
 ghost use Rattle.std.specs.Prelude.{◌≡◌, ◌<◌, slice_get, unwrap_or, Ok, Err};
 ghost use Rattle.elf_xlate.specs.declared.content.Items.TheVariants as items;
-ghost use Rattle.elf_object.specs.Steps.{with_own};
-ghost use Rattle.elf_object.specs.Calls as calls;
-ghost use Rattle.elf_descriptor.specs.Edits.{stepped};
-ghost use Rattle.elf_object.specs.Sections.{header_at};
+ghost use Rattle.copy_changes.specs.elf_object.Steps.{with_own};
+ghost use Rattle.copy_changes.specs.elf_object.Calls as calls;
+ghost use Rattle.object_making.specs.elf_descriptor.Edits.{stepped};
+ghost use Rattle.copy_changes.specs.elf_object.Sections.{header_at};
 ghost use Rattle.copy_edits.specs.Steps.{IsThere, Alters};
 ghost use Rattle.copy_names.specs.Stores.{with_places, with_table, named_by, HasTable};
 
 use crate::naming::{Naming, NewNames};
 use copy_changes::CopyFault;
-use elf_descriptor::Elf;
 use elf_outside::Source;
 use elf_types::{DataId, ElfError, Octets, ScnId, Shdr, Words};
 use elf_xlate::Items;
+use object_making::prelude::Elf;
 
 /// The place of a section's name in a table, in bytes, and 0 where none is told.
 pub fn place_at(places: &Words, s: u32) -> u32

@@ -5,7 +5,7 @@ use Rattle.elf_types.specs.Answers.{or_refused, ◌>>=◌}
 use Rattle.elf_outside.specs.Names.{Map}
 use Rattle.tool_text.specs.declared.commands.NamedFile.{NamedFile}
 use Rattle.tool_output.specs.Made.{Complaint, complaint}
-use Rattle.command_outcomes.specs.Files.{bytes_named, bytes_of_each}
+use Rattle.strip_tool.specs.command_outcomes.Files.{bytes_named, bytes_of_each}
 use Rattle.copy_tool.specs.Files.{length_held, lengths_named, with_file, onto}
 
 abbrev pub NamedPairs : Type 0

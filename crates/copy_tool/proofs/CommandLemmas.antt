@@ -5,8 +5,8 @@ use Rattle.elf_outside.specs.Names.{Map}
 use Rattle.elf_outside.specs.declared.sinks.Sink.{Ghosts as SinkGhosts}
 use Rattle.elf_outside.specs.declared.file_sets.Files.{Ghosts as FilesGhosts}
 use Rattle.command_objects.specs.Copied.{Changes}
-use Rattle.command_outcomes.specs.Files.{bytes_of_each, object_named}
-use Rattle.command_outcomes.specs.Copy.{changes_with, copy_done, copy_outcome}
+use Rattle.strip_tool.specs.command_outcomes.Files.{bytes_of_each, object_named}
+use Rattle.strip_tool.specs.command_outcomes.Copy.{changes_with, copy_done, copy_outcome}
 use Rattle.tool_text.specs.declared.commands.CopyChanges.{CopyChanges}
 use Rattle.tool_output.specs.declared.stops.Stop.{Stop}
 use Rattle.tool_output.specs.declared.outputs.Outputs.{Outputs}
@@ -19,8 +19,8 @@ use Rattle.tool_output.specs.Made.{Done, Complaint, of_file, written_outcome}
 use Rattle.tool_output.proofs.StepLemmas.{writes_went, stops_as}
 use Rattle.tool_output.proofs.FileLemmas.{told_after}
 use Rattle.tool_output.proofs.MadeLemmas.{does_then, report_done, stopped_done}
-use Rattle.object_output.specs.Images.{file_object}
-use Rattle.object_writing.specs.Writes.{named_done}
+use Rattle.strip_tool.specs.object_output.Images.{file_object}
+use Rattle.strip_tool.specs.object_writing.Writes.{named_done}
 use Rattle.copy_tool.specs.Files.{ReadsFiles}
 use Rattle.copy_tool.specs.Words.{word_changes, words_due}
 use Rattle.copy_tool.specs.Writes.{copied_done}

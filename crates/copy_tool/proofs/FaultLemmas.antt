@@ -9,12 +9,12 @@ use Rattle.elf_outside.specs.declared.sources.Source.{Ghosts as SourceGhosts}
 use Rattle.elf_outside.specs.declared.sinks.Sink.{Ghosts as SinkGhosts}
 use Rattle.elf_outside.specs.declared.file_sets.Files.{Ghosts as FilesGhosts}
 use Rattle.elf_object.specs.Object.{Object}
-use Rattle.elf_descriptor.specs.State.{State}
+use Rattle.strip_tool.specs.elf_descriptor.State.{State}
 use Rattle.command_objects.specs.Arranged.{Rebuilt}
 use Rattle.command_objects.specs.Copied.{Changes, CopyFault as StatedFault, or_strip, copied}
 use Rattle.command_objects.specs.Copied.CopyFault.{NoSection, NoBytes, Allocated, Fixed, NoTable, Strip}
 use Rattle.command_objects.specs.Files.{file_of}
-use Rattle.command_outcomes.specs.Copy.{copy_text}
+use Rattle.strip_tool.specs.command_outcomes.Copy.{copy_text}
 use Rattle.tool_output.specs.declared.stops.Stop.{Stop}
 use Rattle.tool_output.specs.declared.stops.Stop.TheVariants as stops
 use Rattle.tool_output.specs.declared.outputs.Outputs.{Outputs}
@@ -26,13 +26,13 @@ use Rattle.tool_output.specs.Made.{Done, Complaint, made, complaint, of_file, wr
 use Rattle.tool_output.proofs.StepLemmas.{keeps_none}
 use Rattle.tool_output.proofs.FileLemmas.{totals_none}
 use Rattle.tool_output.proofs.OutcomeLemmas.{nothing_done}
-use Rattle.object_output.specs.Steps.{SourceRose}
-use Rattle.object_writing.specs.Writes.{WritesFile}
-use Rattle.object_writing.proofs.WriteLemmas.{DoesHere, outputs_leave, said_done}
+use Rattle.strip_tool.specs.object_output.Steps.{SourceRose}
+use Rattle.strip_tool.specs.object_writing.Writes.{WritesFile}
+use Rattle.strip_tool.proofs.object_writing.WriteLemmas.{DoesHere, outputs_leave, said_done}
 use Rattle.copy_changes.specs.declared.faults.CopyFault.{CopyFault}
 use Rattle.copy_changes.specs.declared.faults.CopyFault.TheVariants as faults
 use Rattle.copy_changes.specs.Stated.{stated_fault, outer_result}
-use Rattle.strip_contents.specs.declared.plans.RangedPlan.{RangedPlan}
+use Rattle.copy_contents.specs.strip_contents.declared.plans.RangedPlan.{RangedPlan}
 use Rattle.copy_contents.specs.Plans.{file_copied, StreamsCopied}
 use Rattle.copy_tool.specs.Faults.{named_text, copy_fault_text, fault_stop}
 use Rattle.copy_tool.specs.Writes.{made_done, copied_done, file_done}

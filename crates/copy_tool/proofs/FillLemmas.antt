@@ -8,8 +8,8 @@ use Rattle.tool_text.specs.declared.commands.CopyChanges.{CopyChanges}
 use Rattle.tool_text.specs.declared.commands.NamedFile.{NamedFile}
 use Rattle.tool_output.specs.declared.stops.Stop.{Stop}
 use Rattle.tool_output.specs.declared.outputs.Outputs.{Outputs}
-use Rattle.command_outcomes.specs.Copy.{changes_with}
-use Rattle.command_outcomes.specs.Files.{bytes_of_each}
+use Rattle.strip_tool.specs.command_outcomes.Copy.{changes_with}
+use Rattle.strip_tool.specs.command_outcomes.Files.{bytes_of_each}
 use Rattle.copy_tool.specs.Words.{added_changes}
 use Rattle.copy_tool.specs.Files.{ReadsFiles, length_held, lengths_named, with_file, onto}
 use Rattle.copy_tool.proofs.ByteLemmas.{NamedPairs, ReadPairs, SameMap, onto_none, each_same, with_file_same, read_upto, due_upto, upto_all, upto_left, due_left, upto_more, due_more}

@@ -10,7 +10,7 @@ use Rattle.tool_text.specs.Reading.{is_section_name}
 use Rattle.tool_text.specs.Forms.{HasNames}
 use Rattle.tool_output.specs.declared.stops.Stop.{Stop}
 use Rattle.tool_output.specs.declared.stops.Stop.TheVariants.{Memory}
-use Rattle.command_outcomes.specs.Copy.{changes_with}
+use Rattle.strip_tool.specs.command_outcomes.Copy.{changes_with}
 use Rattle.copy_changes.specs.declared.changes.NameBits.{NameBits}
 use Rattle.copy_changes.specs.declared.changes.NameBytes.{NameBytes}
 use Rattle.copy_changes.specs.Stated.{bytes_pair, bits_pair, stated_changes}

@@ -6,19 +6,19 @@ use Rattle.elf_outside.specs.declared.sources.Source.{Ghosts as SourceGhosts}
 use Rattle.elf_outside.specs.declared.sinks.Sink.{Ghosts as SinkGhosts}
 use Rattle.elf_outside.specs.declared.file_sets.Files.{Ghosts as FilesGhosts}
 use Rattle.elf_object.specs.Object.{Object}
-use Rattle.elf_descriptor.specs.State.{State}
+use Rattle.strip_tool.specs.elf_descriptor.State.{State}
 use Rattle.command_objects.specs.Arranged.{Rebuilt}
 use Rattle.command_objects.specs.Copied.{Changes, CopyFault, copied}
 use Rattle.command_objects.specs.Files.{file_of}
-use Rattle.command_outcomes.specs.Copy.{copy_text}
-use Rattle.command_outcomes.specs.Strip.{or_complaint}
+use Rattle.strip_tool.specs.command_outcomes.Copy.{copy_text}
+use Rattle.strip_tool.specs.command_outcomes.Strip.{or_complaint}
 use Rattle.tool_output.specs.declared.stops.Stop.{Stop}
 use Rattle.tool_output.specs.declared.outputs.Outputs.{Outputs}
 use Rattle.tool_output.specs.Outcomes.{write_of}
 use Rattle.tool_output.specs.Made.{Complaint, made, complaint, of_file, written_outcome}
-use Rattle.object_writing.specs.Writes.{written_done, image_done, WritesFile}
-use Rattle.object_writing.proofs.NamedLemmas.{unwritten, unwritten_image}
-use Rattle.strip_contents.specs.declared.plans.RangedPlan.{RangedPlan}
+use Rattle.strip_tool.specs.object_writing.Writes.{written_done, image_done, WritesFile}
+use Rattle.strip_tool.proofs.object_writing.NamedLemmas.{unwritten, unwritten_image}
+use Rattle.copy_contents.specs.strip_contents.declared.plans.RangedPlan.{RangedPlan}
 use Rattle.strip_tool.specs.Copies.{WritesImage, IsOverSource, plan_text}
 use Rattle.strip_tool.proofs.PlanLemmas.{plan_written}
 use Rattle.copy_contents.specs.Plans.{file_copied, StreamsCopied}

@@ -6,8 +6,8 @@ use Rattle.tool_text.specs.declared.commands.CopyChanges.{CopyChanges}
 use Rattle.tool_output.specs.Made.{Complaint}
 use Rattle.copy_changes.specs.declared.changes.NameBits.{NameBits}
 use Rattle.command_objects.specs.Copied.{Changes}
-use Rattle.command_outcomes.specs.Files.{bytes_of_each}
-use Rattle.command_outcomes.specs.Copy.{changes_with}
+use Rattle.strip_tool.specs.command_outcomes.Files.{bytes_of_each}
+use Rattle.strip_tool.specs.command_outcomes.Copy.{changes_with}
 use Rattle.copy_tool.specs.Files.{lengths_named}
 
 abbrev pub named_flags : List ℕ → ℕ → NameBits

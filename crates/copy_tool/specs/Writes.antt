@@ -5,9 +5,9 @@ use Rattle.elf_object.specs.Object.{Object}
 use Rattle.command_objects.specs.Arranged.{Rebuilt}
 use Rattle.command_objects.specs.Copied.{Changes, CopyFault, copied}
 use Rattle.tool_output.specs.Made.{Done, Complaint, made, complaint}
-use Rattle.command_outcomes.specs.Strip.{or_complaint}
-use Rattle.command_outcomes.specs.Copy.{copy_text}
-use Rattle.object_writing.specs.Writes.{written_done}
+use Rattle.strip_tool.specs.command_outcomes.Strip.{or_complaint}
+use Rattle.strip_tool.specs.command_outcomes.Copy.{copy_text}
+use Rattle.strip_tool.specs.object_writing.Writes.{written_done}
 
 -- what a command of copy is to do: its changes, and the file that it makes
 pub record Copying : Type 0 where

@@ -3,7 +3,7 @@
 ghost use Rattle.std.specs.Prelude.{◌≡◌, map, IfOk, IfErr};
 ghost use Rattle.elf_types.specs.declared.errors.ElfError.TheVariants.{Memory};
 ghost use Rattle.tool_text.specs.Forms.{HasNames};
-ghost use Rattle.command_outcomes.specs.Copy.{changes_with};
+ghost use Rattle.strip_tool.specs.command_outcomes.Copy.{changes_with};
 ghost use Rattle.copy_changes.specs.Stated.{bits_pair, stated_changes, HasPlainNames};
 ghost use Rattle.copy_tool.specs.Files.{named_bytes, pairs, byte_names, file_names};
 ghost use Rattle.copy_tool.specs.Words.{named_flags};

@@ -7,9 +7,9 @@ ghost use Rattle.tool_output.specs.Files.{LeavesFiles};
 ghost use Rattle.tool_output.specs.Made.{written_outcome};
 ghost use Rattle.tool_output.specs.Outcomes.{Does};
 ghost use Rattle.tool_output.specs.Statuses.{refused_status};
-ghost use Rattle.command_outcomes.specs.Copy.{copy_outcome};
-ghost use Rattle.object_output.specs.Images.{file_object};
-ghost use Rattle.object_writing.specs.Writes.{image_done, named_done};
+ghost use Rattle.strip_tool.specs.command_outcomes.Copy.{copy_outcome};
+ghost use Rattle.strip_tool.specs.object_output.Images.{file_object};
+ghost use Rattle.strip_tool.specs.object_writing.Writes.{image_done, named_done};
 ghost use Rattle.copy_changes.specs.Stated.{stated_changes, HasPlainNames};
 ghost use Rattle.copy_tool.specs.Writes.{copying_of, copied_done};
 
@@ -17,11 +17,9 @@ use crate::reading::read_changes;
 use crate::writing::write_copied;
 use copy_changes::Changes;
 use elf_outside::{Files, Sink, Source};
-use object_files::{FileEdit, edit_file};
-use object_output::begin_image;
-use object_writing::refuse_for;
 use std::alloc::Global;
 use std::marker::Model;
+use strip_tool::prelude::{FileEdit, begin_image, edit_file, refuse_for};
 use tool_output::{Outputs, Stop};
 use tool_text::CopyChanges;
 

@@ -2,7 +2,7 @@
 
 ghost use Rattle.std.specs.Prelude.{◌≡◌, Some, Ok, IfOk, IfErr, IfSome, OnOk};
 ghost use Rattle.tool_text.specs.Forms.{HasNames};
-ghost use Rattle.command_outcomes.specs.Copy.{changes_with};
+ghost use Rattle.strip_tool.specs.command_outcomes.Copy.{changes_with};
 ghost use Rattle.copy_changes.specs.Stated.{stated_changes, HasPlainNames};
 ghost use Rattle.copy_tool.specs.Files.{ReadsFiles, lengths_named, pairs, byte_names, file_names, seen_in};
 ghost use Rattle.copy_tool.specs.Words.{added_changes, word_changes, words_due};

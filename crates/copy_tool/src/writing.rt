@@ -3,19 +3,19 @@
 ghost use Rattle.std.specs.Prelude.{◌≡◌, codes, false, IsTrue};
 ghost use Rattle.elf_object.specs.Object.{is_dirty};
 ghost use Rattle.elf_object.specs.Valid.{IsTied};
-ghost use Rattle.strip_laws.specs.Made.{FitsClass};
+ghost use Rattle.copy_contents.specs.strip_laws.Made.{FitsClass};
 ghost use Rattle.strip_tool.specs.Copies.{IsOverSource};
 ghost use Rattle.tool_output.specs.Made.{written_outcome};
-ghost use Rattle.object_writing.specs.Writes.{WritesFile};
+ghost use Rattle.strip_tool.specs.object_writing.Writes.{WritesFile};
 ghost use Rattle.copy_changes.specs.Stated.{stated_changes, HasPlainNames};
 ghost use Rattle.copy_tool.specs.Writes.{copied_done};
 
 use crate::faults::refuse_fault;
 use copy_changes::Changes;
 use copy_contents::plan_copied;
-use elf_descriptor::Elf;
 use elf_outside::{Files, Sink, Source};
 use std::alloc::Global;
+use strip_tool::prelude::Elf;
 use strip_tool::write_plan;
 use tool_output::{Outputs, Stop};
 

@@ -11,15 +11,15 @@ use Rattle.elf_object.specs.Object.{Object}
 use Rattle.elf_object.specs.Calls.{newphdr_refusal}
 use Rattle.elf_object.specs.Layout.{section_numbers}
 use Rattle.elf_object.specs.Valid.{IsObject}
-use Rattle.elf_descriptor.specs.State.{State}
-use Rattle.update_plan.proofs.PlacingLaws.{passed_from}
+use Rattle.debug_half.specs.elf_descriptor.State.{State}
+use Rattle.debug_half.proofs.update_plan.PlacingLaws.{passed_from}
 use Rattle.command_objects.specs.Rebuilt.{index_refusal}
 use Rattle.command_objects.specs.Split.{debug_section, debug_sections, debug_raw_refusal, debug_refusal}
-use Rattle.object_making.specs.Refused.{RefusedBy}
-use Rattle.object_making.proofs.AddLaws.{newphdr_states}
-use Rattle.object_making.proofs.RefusedLaws.{alone, passes_first, refused_first, refused_later, refused_as, answer_refused, passed_more, passed_all}
-use Rattle.image_ranges.specs.declared.ranges.ByteRange.{ByteRange}
-use Rattle.strip_rebuild.proofs.FillLaws.{none_passed}
+use Rattle.debug_half.specs.object_making.Refused.{RefusedBy}
+use Rattle.debug_half.proofs.object_making.AddLaws.{newphdr_states}
+use Rattle.debug_half.proofs.object_making.RefusedLaws.{alone, passes_first, refused_first, refused_later, refused_as, answer_refused, passed_more, passed_all}
+use Rattle.strip_contents.specs.image_ranges.declared.ranges.ByteRange.{ByteRange}
+use Rattle.debug_half.proofs.strip_rebuild.FillLaws.{none_passed}
 use Rattle.strip_contents.specs.declared.contents.Contents.{Contents}
 use Rattle.strip_contents.specs.Checks.{index_beyond}
 use Rattle.strip_contents.specs.Contents.{HasOneMore, IsPutBehind, AreKept, HasFirst}

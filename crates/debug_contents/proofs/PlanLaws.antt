@@ -12,16 +12,16 @@ use Rattle.elf_object.specs.Object.{Object, section_at, new_section}
 use Rattle.elf_object.specs.Layout.{section_numbers}
 use Rattle.elf_object.specs.Valid.{IsObject}
 use Rattle.object_laws.proofs.KeepLaws.{section_at_is}
-use Rattle.elf_descriptor.specs.State.{State}
+use Rattle.debug_half.specs.elf_descriptor.State.{State}
 use Rattle.command_objects.specs.Arranged.{over_base}
 use Rattle.command_objects.specs.Files.{file_of}
 use Rattle.command_objects.specs.Rebuilt.{assembled}
 use Rattle.command_objects.specs.Split.{is_loaded_from_file, debug_sections, debug_half, debug_refusal, debug_of}
 use Rattle.elf_object.specs.Sections.{header_at}
-use Rattle.object_making.specs.Making.{sections_by}
-use Rattle.strip_laws.specs.Made.{FitsClass}
-use Rattle.strip_laws.proofs.HalfLaws.{debug_is_object, halves_are_writable}
-use Rattle.strip_laws.proofs.MadeSections.{bytes_encoded}
+use Rattle.debug_half.specs.object_making.Making.{sections_by}
+use Rattle.strip_contents.specs.strip_laws.Made.{FitsClass}
+use Rattle.strip_contents.proofs.strip_laws.HalfLaws.{debug_is_object, halves_are_writable}
+use Rattle.strip_contents.proofs.strip_laws.MadeSections.{bytes_encoded}
 use Rattle.strip_contents.specs.declared.arranged.Arranged.{Arranged}
 use Rattle.strip_contents.specs.declared.contents.Contents.{Contents}
 use Rattle.strip_contents.specs.declared.plans.RangedPlan.{RangedPlan}

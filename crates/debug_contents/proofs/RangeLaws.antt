@@ -9,11 +9,11 @@ use Rattle.elf_types.specs.declared.errors.ElfError.TheVariants.{OutOfFile}
 use Rattle.elf_object.specs.Object.{section_at, is_dirty}
 use Rattle.elf_object.specs.Answers.{raw_refusal}
 use Rattle.elf_object.specs.Valid.{IsObject, IsTied}
-use Rattle.elf_descriptor.specs.State.{State}
+use Rattle.debug_half.specs.elf_descriptor.State.{State}
 use Rattle.elf_object.specs.Sections.{header_at}
 use Rattle.command_objects.specs.Split.{is_loaded_from_file}
-use Rattle.image_ranges.specs.declared.ranges.ByteRange.{ByteRange}
-use Rattle.strip_rebuild.proofs.HomeLaws.{raw_there}
+use Rattle.strip_contents.specs.image_ranges.declared.ranges.ByteRange.{ByteRange}
+use Rattle.debug_half.proofs.strip_rebuild.HomeLaws.{raw_there}
 use Rattle.strip_contents.specs.Ranges.{FindsHome, IsRangeOf}
 use Rattle.strip_contents.proofs.RangeLaws.{home_is}
 use Rattle.debug_contents.specs.Ranges.{half_bytes, FindsHalf}

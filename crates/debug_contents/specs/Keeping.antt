@@ -4,9 +4,9 @@ use Rattle.std.specs.Prelude.{◌≡◌, ℕ, length, map, None, Result, IfOk, I
 use Rattle.elf_types.specs.Answers.{first_refusal}
 use Rattle.elf_types.specs.declared.errors.ElfError.{ElfError}
 use Rattle.elf_object.specs.Layout.{section_numbers}
-use Rattle.elf_descriptor.specs.State.{State}
+use Rattle.debug_half.specs.elf_descriptor.State.{State}
 use Rattle.command_objects.specs.Split.{debug_raw_refusal, debug_refusal}
-use Rattle.object_making.specs.Refused.{RefusedBy}
+use Rattle.debug_half.specs.object_making.Refused.{RefusedBy}
 use Rattle.strip_contents.specs.declared.contents.Contents.{Contents}
 use Rattle.strip_contents.specs.Contents.{HasOneMore, AreKept, HasKept}
 use Rattle.debug_half.specs.Half.{half_header}

@@ -2,7 +2,7 @@
 use Rattle.std.specs.Prelude.{ℕ, Result, IsTrue}
 use Rattle.elf_types.specs.declared.errors.ElfError.{ElfError}
 use Rattle.elf_outside.specs.Asks.{ReadRose}
-use Rattle.elf_descriptor.specs.State.{State}
+use Rattle.debug_half.specs.elf_descriptor.State.{State}
 use Rattle.command_objects.specs.Files.{file_of}
 use Rattle.command_objects.specs.Split.{debug_half}
 use Rattle.strip_contents.specs.declared.plans.RangedPlan.{RangedPlan}

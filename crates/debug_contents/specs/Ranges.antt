@@ -3,11 +3,11 @@
 use Rattle.std.specs.Prelude.{◌≡◌, ℕ, List, [], None, Result, IfOk, IfErr, OnOk, if◌then◌else◌}
 use Rattle.elf_types.specs.declared.errors.ElfError.{ElfError}
 use Rattle.elf_object.specs.Object.{Object, section_at}
-use Rattle.elf_descriptor.specs.State.{State}
+use Rattle.debug_half.specs.elf_descriptor.State.{State}
 use Rattle.elf_object.specs.Sections.{header_at}
 use Rattle.command_objects.specs.Split.{is_loaded_from_file, debug_raw_refusal}
-use Rattle.object_making.specs.Refused.{RefusedBy}
-use Rattle.image_ranges.specs.declared.ranges.ByteRange.{ByteRange}
+use Rattle.debug_half.specs.object_making.Refused.{RefusedBy}
+use Rattle.strip_contents.specs.image_ranges.declared.ranges.ByteRange.{ByteRange}
 use Rattle.strip_contents.specs.Ranges.{IsRangeOf}
 
 -- the bytes that it has: none where it is loaded of the file

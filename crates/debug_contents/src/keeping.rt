@@ -9,10 +9,9 @@ ghost use Rattle.debug_contents.specs.Keeping.{AddsHalf, AddsHalves, ListsHalf, 
 
 use crate::ranges::half_range;
 use debug_half::HalfMaker;
-use elf_descriptor::Elf;
+use debug_half::prelude::{Elf, SectionMaker};
 use elf_outside::Source;
 use elf_types::{ElfError, ScnId, Shdr};
-use object_making::SectionMaker;
 use std::alloc::Global;
 use strip_contents::{Contents, check_index, check_segments};
 

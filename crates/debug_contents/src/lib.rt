@@ -5,6 +5,7 @@
 
 mod keeping;
 mod planning;
+pub mod prelude;
 mod ranges;
 
 pub use keeping::keep_half;

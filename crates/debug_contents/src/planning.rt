@@ -3,11 +3,11 @@
 ghost use Rattle.std.specs.Prelude.{◌≡◌, None};
 ghost use Rattle.command_objects.specs.Split.{debug_refusal};
 ghost use Rattle.elf_object.specs.Valid.{IsObject};
-ghost use Rattle.strip_laws.specs.Made.{FitsClass};
+ghost use Rattle.strip_contents.specs.strip_laws.Made.{FitsClass};
 ghost use Rattle.debug_contents.specs.Keeping.{HasHalf};
 ghost use Rattle.debug_contents.specs.Planning.{PlansHalf};
 
-use elf_descriptor::Elf;
+use debug_half::prelude::Elf;
 use elf_outside::Source;
 use elf_types::ElfError;
 use std::alloc::Global;

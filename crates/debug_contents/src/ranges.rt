@@ -6,11 +6,11 @@ ghost use Rattle.elf_object.specs.Valid.{IsObject, IsTied};
 ghost use Rattle.debug_contents.specs.Ranges.{FindsHalf};
 
 use debug_half::is_loaded_from_file;
-use elf_descriptor::Elf;
+use debug_half::prelude::Elf;
 use elf_outside::Source;
 use elf_types::{ElfError, ScnId};
-use image_ranges::ByteRange;
 use strip_contents::home_range;
+use strip_contents::prelude::ByteRange;
 
 /// The range of the bytes that a section that is there has in the debug half: of none where it is
 /// loaded of the file, and else its home. It refuses `OutOfFile` alone, of one that keeps its

@@ -13,15 +13,15 @@ use Rattle.elf_object.specs.Object.{Object, Section, section_at, new_section}
 use Rattle.elf_object.specs.Due.{homes_due}
 use Rattle.elf_object.specs.Layout.{section_numbers}
 use Rattle.elf_object.specs.Words.{result_map}
-use Rattle.elf_descriptor.specs.State.{State}
+use Rattle.strip_rebuild.specs.elf_descriptor.State.{State}
 use Rattle.command_objects.specs.Arranged.{over_base}
 use Rattle.command_objects.specs.Followed.{kept_from_1}
 use Rattle.elf_object.specs.Sections.{header_at}
 use Rattle.command_objects.specs.Rebuilt.{made_section, assembled}
 use Rattle.command_objects.specs.Split.{is_loaded_from_file, debug_section, debug_sections, debug_half, debug_raw_refusal, debug_refusal, debug_of}
-use Rattle.object_making.specs.Based.{IsMadeOver}
-use Rattle.object_making.specs.Making.{sections_by}
-use Rattle.object_making.specs.Refused.{UnreadBy}
+use Rattle.strip_rebuild.specs.object_making.Based.{IsMadeOver}
+use Rattle.strip_rebuild.specs.object_making.Making.{sections_by}
+use Rattle.strip_rebuild.specs.object_making.Refused.{UnreadBy}
 use Rattle.strip_rebuild.specs.Makes.{AsksFor}
 use Rattle.strip_rebuild.specs.Answers.{RebuildAnswers, filled_sections, filled_refusal, IsFilled}
 use Rattle.strip_rebuild.proofs.AskLaws.{asks_as, asks_stop}

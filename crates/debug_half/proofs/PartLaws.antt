@@ -12,11 +12,11 @@ use Rattle.elf_xlate.specs.Translation.{first_unfit}
 use Rattle.elf_object.specs.Object.{Object, section_at}
 use Rattle.elf_object.specs.Answers.{raw_refusal}
 use Rattle.elf_object.specs.Valid.{IsObject}
-use Rattle.elf_descriptor.specs.State.{State}
+use Rattle.strip_rebuild.specs.elf_descriptor.State.{State}
 use Rattle.object_laws.proofs.KeepLaws.{section_at_is}
 use Rattle.elf_object.specs.Sections.{header_at}
 use Rattle.command_objects.specs.Split.{is_loaded_from_file, debug_raw_refusal}
-use Rattle.object_making.proofs.LookLaws.{looks_as, at_none}
+use Rattle.strip_rebuild.proofs.object_making.LookLaws.{looks_as, at_none}
 use Rattle.strip_rebuild.specs.Makes.{Makes, FitsAs}
 use Rattle.strip_rebuild.specs.Homes.{bytes_at_home}
 use Rattle.strip_rebuild.proofs.MakeLaws.{makes_as}

@@ -3,9 +3,9 @@ use Rattle.std.specs.Prelude.{◌≡◌, None, Result, IsTrue, OnOk, IfErr}
 use Rattle.elf_types.specs.declared.errors.ElfError.{ElfError}
 use Rattle.elf_outside.specs.declared.sources.Source.{Ghosts}
 use Rattle.elf_object.specs.Object.{Object}
-use Rattle.elf_descriptor.specs.State.{State}
+use Rattle.strip_rebuild.specs.elf_descriptor.State.{State}
 use Rattle.command_objects.specs.Split.{debug_of, debug_refusal}
-use Rattle.object_making.specs.Refused.{UnreadBy}
+use Rattle.strip_rebuild.specs.object_making.Refused.{UnreadBy}
 use Rattle.strip_rebuild.specs.Answers.{RebuildAnswers}
 use Rattle.strip_rebuild.specs.Makes.{AsksFor}
 use Rattle.debug_half.specs.Half.{half_due}

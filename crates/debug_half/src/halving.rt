@@ -5,20 +5,19 @@ ghost use Rattle.elf_object.specs.Object.{is_dirty};
 ghost use Rattle.elf_object.specs.Words.{result_map};
 ghost use Rattle.command_objects.specs.Followed.{kept_from_1};
 ghost use Rattle.command_objects.specs.Split.{debug_of, debug_refusal};
-ghost use Rattle.object_making.specs.Based.{IsMadeOver};
-ghost use Rattle.object_making.specs.Refused.{UnreadBy};
+ghost use Rattle.strip_rebuild.specs.object_making.Based.{IsMadeOver};
+ghost use Rattle.strip_rebuild.specs.object_making.Refused.{UnreadBy};
 ghost use Rattle.strip_rebuild.specs.Answers.{RebuildAnswers};
 ghost use Rattle.strip_rebuild.specs.Makes.{AsksFor};
 ghost use Rattle.debug_half.specs.Half.{half_due};
 ghost use Rattle.debug_half.specs.Answers.{Halves};
 
 use crate::making::HalfMaker;
-use elf_descriptor::Elf;
 use elf_outside::{NoSource, Source};
 use elf_types::ElfError;
 use std::alloc::Global;
+use strip_rebuild::prelude::{Elf, SectionSet};
 use strip_rebuild::{fill, kept_numbers};
-use strip_removed::SectionSet;
 
 /// Fills an object that was created over no base with the debug half of another one.
 fn fill_half<S: Source>(

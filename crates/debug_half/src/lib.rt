@@ -4,6 +4,7 @@
 
 mod halving;
 mod making;
+pub mod prelude;
 
 pub use halving::debug_of;
 pub use making::{HalfMaker, is_loaded_from_file};

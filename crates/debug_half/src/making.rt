@@ -5,15 +5,13 @@ ghost use Rattle.command_objects.specs.Split.{is_loaded_from_file, debug_raw_ref
 ghost use Rattle.strip_rebuild.specs.Makes.{Makes, FitsAs};
 ghost use Rattle.debug_half.specs.Half.{half_header, half_items, half_reads};
 
-use elf_descriptor::Elf;
 use elf_object::occupies_file;
 use elf_outside::Source;
 use elf_types::constants::SHT_NOBITS;
 use elf_types::{ElfError, Octets, ScnId, Shdr};
 use elf_xlate::Items;
-use object_making::SectionMaker;
 use strip_rebuild::bytes_at_home;
-use strip_removed::is_allocated;
+use strip_rebuild::prelude::{Elf, SectionMaker, strip_removed_is_allocated as is_allocated};
 
 /// Whether a section is allocated and has bytes in the file.
 ///

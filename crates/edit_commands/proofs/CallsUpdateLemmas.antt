@@ -25,7 +25,7 @@ use Rattle.tool_output.specs.Made.{made_file}
 use Rattle.tool_output.proofs.StepLemmas.{writes_went, stops_as}
 use Rattle.tool_output.proofs.OutcomeLemmas.{reads_done}
 use Rattle.tool_output.proofs.MadeLemmas.{does_then, stopped_done}
-use Rattle.object_output.specs.Images.{file_object}
+use Rattle.command_outcomes.specs.object_output.Images.{file_object}
 use Rattle.object_files.specs.Edits.{edited_outcome}
 use Rattle.object_files.proofs.ChangeSteps.{other_write}
 use Rattle.calls_script.specs.declared.calls.Call.{Call}

@@ -11,7 +11,7 @@ use Rattle.tool_output.specs.Steps.{Performs}
 use Rattle.tool_output.specs.Reports.{Report, refusal_report}
 use Rattle.tool_output.specs.Files.{report_on, asks_on, both_bounds, IsWithin, OnlyReads, LeavesFiles}
 use Rattle.tool_output.specs.Outcomes.{Outcome, report_outcome}
-use Rattle.object_output.specs.Images.{file_object}
+use Rattle.command_outcomes.specs.object_output.Images.{file_object}
 use Rattle.calls_script.specs.declared.calls.Call.{Call}
 use Rattle.calls_tool.specs.Scripts.{script_calls, calls_or_text, script_report, calls_if_any}
 use Rattle.calls_tool.specs.Files.{calls_file_report, calls_asks}

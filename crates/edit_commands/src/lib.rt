@@ -3,6 +3,7 @@
 #![tactic(auto)]
 
 mod commands;
+pub mod prelude;
 
 pub use commands::calls::calls;
 pub use commands::calls_into::calls_into;

@@ -5,10 +5,10 @@ use Rattle.elf_types.specs.Answers.{◌>>=◌}
 use Rattle.elf_outside.specs.Counts.{Rose}
 use Rattle.elf_outside.specs.declared.sources.Source.{Ghosts}
 use Rattle.elf_object.specs.Object.{Object}
-use Rattle.elf_descriptor.specs.State.{State}
+use Rattle.strip_rebuild.specs.elf_descriptor.State.{State}
 use Rattle.elf_object.specs.Sections.{in_turn}
 use Rattle.command_objects.specs.Copied.{Changes as StatedChanges, CopyFault as StatedFault, names_in, with_bytes, with_name, with_changes}
-use Rattle.strip_removed.specs.Calls.{ReadsNames}
+use Rattle.copy_edits.specs.strip_removed.Calls.{ReadsNames}
 use Rattle.copy_changes.specs.declared.changes.Changes.{Changes}
 use Rattle.copy_changes.specs.declared.faults.CopyFault.{CopyFault}
 use Rattle.copy_changes.specs.declared.faults.CopyFault.TheVariants as faults

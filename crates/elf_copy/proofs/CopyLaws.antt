@@ -9,15 +9,15 @@ use Rattle.elf_outside.specs.declared.sources.Source.{Ghosts}
 use Rattle.elf_object.specs.Object.{Object}
 use Rattle.elf_object.specs.Due.{homes_due}
 use Rattle.elf_object.specs.Words.{Wants, Answers}
-use Rattle.elf_descriptor.specs.State.{State}
-use Rattle.elf_descriptor.specs.Reads.{Queries}
+use Rattle.strip_rebuild.specs.elf_descriptor.State.{State}
+use Rattle.strip_rebuild.specs.elf_descriptor.Reads.{Queries}
 use Rattle.command_objects.specs.Arranged.{Rebuilt}
 use Rattle.command_objects.specs.Rebuilt.{rebuilt, renews_names}
 use Rattle.command_objects.specs.Removed.{with_found, with_followers, is_named, removed_by_name}
 use Rattle.command_objects.specs.Copied.{Changes, CopyFault as StatedFault, or_strip, copied}
-use Rattle.strip_removed.specs.Calls as calls
-use Rattle.strip_removed.specs.Steps.{IsRemovable}
-use Rattle.strip_removed.proofs.TopLaws.{are_removable}
+use Rattle.copy_edits.specs.strip_removed.Calls as calls
+use Rattle.copy_edits.specs.strip_removed.Steps.{IsRemovable}
+use Rattle.copy_edits.proofs.strip_removed.TopLaws.{are_removable}
 use Rattle.strip_rebuild.specs.declared.rebuilding.Rebuilt.{Rebuilt as Made}
 use Rattle.strip_rebuild.specs.Answers.{RebuildAnswers, EarlyBy, early_refusal, rebuild_due}
 use Rattle.strip_rebuild.specs.Makes.{AsksFor}

@@ -8,8 +8,8 @@ use Rattle.elf_types.specs.declared.errors.ElfError.{ElfError}
 use Rattle.elf_types.specs.declared.errors.ElfError.TheVariants.{Memory, Read, Write, TooLarge, NoSection, Unfit}
 use Rattle.elf_types.specs.declared.records.Part.TheVariants as part
 use Rattle.elf_types.specs.Answers.{refused_if, first_refusal, answered, FollowsBy, ◌>>=◌}
-use Rattle.elf_descriptor.specs.State.{State}
-use Rattle.elf_descriptor.specs.Edits.{StepsTo}
+use Rattle.strip_rebuild.specs.elf_descriptor.State.{State}
+use Rattle.strip_rebuild.specs.elf_descriptor.Edits.{StepsTo}
 use Rattle.elf_object.specs.Object.{Object, Section}
 use Rattle.elf_object.specs.Calls.{update_ehdr_refusal}
 use Rattle.elf_object.specs.Steps.{stored_ehdr}
@@ -19,9 +19,9 @@ use Rattle.command_objects.specs.Followed.{Renumbering, renumbering, kept_sectio
 use Rattle.command_objects.specs.Arranged.{Rebuilt, arranged, tail_refusal, placed_from, parts_from}
 use Rattle.command_objects.specs.Rebuilt.{rebuilt, rebuilt_object, rebuilt_sections, rebuilt_index, rebuilt_tail, renews_names, index_refusal}
 use Rattle.command_objects.specs.Copied.{Changes, CopyFault as StatedFault, or_strip, with_changes}
-use Rattle.object_making.specs.Placing.{made_of, arranged_refusal, placed_state, arranged_state}
+use Rattle.copy_edits.specs.object_making.Placing.{made_of, arranged_refusal, placed_state, arranged_state}
 use Rattle.elf_layout.specs.Layout.{some_above, limit_of}
-use Rattle.strip_removed.specs.Steps.{IsRemovable}
+use Rattle.copy_edits.specs.strip_removed.Steps.{IsRemovable}
 use Rattle.strip_rebuild.proofs.NumberLaws.{zero_stays, kept_with_0}
 use Rattle.strip_laws.proofs.RebuiltLaws.{rebuilt_known}
 use Rattle.copy_laws.proofs.Reopened.{front_is}

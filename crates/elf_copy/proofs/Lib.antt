@@ -1,3 +1,4 @@
+pub use Rattle.strip_rebuild.proofs as strip_rebuild
 pub mod NamingLaws
 pub mod ChangeLaws
 pub mod FinishLaws

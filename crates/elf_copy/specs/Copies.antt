@@ -6,15 +6,15 @@ use Rattle.elf_types.specs.Answers.{FollowsBy, ◌>>=◌}
 use Rattle.elf_outside.specs.declared.sources.Source.{Ghosts}
 use Rattle.elf_object.specs.Object.{Object}
 use Rattle.elf_object.specs.Due.{homes_due}
-use Rattle.elf_descriptor.specs.State.{State}
+use Rattle.strip_rebuild.specs.elf_descriptor.State.{State}
 use Rattle.elf_object.specs.Sections.{in_turn}
 use Rattle.command_objects.specs.Arranged.{Rebuilt, arranged}
 use Rattle.command_objects.specs.Rebuilt.{rebuilt, renews_names}
 use Rattle.command_objects.specs.Removed.{removed_by_name}
 use Rattle.command_objects.specs.Copied.{Changes, CopyFault as StatedFault, or_strip, names_in, with_name, with_section_flags, with_added, named, changes_names, with_changes, copied}
-use Rattle.object_making.specs.Placing.{made_of}
-use Rattle.strip_removed.specs.Calls.{names_home}
-use Rattle.strip_removed.specs.Steps.{IsRemovable}
+use Rattle.copy_edits.specs.object_making.Placing.{made_of}
+use Rattle.copy_edits.specs.strip_removed.Calls.{names_home}
+use Rattle.copy_edits.specs.strip_removed.Steps.{IsRemovable}
 use Rattle.strip_rebuild.specs.declared.rebuilding.Rebuilt.{Rebuilt as Made}
 use Rattle.strip_rebuild.specs.Answers.{EarlyBy, early_refusal, rebuild_due}
 use Rattle.strip_rebuild.specs.Makes.{AsksFor}

@@ -1,1 +1,2 @@
+pub use Rattle.strip_rebuild.specs as strip_rebuild
 pub mod Copies

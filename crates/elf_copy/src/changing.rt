@@ -11,10 +11,10 @@ ghost use Rattle.elf_copy.specs.Copies.{added_named, flagged_named, after_names,
 use copy_changes::{Changes, CopyFault};
 use copy_edits::{add_sections, flag_sections, rename_sections, update_sections};
 use copy_names::{Naming, plan_names, store_names};
-use elf_descriptor::Elf;
 use elf_outside::NoSource;
 use elf_types::List;
 use std::alloc::Global;
+use strip_rebuild::prelude::Elf;
 
 /// A fault in place of names, which are dropped.
 fn refuse_names(_naming: Naming, fault: CopyFault) -> Result<(), CopyFault>

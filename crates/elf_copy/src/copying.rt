@@ -2,20 +2,18 @@
 
 ghost use Rattle.std.specs.Prelude.{◌≡◌, ◌⊎◌, ◌<◌, false, true, length, IsTrue};
 ghost use Rattle.elf_object.specs.Object.{is_dirty};
-ghost use Rattle.strip_removed.specs.Steps.{IsRemovable};
+ghost use Rattle.copy_edits.specs.strip_removed.Steps.{IsRemovable};
 ghost use Rattle.copy_changes.specs.Stated.{HasPlainNames, stated_changes};
 ghost use Rattle.elf_copy.specs.Copies.{placed, changed_placed, seen_parts, seen_made, usable_at, IsUsable, IsChecked, Places, Finishes, CopiesWithout, Copies};
 
 use crate::changing::make_changes;
 use copy_changes::{Changes, CopyFault};
-use elf_descriptor::Elf;
+use copy_edits::prelude::{SectionSet, arrange, removed_by_name};
 use elf_outside::{NoSource, Source};
 use elf_types::ElfError;
-use object_making::arrange;
 use std::alloc::Global;
-use strip_kept::renews_names;
+use strip_rebuild::prelude::{Elf, renews_names};
 use strip_rebuild::{Rebuilt, rebuild};
-use strip_removed::{SectionSet, removed_by_name};
 
 /// Gives what is not loaded its places behind a tail.
 fn place(elf: &mut Elf<NoSource>, tail: Option<u64>) -> Result<(), CopyFault>

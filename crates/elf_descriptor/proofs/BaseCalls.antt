@@ -3,8 +3,8 @@ use Rattle.std.proofs.Common.{◌≡◌, ◌+◌, ◌-◌, ◌<◌, ◌≤◌, �
 use Rattle.std.specs.Prelude.{IsTrue, IfSome, OnOk, is_some, if◌then◌else◌}
 use Rattle.std.proofs.lemmas.List.{drop-take, take-take}
 use Rattle.elf_types.specs.declared.errors.ElfError.{ElfError}
-use Rattle.elf_object.specs.Open.{home_bytes}
-use Rattle.section_data.specs.Views.{CellView}
+use Rattle.section_table.specs.elf_object.Open.{home_bytes}
+use Rattle.section_table.specs.section_data.Views.{CellView}
 use Rattle.elf_descriptor.specs.declared.body.Body.{Body}
 use Rattle.elf_descriptor.specs.declared.body.Base.{Base}
 use Rattle.elf_descriptor.specs.declared.body.Base.TheVariants as bases

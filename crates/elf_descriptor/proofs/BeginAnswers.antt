@@ -7,14 +7,14 @@ use Rattle.elf_types.specs.declared.constants.TheConstants.{MAX_IMAGE}
 use Rattle.elf_types.specs.declared.errors.ElfError.{ElfError}
 use Rattle.elf_types.specs.declared.errors.ElfError.TheVariants.{Memory}
 use Rattle.elf_types.specs.Answers.{Follows, stated_refusal}
-use Rattle.elf_outside.specs.declared.sources.Source.{Ghosts}
-use Rattle.elf_outside.specs.Asks.{Asks, ReadRose}
-use Rattle.elf_outside.proofs.AskLemmas.{asks_then}
-use Rattle.elf_ident.specs.declared.fronts.Front.{Front}
-use Rattle.elf_ident.specs.Front.{front}
-use Rattle.elf_ident.specs.Reading.{IsFittingFront, IsCounted, HasTables}
-use Rattle.elf_object.specs.Object.{Object, is_dirty, some_section_marked, some_piece_marked}
-use Rattle.elf_object.specs.Open.{begun, begun_or_refused, opened, opened_section}
+use Rattle.section_table.specs.elf_outside.declared.sources.Source.{Ghosts}
+use Rattle.section_table.specs.elf_outside.Asks.{Asks, ReadRose}
+use Rattle.section_table.proofs.elf_outside.AskLemmas.{asks_then}
+use Rattle.section_table.specs.elf_ident.declared.fronts.Front.{Front}
+use Rattle.section_table.specs.elf_ident.Front.{front}
+use Rattle.section_table.specs.elf_ident.Reading.{IsFittingFront, IsCounted, HasTables}
+use Rattle.section_table.specs.elf_object.Object.{Object, is_dirty, some_section_marked, some_piece_marked}
+use Rattle.section_table.specs.elf_object.Open.{begun, begun_or_refused, opened, opened_section}
 use Rattle.elf_descriptor.specs.State.{State}
 use Rattle.elf_descriptor.specs.Views.{source_bytes}
 use Rattle.elf_descriptor.specs.Begun.{begun_state, begun_answer, source_after, IsBegun}

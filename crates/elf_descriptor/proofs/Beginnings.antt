@@ -11,19 +11,19 @@ use Rattle.elf_types.specs.declared.records.Class.{Class}
 use Rattle.elf_types.specs.declared.records.Order.{Order}
 use Rattle.elf_types.specs.declared.records.Shdr.{Shdr}
 use Rattle.elf_types.specs.declared.records.Ehdr.{Ehdr}
-use Rattle.elf_xlate.specs.Headers.{HasNarrowCounts, ehdr_fits}
-use Rattle.elf_outside.specs.declared.sources.Source.{Ghosts}
-use Rattle.elf_ident.specs.declared.fronts.Front.{Front}
-use Rattle.elf_ident.specs.Reading.{IsFittingFront, IsCounted}
-use Rattle.elf_object.specs.Object.{Object, Section, Home, home_piece}
-use Rattle.elf_object.specs.Open.{standing_header, begun, opened, opened_section, home_of, home_bytes}
+use Rattle.section_table.specs.elf_xlate.Headers.{HasNarrowCounts, ehdr_fits}
+use Rattle.section_table.specs.elf_outside.declared.sources.Source.{Ghosts}
+use Rattle.section_table.specs.elf_ident.declared.fronts.Front.{Front}
+use Rattle.section_table.specs.elf_ident.Reading.{IsFittingFront, IsCounted}
+use Rattle.section_table.specs.elf_object.Object.{Object, Section, Home, home_piece}
+use Rattle.section_table.specs.elf_object.Open.{standing_header, begun, opened, opened_section, home_of, home_bytes}
 use Rattle.elf_types.specs.Lists.{AreBytes}
-use Rattle.object_laws.specs.Laws.{BegunFits, BeginningsAreTied}
+use Rattle.writing_laws.specs.object_laws.Laws.{BegunFits, BeginningsAreTied}
 use Rattle.writing_laws.specs.Based.{BeginningsAreBased}
-use Rattle.section_data.specs.Views.{CellView, opened_cell}
-use Rattle.section_data.specs.Held.{cell_is_loaded}
-use Rattle.section_data.specs.Leaves.{LiesIn}
-use Rattle.section_data.proofs.Loading.{opened_lies}
+use Rattle.section_table.specs.section_data.Views.{CellView, opened_cell}
+use Rattle.section_table.specs.section_data.Held.{cell_is_loaded}
+use Rattle.section_table.specs.section_data.Leaves.{LiesIn}
+use Rattle.section_table.proofs.section_data.Loading.{opened_lies}
 use Rattle.section_table.specs.Sections.{SectionView as Scn, opened_scn, opened_scns}
 use Rattle.elf_descriptor.specs.declared.body.Body.{Body}
 use Rattle.elf_descriptor.specs.declared.body.Base.{Base}

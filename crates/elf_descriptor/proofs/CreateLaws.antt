@@ -5,13 +5,13 @@ use Rattle.elf_types.specs.declared.records.Class.{Class}
 use Rattle.elf_types.specs.declared.records.Order.{Order}
 use Rattle.elf_types.specs.declared.records.Phdr.{Phdr}
 use Rattle.elf_types.specs.declared.records.Ehdr.{Ehdr}
-use Rattle.elf_outside.specs.declared.sources.Source.{Ghosts}
-use Rattle.elf_object.specs.Object.{Object, Section}
-use Rattle.elf_object.specs.Open.{created_over, new_ehdr}
+use Rattle.section_table.specs.elf_outside.declared.sources.Source.{Ghosts}
+use Rattle.section_table.specs.elf_object.Object.{Object, Section}
+use Rattle.section_table.specs.elf_object.Open.{created_over, new_ehdr}
 use Rattle.elf_types.specs.Lists.{AreBytes}
-use Rattle.object_laws.specs.Laws.{BeginningsAre, BeginningsAreTied}
+use Rattle.writing_laws.specs.object_laws.Laws.{BeginningsAre, BeginningsAreTied}
 use Rattle.writing_laws.specs.Based.{BeginningsAreBased}
-use Rattle.section_data.specs.Held.{cell_is_loaded}
+use Rattle.section_table.specs.section_data.Held.{cell_is_loaded}
 use Rattle.section_table.specs.Sections.{SectionView as Scn}
 use Rattle.elf_descriptor.specs.declared.body.Body.{Body}
 use Rattle.elf_descriptor.specs.declared.body.Written.{Written}

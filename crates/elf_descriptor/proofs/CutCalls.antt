@@ -5,11 +5,11 @@ use Rattle.std.proofs.Math.ListN.{replicate}
 use Rattle.std.proofs.lemmas.Bool.{ltb-true, ltb-false, cases_lt}
 use Rattle.std.proofs.lemmas.List.{length-take, length-drop, length-replicate, take-append-le, take-take, take-replicate, take_all, get_or-take, get_or-drop, ext_get_or}
 use Rattle.elf_types.specs.declared.errors.ElfError.{ElfError}
-use Rattle.elf_outside.specs.declared.sources.Source.{Ghosts}
-use Rattle.elf_outside.specs.Writes.{WritesOver, TearsOver, Resizes, ResizesOrNot, IsTornBy, written_over, resized}
-use Rattle.elf_outside.proofs.WriteLemmas.{written_is_torn}
-use Rattle.elf_object.specs.Blocks.{extents_meet}
-use Rattle.elf_object.specs.Object.{Object, Section}
+use Rattle.section_table.specs.elf_outside.declared.sources.Source.{Ghosts}
+use Rattle.section_table.specs.elf_outside.Writes.{WritesOver, TearsOver, Resizes, ResizesOrNot, IsTornBy, written_over, resized}
+use Rattle.section_table.proofs.elf_outside.WriteLemmas.{written_is_torn}
+use Rattle.section_table.specs.elf_object.Blocks.{extents_meet}
+use Rattle.section_table.specs.elf_object.Object.{Object, Section}
 use Rattle.elf_types.specs.Lists.{AreBytes}
 use Rattle.writing_laws.specs.Based.{some_unmarked}
 use Rattle.writing_laws.proofs.DisturbedLaws.{meeting_to}

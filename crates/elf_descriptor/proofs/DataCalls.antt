@@ -8,23 +8,23 @@ use Rattle.elf_types.specs.declared.records.Kind.{Kind}
 use Rattle.elf_types.specs.declared.errors.ElfError.{ElfError}
 use Rattle.elf_types.specs.declared.errors.ElfError.TheVariants.{Memory, OutOfFile, Ragged}
 use Rattle.elf_types.specs.Answers.{answered, first_refusal, err_of}
-use Rattle.elf_xlate.specs.declared.content.Items.{Items}
-use Rattle.elf_xlate.specs.Items.{item_size}
-use Rattle.elf_xlate.specs.Translation.{decoded, is_whole, items_kind, items_count}
-use Rattle.elf_xlate.proofs.Decoded.{whole_is, decoded_kind}
-use Rattle.elf_xlate.proofs.Decoded as counts
-use Rattle.elf_outside.specs.declared.sources.Source.{Ghosts}
-use Rattle.elf_outside.specs.Asks.{Asks}
-use Rattle.elf_object.specs.Words.{Answers, AlikeItems}
-use Rattle.elf_object.specs.Object.{Piece, piece_at}
-use Rattle.elf_object.specs.Answers.{content, items_at, data_refusal}
-use Rattle.elf_object.specs.Answers as object
-use Rattle.elf_object.specs.Calls.{data_answer, wants}
-use Rattle.elf_object.specs.Calls as calls
-use Rattle.elf_object.specs.Due.{is_loaded, homes_due, unless_refused, when_piece_clean}
-use Rattle.section_data.specs.Views.{CellView, IsCell}
-use Rattle.section_data.specs.Held.{piece_in, cell_is_loaded, piece_holds_items, ready, HeldIs}
-use Rattle.section_data.specs.Refused.{items_refused, no_home_items, items_due, preparing}
+use Rattle.section_table.specs.elf_xlate.declared.content.Items.{Items}
+use Rattle.section_table.specs.elf_xlate.Items.{item_size}
+use Rattle.section_table.specs.elf_xlate.Translation.{decoded, is_whole, items_kind, items_count}
+use Rattle.section_table.proofs.elf_xlate.Decoded.{whole_is, decoded_kind}
+use Rattle.section_table.proofs.elf_xlate.Decoded as counts
+use Rattle.section_table.specs.elf_outside.declared.sources.Source.{Ghosts}
+use Rattle.section_table.specs.elf_outside.Asks.{Asks}
+use Rattle.section_table.specs.elf_object.Words.{Answers, AlikeItems}
+use Rattle.section_table.specs.elf_object.Object.{Piece, piece_at}
+use Rattle.section_table.specs.elf_object.Answers.{content, items_at, data_refusal}
+use Rattle.section_table.specs.elf_object.Answers as object
+use Rattle.section_table.specs.elf_object.Calls.{data_answer, wants}
+use Rattle.section_table.specs.elf_object.Calls as calls
+use Rattle.section_table.specs.elf_object.Due.{is_loaded, homes_due, unless_refused, when_piece_clean}
+use Rattle.section_table.specs.section_data.Views.{CellView, IsCell}
+use Rattle.section_table.specs.section_data.Held.{piece_in, cell_is_loaded, piece_holds_items, ready, HeldIs}
+use Rattle.section_table.specs.section_data.Refused.{items_refused, no_home_items, items_due, preparing}
 use Rattle.elf_descriptor.specs.declared.body.Body.{Body}
 use Rattle.elf_descriptor.specs.Views.{object_of, section_of, raw_of, scn_at, no_scn, loaded_of, held_of, state_of}
 use Rattle.elf_descriptor.specs.Bodies.{no_items_in}

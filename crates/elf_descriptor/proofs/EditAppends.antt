@@ -6,16 +6,16 @@ use Rattle.elf_types.specs.declared.constants.TheConstants.{MAX_PIECES}
 use Rattle.elf_types.specs.declared.errors.ElfError.{ElfError}
 use Rattle.elf_types.specs.declared.errors.ElfError.TheVariants.{Memory, TooMany, BadAlign}
 use Rattle.elf_types.specs.Answers.{answered, refused_if, first_refusal, IsRefusal}
-use Rattle.elf_xlate.specs.declared.content.Items.{Items}
-use Rattle.elf_outside.specs.declared.sources.Source.{Ghosts}
-use Rattle.elf_object.specs.Object.{Section}
-use Rattle.elf_object.specs.Answers.{reserved, piece_count}
-use Rattle.elf_object.specs.Steps.{with_new_piece, own_piece}
-use Rattle.elf_object.specs.Words.{Edits, EditsWith, result_map}
-use Rattle.elf_object.specs.Calls.{Call, newdata_refusal, unfit_items, is_piece_align}
-use Rattle.section_data.specs.Views.{CellView}
-use Rattle.section_data.specs.Leaves.{appended}
-use Rattle.section_data.specs.Refused.{append_refused, unfit_piece}
+use Rattle.section_table.specs.elf_xlate.declared.content.Items.{Items}
+use Rattle.section_table.specs.elf_outside.declared.sources.Source.{Ghosts}
+use Rattle.section_table.specs.elf_object.Object.{Section}
+use Rattle.section_table.specs.elf_object.Answers.{reserved, piece_count}
+use Rattle.section_table.specs.elf_object.Steps.{with_new_piece, own_piece}
+use Rattle.section_table.specs.elf_object.Words.{Edits, EditsWith, result_map}
+use Rattle.section_table.specs.elf_object.Calls.{Call, newdata_refusal, unfit_items, is_piece_align}
+use Rattle.section_table.specs.section_data.Views.{CellView}
+use Rattle.section_table.specs.section_data.Leaves.{appended}
+use Rattle.section_table.specs.section_data.Refused.{append_refused, unfit_piece}
 use Rattle.section_table.specs.Sections.{SectionView as Scn}
 use Rattle.elf_descriptor.specs.declared.body.Body.{Body}
 use Rattle.elf_descriptor.specs.Views.{object_of, section_of, state_of, scn_at, no_scn, ready_of}

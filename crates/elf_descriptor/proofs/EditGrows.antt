@@ -7,12 +7,12 @@ use Rattle.elf_types.specs.declared.records.Phdr.{Phdr}
 use Rattle.elf_types.specs.declared.errors.ElfError.{ElfError}
 use Rattle.elf_types.specs.declared.errors.ElfError.TheVariants.{Memory}
 use Rattle.elf_types.specs.Answers.{answered, IsRefusal}
-use Rattle.elf_outside.specs.declared.sources.Source.{Ghosts}
-use Rattle.elf_object.specs.Object.{no_phdr}
-use Rattle.elf_object.specs.Steps.{with_phdrs, with_new_phdrs}
-use Rattle.elf_object.specs.Words.{Edits}
-use Rattle.elf_object.specs.Calls.{Call}
-use Rattle.elf_object.proofs.AnswerLaws.{answered_refusal, answered_value, edited, edit_refused, edit_wants}
+use Rattle.section_table.specs.elf_outside.declared.sources.Source.{Ghosts}
+use Rattle.section_table.specs.elf_object.Object.{no_phdr}
+use Rattle.section_table.specs.elf_object.Steps.{with_phdrs, with_new_phdrs}
+use Rattle.section_table.specs.elf_object.Words.{Edits}
+use Rattle.section_table.specs.elf_object.Calls.{Call}
+use Rattle.section_table.proofs.elf_object.AnswerLaws.{answered_refusal, answered_value, edited, edit_refused, edit_wants}
 use Rattle.elf_descriptor.specs.declared.body.Body.{Body}
 use Rattle.elf_descriptor.specs.Views.{object_of, state_of, ready_of}
 use Rattle.elf_descriptor.specs.Edits.{IsStepped, homes_of, stepped}

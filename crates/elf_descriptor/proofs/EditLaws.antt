@@ -7,14 +7,14 @@ use Rattle.std.proofs.Math.ListN.{get_or-map}
 use Rattle.elf_types.specs.declared.records.Class.{Class}
 use Rattle.elf_types.specs.declared.records.Order.{Order}
 use Rattle.elf_types.specs.declared.errors.ElfError.{ElfError}
-use Rattle.elf_outside.specs.declared.sources.Source.{Ghosts}
-use Rattle.elf_object.specs.Object.{Object}
-use Rattle.elf_object.specs.Calls.{Call, step, after_answer}
-use Rattle.elf_object.specs.Valid.{IsObject, KeepsObject, KeepsTied}
+use Rattle.section_table.specs.elf_outside.declared.sources.Source.{Ghosts}
+use Rattle.section_table.specs.elf_object.Object.{Object}
+use Rattle.section_table.specs.elf_object.Calls.{Call, step, after_answer}
+use Rattle.section_table.specs.elf_object.Valid.{IsObject, KeepsObject, KeepsTied}
 use Rattle.writing_laws.specs.Based.{KeepsBased}
-use Rattle.section_data.specs.Views.{CellView}
-use Rattle.section_data.specs.Held.{HeldIs, cell_is_loaded}
-use Rattle.section_data.specs.Leaves.{LiesIn}
+use Rattle.section_table.specs.section_data.Views.{CellView}
+use Rattle.section_table.specs.section_data.Held.{HeldIs, cell_is_loaded}
+use Rattle.section_table.specs.section_data.Leaves.{LiesIn}
 use Rattle.section_table.specs.Sections.{SectionView as Scn, absent_scn}
 use Rattle.elf_descriptor.specs.declared.body.Body.{Body}
 use Rattle.elf_descriptor.specs.State.{State}

@@ -7,17 +7,17 @@ use Rattle.elf_types.specs.declared.records.Part.TheVariants as part
 use Rattle.elf_types.specs.declared.errors.ElfError.{ElfError}
 use Rattle.elf_types.specs.declared.errors.ElfError.TheVariants.{Unfit}
 use Rattle.elf_types.specs.Answers.{answered, first_refusal}
-use Rattle.elf_xlate.specs.declared.content.Items.{Items}
-use Rattle.elf_xlate.specs.Translation.{first_unfit}
-use Rattle.elf_object.specs.Object.{Object, Piece, section_at, piece_at, home_piece}
-use Rattle.elf_object.specs.Answers.{no_data, reserved}
-use Rattle.elf_object.specs.Steps.{with_section, with_piece_at, with_own, own_piece}
-use Rattle.elf_object.specs.Words.{handing_back}
-use Rattle.elf_object.specs.Calls.{replace_refusal, unfit_items}
-use Rattle.section_data.specs.Views.{CellView}
-use Rattle.section_data.specs.Held.{piece_in}
-use Rattle.section_data.specs.Leaves.{replaced}
-use Rattle.section_data.specs.Refused.{replace_refused, no_piece, unfit_piece}
+use Rattle.section_table.specs.elf_xlate.declared.content.Items.{Items}
+use Rattle.section_table.specs.elf_xlate.Translation.{first_unfit}
+use Rattle.section_table.specs.elf_object.Object.{Object, Piece, section_at, piece_at, home_piece}
+use Rattle.section_table.specs.elf_object.Answers.{no_data, reserved}
+use Rattle.section_table.specs.elf_object.Steps.{with_section, with_piece_at, with_own, own_piece}
+use Rattle.section_table.specs.elf_object.Words.{handing_back}
+use Rattle.section_table.specs.elf_object.Calls.{replace_refusal, unfit_items}
+use Rattle.section_table.specs.section_data.Views.{CellView}
+use Rattle.section_table.specs.section_data.Held.{piece_in}
+use Rattle.section_table.specs.section_data.Leaves.{replaced}
+use Rattle.section_table.specs.section_data.Refused.{replace_refused, no_piece, unfit_piece}
 use Rattle.section_table.specs.Sections.{SectionView as Scn, absent_scn}
 use Rattle.elf_descriptor.specs.declared.body.Body.{Body}
 use Rattle.elf_descriptor.specs.Views.{object_of, section_of, scn_at, no_scn, ready_of, is_of_source, has_lengths, has_mark}

@@ -14,17 +14,17 @@ use Rattle.elf_types.specs.declared.constants.TheConstants.{MAX_SECTIONS}
 use Rattle.elf_types.specs.declared.errors.ElfError.{ElfError}
 use Rattle.elf_types.specs.declared.errors.ElfError.TheVariants.{Memory, TooMany}
 use Rattle.elf_types.specs.Answers.{answered, refused_if, IsRefusal}
-use Rattle.elf_outside.specs.declared.sources.Source.{Ghosts}
-use Rattle.elf_object.specs.Object.{Object, Section, new_section}
-use Rattle.elf_object.specs.Open.{home_bytes}
-use Rattle.elf_object.specs.Due.{is_loaded}
-use Rattle.elf_object.specs.Steps.{with_sections, with_new_section, new_number, with_null_section}
-use Rattle.elf_object.specs.Calls.{Call, newscn_refusal}
-use Rattle.elf_object.specs.Calls as calls
-use Rattle.elf_object.specs.Words.{Edits, result_map}
-use Rattle.elf_object.specs.Valid.{KeepsObject, KeepsTied}
+use Rattle.section_table.specs.elf_outside.declared.sources.Source.{Ghosts}
+use Rattle.section_table.specs.elf_object.Object.{Object, Section, new_section}
+use Rattle.section_table.specs.elf_object.Open.{home_bytes}
+use Rattle.section_table.specs.elf_object.Due.{is_loaded}
+use Rattle.section_table.specs.elf_object.Steps.{with_sections, with_new_section, new_number, with_null_section}
+use Rattle.section_table.specs.elf_object.Calls.{Call, newscn_refusal}
+use Rattle.section_table.specs.elf_object.Calls as calls
+use Rattle.section_table.specs.elf_object.Words.{Edits, result_map}
+use Rattle.section_table.specs.elf_object.Valid.{KeepsObject, KeepsTied}
 use Rattle.writing_laws.specs.Based.{KeepsBased}
-use Rattle.section_data.specs.Held.{cell_is_loaded}
+use Rattle.section_table.specs.section_data.Held.{cell_is_loaded}
 use Rattle.section_table.specs.Sections.{SectionView as Scn, absent_scn, new_scn}
 use Rattle.elf_descriptor.specs.declared.body.Body.{Body}
 use Rattle.elf_descriptor.specs.State.{State}

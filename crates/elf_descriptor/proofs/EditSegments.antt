@@ -4,10 +4,10 @@ use Rattle.std.proofs.lemmas.List.{length-append, length-drop, length-take-le}
 use Rattle.elf_types.specs.declared.records.Phdr.{Phdr}
 use Rattle.elf_types.specs.declared.constants.TheConstants.{MAX_SEGMENTS}
 use Rattle.elf_types.specs.Lists.{refilled}
-use Rattle.elf_outside.specs.declared.sources.Source.{Ghosts}
-use Rattle.elf_object.specs.Steps.{with_phdrs}
-use Rattle.elf_object.specs.Calls as calls
-use Rattle.elf_object.specs.Valid.{KeepsObject, KeepsTied}
+use Rattle.section_table.specs.elf_outside.declared.sources.Source.{Ghosts}
+use Rattle.section_table.specs.elf_object.Steps.{with_phdrs}
+use Rattle.section_table.specs.elf_object.Calls as calls
+use Rattle.section_table.specs.elf_object.Valid.{KeepsObject, KeepsTied}
 use Rattle.writing_laws.specs.Based.{KeepsBased}
 use Rattle.elf_descriptor.specs.declared.body.Body.{Body}
 use Rattle.elf_descriptor.specs.Views.{object_of, state_of, HasCounts}

@@ -11,14 +11,14 @@ use Rattle.elf_types.specs.declared.records.Part.TheVariants as part
 use Rattle.elf_types.specs.declared.errors.ElfError.{ElfError}
 use Rattle.elf_types.specs.declared.errors.ElfError.TheVariants.{NoSection, Unfit}
 use Rattle.elf_types.specs.Answers.{answered, refused_if, first_refusal}
-use Rattle.elf_xlate.specs.Headers.{ehdr_fits, phdr_fits, shdr_fits}
-use Rattle.elf_object.specs.Object.{Object, Section, Piece, section_at, piece_at, home_piece}
-use Rattle.elf_object.specs.Answers.{no_entry, reserved, has_dirty, has_layout}
-use Rattle.elf_object.specs.Steps.{stored_ehdr, with_ehdr, with_phdrs, with_phdr, with_shdr, with_section, with_piece_at, with_mark, with_layout, with_flags, is_whole, with_fill}
-use Rattle.elf_object.specs.Calls.{update_ehdr_refusal, update_phdr_refusal, update_shdr_refusal}
-use Rattle.section_data.specs.Views.{CellView}
-use Rattle.section_data.specs.Held.{piece_in}
-use Rattle.section_data.specs.Leaves.{marked_piece}
+use Rattle.section_table.specs.elf_xlate.Headers.{ehdr_fits, phdr_fits, shdr_fits}
+use Rattle.section_table.specs.elf_object.Object.{Object, Section, Piece, section_at, piece_at, home_piece}
+use Rattle.section_table.specs.elf_object.Answers.{no_entry, reserved, has_dirty, has_layout}
+use Rattle.section_table.specs.elf_object.Steps.{stored_ehdr, with_ehdr, with_phdrs, with_phdr, with_shdr, with_section, with_piece_at, with_mark, with_layout, with_flags, is_whole, with_fill}
+use Rattle.section_table.specs.elf_object.Calls.{update_ehdr_refusal, update_phdr_refusal, update_shdr_refusal}
+use Rattle.section_table.specs.section_data.Views.{CellView}
+use Rattle.section_table.specs.section_data.Held.{piece_in}
+use Rattle.section_table.specs.section_data.Leaves.{marked_piece}
 use Rattle.section_table.specs.Sections.{SectionView as Scn, section_in, absent_scn}
 use Rattle.elf_descriptor.specs.declared.body.Body.{Body}
 use Rattle.elf_descriptor.specs.Views.{object_of, section_of, raw_of, scn_at, no_scn, HasCounts, ready_of, has_spare, is_of_source, has_lengths, has_mark}

@@ -9,22 +9,22 @@ use Rattle.elf_types.specs.declared.records.Kind.{Kind}
 use Rattle.elf_types.specs.declared.errors.ElfError.{ElfError}
 use Rattle.elf_types.specs.declared.errors.ElfError.TheVariants.{Memory, Read, NoEntry}
 use Rattle.elf_types.specs.Answers.{answered, first_refusal, err_of, IsRefusal}
-use Rattle.elf_xlate.specs.declared.content.Items.{Items}
-use Rattle.elf_xlate.specs.Translation.{decoded, listed, items_of, items_kind, is_whole}
-use Rattle.elf_xlate.proofs.Pieces.{length_items_of}
-use Rattle.elf_xlate.proofs.Decoded.{whole_is}
-use Rattle.elf_outside.specs.declared.sources.Source.{Ghosts}
-use Rattle.elf_outside.specs.Asks.{Asks, ReadRose}
-use Rattle.elf_outside.proofs.AskLemmas.{read_rose_refused}
-use Rattle.elf_object.specs.Words.{Wants, Answers, MayWant}
-use Rattle.elf_object.specs.Object.{Piece, piece_at}
-use Rattle.elf_object.specs.Answers.{content, items_at, entry_at, entry_answer, lend_refusal}
-use Rattle.elf_object.specs.Answers as object
-use Rattle.elf_object.specs.Calls.{Call, due, wants}
-use Rattle.elf_object.specs.Due.{is_loaded, homes_due, unless_refused, when_piece_clean}
-use Rattle.section_data.specs.Views.{CellView, IsCell}
-use Rattle.section_data.specs.Held.{piece_in, kind_in, cell_is_loaded, is_ragged, is_at_hand, items_in, raw_items, piece_holds_items, ready, HeldIs, or_empty}
-use Rattle.section_data.specs.Refused.{kind_refused, no_home_items, load_due, piece_due, due_unless, loading}
+use Rattle.section_table.specs.elf_xlate.declared.content.Items.{Items}
+use Rattle.section_table.specs.elf_xlate.Translation.{decoded, listed, items_of, items_kind, is_whole}
+use Rattle.section_table.proofs.elf_xlate.Pieces.{length_items_of}
+use Rattle.section_table.proofs.elf_xlate.Decoded.{whole_is}
+use Rattle.section_table.specs.elf_outside.declared.sources.Source.{Ghosts}
+use Rattle.section_table.specs.elf_outside.Asks.{Asks, ReadRose}
+use Rattle.section_table.proofs.elf_outside.AskLemmas.{read_rose_refused}
+use Rattle.section_table.specs.elf_object.Words.{Wants, Answers, MayWant}
+use Rattle.section_table.specs.elf_object.Object.{Piece, piece_at}
+use Rattle.section_table.specs.elf_object.Answers.{content, items_at, entry_at, entry_answer, lend_refusal}
+use Rattle.section_table.specs.elf_object.Answers as object
+use Rattle.section_table.specs.elf_object.Calls.{Call, due, wants}
+use Rattle.section_table.specs.elf_object.Due.{is_loaded, homes_due, unless_refused, when_piece_clean}
+use Rattle.section_table.specs.section_data.Views.{CellView, IsCell}
+use Rattle.section_table.specs.section_data.Held.{piece_in, kind_in, cell_is_loaded, is_ragged, is_at_hand, items_in, raw_items, piece_holds_items, ready, HeldIs, or_empty}
+use Rattle.section_table.specs.section_data.Refused.{kind_refused, no_home_items, load_due, piece_due, due_unless, loading}
 use Rattle.elf_descriptor.specs.declared.body.Body.{Body}
 use Rattle.elf_descriptor.specs.State.{State}
 use Rattle.elf_descriptor.specs.Views.{object_of, raw_of, scn_at, no_scn, loaded_of, held_of, state_of}

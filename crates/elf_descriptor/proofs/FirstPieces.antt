@@ -5,14 +5,14 @@ use Rattle.std.specs.List.{list_all}
 use Rattle.std.proofs.lemmas.Bool.{ltb-true, ltb-false}
 use Rattle.std.proofs.lemmas.List.{take-map}
 use Rattle.elf_types.specs.declared.records.Kind.TheVariants as kinds
-use Rattle.elf_object.specs.Blocks.{stacked, last_end}
-use Rattle.elf_object.specs.Object.{Section, Piece}
-use Rattle.elf_object.specs.Answers.{no_section, piece_count, same_kind}
-use Rattle.elf_object.specs.Joined.{piece_bytes, aligned_pieces}
-use Rattle.elf_object.specs.Strings.{kind_of_piece}
-use Rattle.section_data.specs.Sizes.{stacked_end}
-use Rattle.section_data.specs.Spans.{AreFirstIn}
-use Rattle.section_data.proofs.Sizes.{end_is}
+use Rattle.section_table.specs.elf_object.Blocks.{stacked, last_end}
+use Rattle.section_table.specs.elf_object.Object.{Section, Piece}
+use Rattle.section_table.specs.elf_object.Answers.{no_section, piece_count, same_kind}
+use Rattle.section_table.specs.elf_object.Joined.{piece_bytes, aligned_pieces}
+use Rattle.section_table.specs.elf_object.Strings.{kind_of_piece}
+use Rattle.section_table.specs.section_data.Sizes.{stacked_end}
+use Rattle.section_table.specs.section_data.Spans.{AreFirstIn}
+use Rattle.section_table.proofs.section_data.Sizes.{end_is}
 use Rattle.elf_descriptor.specs.declared.body.Body.{Body}
 use Rattle.elf_descriptor.specs.Views.{object_of, section_of, raw_of, scn_at}
 use Rattle.elf_descriptor.specs.Sound.{IsElf}

@@ -11,24 +11,24 @@ use Rattle.elf_types.specs.declared.records.Class.TheVariants.{C32, C64}
 use Rattle.elf_types.specs.declared.records.Ehdr.{Ehdr}
 use Rattle.elf_types.specs.declared.records.Shdr.{Shdr}
 use Rattle.elf_types.specs.declared.constants.TheConstants.{SHN_LORESERVE}
-use Rattle.elf_xlate.specs.Fields.{fits}
-use Rattle.elf_xlate.specs.Headers.{ehdr_fits, shdr_fits}
-use Rattle.elf_layout.specs.declared.parts.PartAt.{PartAt}
-use Rattle.elf_layout.specs.declared.parts.Places.{Places}
-use Rattle.elf_layout.specs.Layout.{positions, in_order_from, end_after, standing, length_of, limit_of, places_of as parts_places}
-use Rattle.elf_layout.specs.Meeting.{has_bytes, end_of}
-use Rattle.elf_object.specs.Object.{Object, is_null, occupies_file, is_dirty}
-use Rattle.elf_object.specs.Joined.{file_bytes}
-use Rattle.elf_object.specs.Derived.{derived_header, numbered_shdr}
-use Rattle.elf_object.specs.Layout.{parts_of, places_of, section_part, segments_place, section_place, table_place}
-use Rattle.elf_object.specs.Refusal.{refusal}
-use Rattle.elf_object.specs.Valid.{IsObject, IsSection}
-use Rattle.object_laws.specs.Laws.{SizesAreLengths}
-use Rattle.object_laws.proofs.KeepLaws.{at_or, section_at_is}
-use Rattle.object_laws.proofs.PlaceLaws.{IsFitting, zero_fits, ends_within}
-use Rattle.object_laws.proofs.PlacedLaws.{ehdr_fits_each, ehdr_fits_all, shdr_fits_each, shdr_fits_all, part_of_section, place_fits, each_row}
-use Rattle.object_laws.proofs.PartLaws.{length-parts_of}
-use Rattle.section_data.specs.Sizes.{data_size}
+use Rattle.section_table.specs.elf_xlate.Fields.{fits}
+use Rattle.section_table.specs.elf_xlate.Headers.{ehdr_fits, shdr_fits}
+use Rattle.section_table.specs.elf_layout.declared.parts.PartAt.{PartAt}
+use Rattle.section_table.specs.elf_layout.declared.parts.Places.{Places}
+use Rattle.section_table.specs.elf_layout.Layout.{positions, in_order_from, end_after, standing, length_of, limit_of, places_of as parts_places}
+use Rattle.section_table.specs.elf_layout.Meeting.{has_bytes, end_of}
+use Rattle.section_table.specs.elf_object.Object.{Object, is_null, occupies_file, is_dirty}
+use Rattle.section_table.specs.elf_object.Joined.{file_bytes}
+use Rattle.section_table.specs.elf_object.Derived.{derived_header, numbered_shdr}
+use Rattle.section_table.specs.elf_object.Layout.{parts_of, places_of, section_part, segments_place, section_place, table_place}
+use Rattle.section_table.specs.elf_object.Refusal.{refusal}
+use Rattle.section_table.specs.elf_object.Valid.{IsObject, IsSection}
+use Rattle.writing_laws.specs.object_laws.Laws.{SizesAreLengths}
+use Rattle.writing_laws.proofs.object_laws.KeepLaws.{at_or, section_at_is}
+use Rattle.writing_laws.proofs.object_laws.PlaceLaws.{IsFitting, zero_fits, ends_within}
+use Rattle.writing_laws.proofs.object_laws.PlacedLaws.{ehdr_fits_each, ehdr_fits_all, shdr_fits_each, shdr_fits_all, part_of_section, place_fits, each_row}
+use Rattle.writing_laws.proofs.object_laws.PartLaws.{length-parts_of}
+use Rattle.section_table.specs.section_data.Sizes.{data_size}
 use Rattle.section_table.specs.Sections.{absent_scn}
 use Rattle.elf_descriptor.specs.declared.body.Body.{Body}
 use Rattle.elf_descriptor.specs.Views.{object_of, section_of, scn_at}

@@ -16,22 +16,22 @@ use Rattle.elf_types.specs.declared.records.Shdr.{Shdr}
 use Rattle.elf_types.specs.declared.records.Part.{Part}
 use Rattle.elf_types.specs.declared.records.Part.TheVariants as part
 use Rattle.elf_types.specs.declared.errors.ElfError.TheVariants.{Unfit}
-use Rattle.elf_xlate.specs.Headers.{ehdr_size, ehdr_bytes, ehdr_fits, phdr_size, phdr_fits, shdr_size, shdr_fits}
-use Rattle.elf_layout.specs.declared.parts.Places.{Places}
-use Rattle.elf_object.specs.Blocks.{Block, same_block, same_extent}
-use Rattle.elf_object.specs.Object.{Object, Section, WrittenFront}
-use Rattle.elf_object.specs.Open.{no_block, no_front, front_in_image, phdrs_bytes, shdrs_bytes}
-use Rattle.elf_object.specs.Derived.{derived_header, written_header}
-use Rattle.elf_object.specs.Layout.{placed_by, placed_header}
-use Rattle.elf_object.specs.Image.{front_blocks}
-use Rattle.elf_object.specs.Refusal.{content_refusal, unfit_segment}
-use Rattle.elf_object.specs.Changed.{front_differs, block_of}
-use Rattle.elf_object.proofs.PassedLaws.{not_not}
-use Rattle.object_laws.specs.Laws.{SizesAreLengths}
-use Rattle.object_laws.proofs.LengthLaws.{length-ehdr_bytes, length-phdrs_bytes, length-shdrs_bytes}
-use Rattle.object_laws.proofs.StandLaws.{section_count-placed}
-use Rattle.object_laws.proofs.PlacedLaws.{ehdr_fits_each, ehdr_fits_all}
-use Rattle.object_laws.proofs.SettledLaws.{unrefused}
+use Rattle.section_table.specs.elf_xlate.Headers.{ehdr_size, ehdr_bytes, ehdr_fits, phdr_size, phdr_fits, shdr_size, shdr_fits}
+use Rattle.section_table.specs.elf_layout.declared.parts.Places.{Places}
+use Rattle.section_table.specs.elf_object.Blocks.{Block, same_block, same_extent}
+use Rattle.section_table.specs.elf_object.Object.{Object, Section, WrittenFront}
+use Rattle.section_table.specs.elf_object.Open.{no_block, no_front, front_in_image, phdrs_bytes, shdrs_bytes}
+use Rattle.section_table.specs.elf_object.Derived.{derived_header, written_header}
+use Rattle.section_table.specs.elf_object.Layout.{placed_by, placed_header}
+use Rattle.section_table.specs.elf_object.Image.{front_blocks}
+use Rattle.section_table.specs.elf_object.Refusal.{content_refusal, unfit_segment}
+use Rattle.section_table.specs.elf_object.Changed.{front_differs, block_of}
+use Rattle.section_table.proofs.elf_object.PassedLaws.{not_not}
+use Rattle.writing_laws.specs.object_laws.Laws.{SizesAreLengths}
+use Rattle.writing_laws.proofs.object_laws.LengthLaws.{length-ehdr_bytes, length-phdrs_bytes, length-shdrs_bytes}
+use Rattle.writing_laws.proofs.object_laws.StandLaws.{section_count-placed}
+use Rattle.writing_laws.proofs.object_laws.PlacedLaws.{ehdr_fits_each, ehdr_fits_all}
+use Rattle.writing_laws.proofs.object_laws.SettledLaws.{unrefused}
 use Rattle.elf_descriptor.specs.declared.body.Written.{Written}
 use Rattle.elf_descriptor.specs.declared.body.Body.{Body}
 use Rattle.elf_descriptor.specs.Views.{object_of, written_of}

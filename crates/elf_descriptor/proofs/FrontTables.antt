@@ -15,14 +15,14 @@ use Rattle.elf_types.specs.declared.records.Order.{Order}
 use Rattle.elf_types.specs.declared.records.Ehdr.{Ehdr}
 use Rattle.elf_types.specs.declared.records.Phdr.{Phdr}
 use Rattle.elf_types.specs.declared.records.Shdr.{Shdr}
-use Rattle.elf_xlate.specs.Headers.{IsEhdr, HasNarrowCounts, HoldsEhdr, ehdr_size, ehdr_of, ehdr_bytes, ehdr_fits, IsPhdr, phdr_size, phdr_of, phdr_bytes, phdr_fits, IsShdr, shdr_size, shdr_of, shdr_bytes, shdr_fits}
-use Rattle.elf_ident.specs.Reading.{IsStored, IsPhdrTable, IsShdrTable}
-use Rattle.elf_object.specs.Blocks.{same_extent, same_block}
-use Rattle.elf_object.specs.Open.{phdrs_bytes, shdrs_bytes}
-use Rattle.object_laws.proofs.LengthLaws.{length-ehdr_bytes, length-phdr_bytes, length-shdr_bytes, length-phdrs_bytes, length-shdrs_bytes}
-use Rattle.object_laws.proofs.ReopenLaws.{entry_bytes}
-use Rattle.elf_object.specs.Layout.{section_place}
-use Rattle.elf_layout.specs.declared.parts.Places.{Places}
+use Rattle.section_table.specs.elf_xlate.Headers.{IsEhdr, HasNarrowCounts, HoldsEhdr, ehdr_size, ehdr_of, ehdr_bytes, ehdr_fits, IsPhdr, phdr_size, phdr_of, phdr_bytes, phdr_fits, IsShdr, shdr_size, shdr_of, shdr_bytes, shdr_fits}
+use Rattle.section_table.specs.elf_ident.Reading.{IsStored, IsPhdrTable, IsShdrTable}
+use Rattle.section_table.specs.elf_object.Blocks.{same_extent, same_block}
+use Rattle.section_table.specs.elf_object.Open.{phdrs_bytes, shdrs_bytes}
+use Rattle.writing_laws.proofs.object_laws.LengthLaws.{length-ehdr_bytes, length-phdr_bytes, length-shdr_bytes, length-phdrs_bytes, length-shdrs_bytes}
+use Rattle.writing_laws.proofs.object_laws.ReopenLaws.{entry_bytes}
+use Rattle.section_table.specs.elf_object.Layout.{section_place}
+use Rattle.section_table.specs.elf_layout.declared.parts.Places.{Places}
 use Rattle.section_table.specs.Sections.{SectionView as Scn, absent_scn}
 use Rattle.elf_descriptor.specs.declared.body.Body.{Body}
 use Rattle.elf_descriptor.specs.Views.{scn_at}

@@ -8,14 +8,14 @@ use Rattle.elf_types.specs.declared.records.Kind.{Kind}
 use Rattle.elf_types.specs.declared.errors.ElfError.{ElfError}
 use Rattle.elf_types.specs.declared.errors.ElfError.TheVariants.{NoSection, NoData, WrongKind, OutOfFile, Ragged}
 use Rattle.elf_types.specs.Answers.{refused_if, first_refusal}
-use Rattle.elf_xlate.specs.declared.content.Items.{Items}
-use Rattle.elf_xlate.specs.Translation.{decoded, listed}
-use Rattle.elf_object.specs.Words.{Wants, Answers}
-use Rattle.elf_object.specs.Answers.{items_at, entry_answer, lend_refusal}
-use Rattle.elf_object.proofs.StepLaws.{same_kind-same}
-use Rattle.section_data.specs.Views.{CellView, IsCell}
-use Rattle.section_data.specs.Held.{piece_in, kind_in, cell_is_loaded, is_ragged, is_at_hand, items_in, TellsItem}
-use Rattle.section_data.specs.Refused.{no_home_items, kind_refused}
+use Rattle.section_table.specs.elf_xlate.declared.content.Items.{Items}
+use Rattle.section_table.specs.elf_xlate.Translation.{decoded, listed}
+use Rattle.section_table.specs.elf_object.Words.{Wants, Answers}
+use Rattle.section_table.specs.elf_object.Answers.{items_at, entry_answer, lend_refusal}
+use Rattle.section_table.proofs.elf_object.StepLaws.{same_kind-same}
+use Rattle.section_table.specs.section_data.Views.{CellView, IsCell}
+use Rattle.section_table.specs.section_data.Held.{piece_in, kind_in, cell_is_loaded, is_ragged, is_at_hand, items_in, TellsItem}
+use Rattle.section_table.specs.section_data.Refused.{no_home_items, kind_refused}
 use Rattle.elf_descriptor.specs.declared.body.Body.{Body}
 use Rattle.elf_descriptor.specs.Views.{object_of, scn_at, no_scn}
 use Rattle.elf_descriptor.specs.Bodies.{no_list_in}

@@ -4,11 +4,11 @@ use Rattle.std.specs.Prelude.{IsTrue}
 use Rattle.elf_types.specs.declared.errors.ElfError.{ElfError}
 use Rattle.elf_types.specs.declared.errors.ElfError.TheVariants.{Memory, Read}
 use Rattle.elf_types.specs.Answers.{answered}
-use Rattle.elf_outside.specs.declared.sources.Source.{Ghosts}
-use Rattle.elf_outside.proofs.AskLemmas.{read_rose_on}
-use Rattle.elf_object.specs.Words.{Wants, Answers, IsLike}
-use Rattle.elf_object.specs.Calls.{Call, due}
-use Rattle.elf_object.proofs.AnswerLaws.{answers_seen, read_passed}
+use Rattle.section_table.specs.elf_outside.declared.sources.Source.{Ghosts}
+use Rattle.section_table.proofs.elf_outside.AskLemmas.{read_rose_on}
+use Rattle.section_table.specs.elf_object.Words.{Wants, Answers, IsLike}
+use Rattle.section_table.specs.elf_object.Calls.{Call, due}
+use Rattle.section_table.proofs.elf_object.AnswerLaws.{answers_seen, read_passed}
 use Rattle.elf_descriptor.specs.State.{State}
 use Rattle.elf_descriptor.specs.Reads.{Queries}
 use Rattle.elf_descriptor.proofs.Refusals.{answers_passed}

@@ -6,18 +6,18 @@ use Rattle.std.proofs.lemmas.List.{set-get_or, set-set, length-set, get_or-set_o
 use Rattle.elf_types.specs.declared.errors.ElfError.{ElfError}
 use Rattle.elf_types.specs.declared.errors.ElfError.TheVariants.{Read, Memory}
 use Rattle.elf_types.specs.Answers.{answered, first_refusal, IsRefusal}
-use Rattle.elf_outside.specs.declared.sources.Source.{Ghosts}
-use Rattle.elf_outside.specs.Asks.{Asks, Leaves}
-use Rattle.elf_object.specs.Words.{Answers, Edits}
-use Rattle.elf_object.specs.Object.{Object}
-use Rattle.elf_object.specs.Answers.{raw_refusal}
-use Rattle.elf_object.specs.Calls as calls
-use Rattle.elf_object.specs.Due.{is_loaded, holds_items, homes_due}
-use Rattle.elf_xlate.specs.declared.content.Items.{Items}
-use Rattle.section_data.specs.Views.{CellView}
-use Rattle.section_data.specs.Held.{cell_is_loaded}
-use Rattle.section_data.specs.Leaves.{FillsRoom, with_room}
-use Rattle.section_data.specs.Refused.{home_out, load_due, loading, reading}
+use Rattle.section_table.specs.elf_outside.declared.sources.Source.{Ghosts}
+use Rattle.section_table.specs.elf_outside.Asks.{Asks, Leaves}
+use Rattle.section_table.specs.elf_object.Words.{Answers, Edits}
+use Rattle.section_table.specs.elf_object.Object.{Object}
+use Rattle.section_table.specs.elf_object.Answers.{raw_refusal}
+use Rattle.section_table.specs.elf_object.Calls as calls
+use Rattle.section_table.specs.elf_object.Due.{is_loaded, holds_items, homes_due}
+use Rattle.section_table.specs.elf_xlate.declared.content.Items.{Items}
+use Rattle.section_table.specs.section_data.Views.{CellView}
+use Rattle.section_table.specs.section_data.Held.{cell_is_loaded}
+use Rattle.section_table.specs.section_data.Leaves.{FillsRoom, with_room}
+use Rattle.section_table.specs.section_data.Refused.{home_out, load_due, loading, reading}
 use Rattle.section_table.specs.Sections.{SectionView as Scn, absent_scn}
 use Rattle.elf_descriptor.specs.declared.body.Body.{Body}
 use Rattle.elf_descriptor.specs.State.{State}
@@ -37,7 +37,7 @@ use Rattle.elf_descriptor.proofs.RawCalls.{raw_refusal_is, raw_answers, raw_quer
 use Rattle.elf_descriptor.proofs.Reading.{object_over}
 use Rattle.elf_descriptor.proofs.OwnedCalls.{left_same}
 use Rattle.elf_descriptor.proofs.Warming.{cell_at, other_number, scn_written, warmed_left, warmed_elf, warm_held}
-use Rattle.section_data.proofs.Loading.{warms_same}
+use Rattle.section_table.proofs.section_data.Loading.{warms_same}
 use Rattle.elf_descriptor.proofs.OneCell.{HoldsOtherwise, otherwise_object, otherwise_elf, otherwise_loaded, otherwise_held, otherwise_ready, otherwise_state, loaded_same, held_same, room_same}
 
 -- ---- In what the program keeps

@@ -8,27 +8,27 @@ use Rattle.elf_types.specs.declared.records.Kind.{Kind}
 use Rattle.elf_types.specs.declared.errors.ElfError.{ElfError}
 use Rattle.elf_types.specs.declared.errors.ElfError.TheVariants.{Memory, NoSection, NoData, WrongKind}
 use Rattle.elf_types.specs.Answers.{answered, refused_if, first_refusal, IsRefusal}
-use Rattle.elf_xlate.specs.declared.content.Items.{Items}
-use Rattle.elf_xlate.specs.Translation.{items_kind, items_count}
-use Rattle.elf_outside.specs.declared.sources.Source.{Ghosts}
-use Rattle.elf_outside.specs.Asks.{Asks, Leaves, ReadRose}
-use Rattle.elf_object.specs.Words.{Answers}
-use Rattle.elf_object.specs.Object.{Object, Section, Piece, section_at, piece_at, home_piece}
+use Rattle.section_table.specs.elf_xlate.declared.content.Items.{Items}
+use Rattle.section_table.specs.elf_xlate.Translation.{items_kind, items_count}
+use Rattle.section_table.specs.elf_outside.declared.sources.Source.{Ghosts}
+use Rattle.section_table.specs.elf_outside.Asks.{Asks, Leaves, ReadRose}
+use Rattle.section_table.specs.elf_object.Words.{Answers}
+use Rattle.section_table.specs.elf_object.Object.{Object, Section, Piece, section_at, piece_at, home_piece}
 use Rattle.elf_types.specs.Answers.{err_of}
-use Rattle.elf_outside.proofs.AskLemmas.{asks_then}
-use Rattle.elf_object.specs.Answers.{content, lend_refusal, items_at, kind_at, piece_count, no_data, wrong_kind, no_content}
-use Rattle.elf_object.specs.Steps.{BecomesOwn, with_own, with_piece_at, with_section, own_piece}
-use Rattle.elf_object.specs.Calls.{due, wants}
-use Rattle.elf_object.specs.Calls as calls
-use Rattle.elf_object.specs.Due.{holds_items, homes_due}
-use Rattle.elf_object.specs.Valid.{IsPiece, KeepsObject, KeepsTied}
-use Rattle.elf_object.proofs.StepLaws.{same_kind-same, section_count-with_own, piece_count-with_own, section_at-with_own, section_at-with_own_other, piece_at-with_own, piece_at-with_own_other}
+use Rattle.section_table.proofs.elf_outside.AskLemmas.{asks_then}
+use Rattle.section_table.specs.elf_object.Answers.{content, lend_refusal, items_at, kind_at, piece_count, no_data, wrong_kind, no_content}
+use Rattle.section_table.specs.elf_object.Steps.{BecomesOwn, with_own, with_piece_at, with_section, own_piece}
+use Rattle.section_table.specs.elf_object.Calls.{due, wants}
+use Rattle.section_table.specs.elf_object.Calls as calls
+use Rattle.section_table.specs.elf_object.Due.{holds_items, homes_due}
+use Rattle.section_table.specs.elf_object.Valid.{IsPiece, KeepsObject, KeepsTied}
+use Rattle.section_table.proofs.elf_object.StepLaws.{same_kind-same, section_count-with_own, piece_count-with_own, section_at-with_own, section_at-with_own_other, piece_at-with_own, piece_at-with_own_other}
 use Rattle.writing_laws.specs.Based.{KeepsBased}
-use Rattle.section_data.specs.Views.{CellView}
-use Rattle.section_data.specs.Held.{piece_in}
-use Rattle.section_data.specs.Leaves.{OwnsKind, replaced}
-use Rattle.section_data.specs.Lends.{with_items}
-use Rattle.section_data.specs.Refused.{lend_due, preparing}
+use Rattle.section_table.specs.section_data.Views.{CellView}
+use Rattle.section_table.specs.section_data.Held.{piece_in}
+use Rattle.section_table.specs.section_data.Leaves.{OwnsKind, replaced}
+use Rattle.section_table.specs.section_data.Lends.{with_items}
+use Rattle.section_table.specs.section_data.Refused.{lend_due, preparing}
 use Rattle.elf_descriptor.specs.declared.body.Body.{Body}
 use Rattle.elf_descriptor.specs.State.{State}
 use Rattle.elf_descriptor.specs.Views.{object_of, section_of, scn_at, loaded_of, held_of, state_of, ready_of}

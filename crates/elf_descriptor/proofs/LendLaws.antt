@@ -9,15 +9,15 @@ use Rattle.elf_types.specs.Lists.{refilled}
 use Rattle.elf_types.specs.declared.records.Kind.{Kind}
 use Rattle.elf_types.specs.declared.errors.ElfError.{ElfError}
 use Rattle.elf_types.specs.declared.errors.ElfError.TheVariants.{NoSection, NoData}
-use Rattle.elf_xlate.specs.declared.content.Items.{Items}
-use Rattle.elf_outside.specs.declared.sources.Source.{Ghosts}
-use Rattle.elf_object.specs.Words.{Wants, Answers}
-use Rattle.elf_object.specs.Object.{Object}
-use Rattle.elf_object.specs.Answers.{lend_refusal, items_at, piece_count}
-use Rattle.elf_object.specs.Steps.{with_own}
-use Rattle.elf_object.proofs.PassedLaws.{not_refused}
-use Rattle.elf_object.proofs.StepLaws.{section_count-with_own, piece_count-with_own, items_at-with_own}
-use Rattle.elf_object.proofs.AnswerLaws.{entry_value, lend_passed}
+use Rattle.section_table.specs.elf_xlate.declared.content.Items.{Items}
+use Rattle.section_table.specs.elf_outside.declared.sources.Source.{Ghosts}
+use Rattle.section_table.specs.elf_object.Words.{Wants, Answers}
+use Rattle.section_table.specs.elf_object.Object.{Object}
+use Rattle.section_table.specs.elf_object.Answers.{lend_refusal, items_at, piece_count}
+use Rattle.section_table.specs.elf_object.Steps.{with_own}
+use Rattle.section_table.proofs.elf_object.PassedLaws.{not_refused}
+use Rattle.section_table.proofs.elf_object.StepLaws.{section_count-with_own, piece_count-with_own, items_at-with_own}
+use Rattle.section_table.proofs.elf_object.AnswerLaws.{entry_value, lend_passed}
 use Rattle.elf_descriptor.specs.State.{State}
 use Rattle.elf_descriptor.specs.Entries.{entry}
 use Rattle.elf_descriptor.specs.Lends.{IsLent}

@@ -1,3 +1,9 @@
+pub use Rattle.section_table.proofs.elf_object
+pub use Rattle.section_table.proofs.elf_outside
+pub use Rattle.section_table.proofs.elf_xlate
+pub use Rattle.writing_laws.proofs.object_laws
+pub use Rattle.section_table.proofs.section_data
+pub use Rattle.writing_laws.proofs as writing_laws
 pub mod Refusals
 pub mod Marks
 pub mod Objects

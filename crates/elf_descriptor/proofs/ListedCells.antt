@@ -8,15 +8,15 @@ use Rattle.elf_types.specs.declared.records.Kind.{Kind}
 use Rattle.elf_types.specs.declared.errors.ElfError.{ElfError}
 use Rattle.elf_types.specs.declared.errors.ElfError.TheVariants.{NoSection, NoData, WrongKind, OutOfFile, Ragged}
 use Rattle.elf_types.specs.Answers.{answered, refused_if}
-use Rattle.elf_xlate.specs.declared.content.Items.{Items}
-use Rattle.elf_object.specs.Words.{Answers}
-use Rattle.elf_object.proofs.PassedLaws.{none_first, none_rest, passed_two, not_refused, not_not}
-use Rattle.elf_object.proofs.StepLaws.{same_kind-true}
-use Rattle.elf_object.specs.Answers.{same_kind}
-use Rattle.section_data.specs.Views.{CellView}
-use Rattle.section_data.specs.Held.{piece_in, kind_in, cell_is_loaded, is_ragged, is_at_hand}
-use Rattle.section_data.specs.Refused.{no_piece, wrong_piece_kind, no_home_items, kind_refused, items_refused, home_out, piece_due, loading}
-use Rattle.section_data.specs.Leaves.{Warms}
+use Rattle.section_table.specs.elf_xlate.declared.content.Items.{Items}
+use Rattle.section_table.specs.elf_object.Words.{Answers}
+use Rattle.section_table.proofs.elf_object.PassedLaws.{none_first, none_rest, passed_two, not_refused, not_not}
+use Rattle.section_table.proofs.elf_object.StepLaws.{same_kind-true}
+use Rattle.section_table.specs.elf_object.Answers.{same_kind}
+use Rattle.section_table.specs.section_data.Views.{CellView}
+use Rattle.section_table.specs.section_data.Held.{piece_in, kind_in, cell_is_loaded, is_ragged, is_at_hand}
+use Rattle.section_table.specs.section_data.Refused.{no_piece, wrong_piece_kind, no_home_items, kind_refused, items_refused, home_out, piece_due, loading}
+use Rattle.section_table.specs.section_data.Leaves.{Warms}
 use Rattle.elf_types.specs.declared.records.Ehdr.{Ehdr}
 use Rattle.section_table.specs.Sections.{SectionView as Scn}
 use Rattle.elf_descriptor.specs.declared.body.Body.{Body}

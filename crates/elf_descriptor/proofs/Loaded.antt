@@ -5,13 +5,13 @@ use Rattle.std.proofs.lemmas.Bool.{ltb-true, ltb-false}
 use Rattle.std.proofs.lemmas.Option.{unwrap_or-slice_get}
 use Rattle.std.proofs.lemmas.List.{length-replicate, get_or_past}
 use Rattle.std.proofs.Math.ListN.{get_or-map}
-use Rattle.elf_outside.specs.declared.sources.Source.{Ghosts}
-use Rattle.elf_object.specs.Object.{Section, Piece, section_at}
-use Rattle.elf_object.specs.Open.{home_bytes}
-use Rattle.elf_object.specs.Due.{is_loaded}
-use Rattle.section_data.specs.Views.{CellView, IsCell}
-use Rattle.section_data.specs.Held.{cell_is_loaded}
-use Rattle.section_data.specs.Nuls.{IsEndedFront}
+use Rattle.section_table.specs.elf_outside.declared.sources.Source.{Ghosts}
+use Rattle.section_table.specs.elf_object.Object.{Section, Piece, section_at}
+use Rattle.section_table.specs.elf_object.Open.{home_bytes}
+use Rattle.section_table.specs.elf_object.Due.{is_loaded}
+use Rattle.section_table.specs.section_data.Views.{CellView, IsCell}
+use Rattle.section_table.specs.section_data.Held.{cell_is_loaded}
+use Rattle.section_table.specs.section_data.Nuls.{IsEndedFront}
 use Rattle.elf_descriptor.specs.declared.held.Held.{Held}
 use Rattle.elf_descriptor.specs.declared.held.Held.TheVariants.{Edited, Raw, Unread}
 use Rattle.section_table.specs.Sections.{SectionView as Scn, absent_scn, IsAsOpened}

@@ -1,7 +1,7 @@
 -- Dirty marks, found one after another.
 use Rattle.std.proofs.Common.{◌≡◌, ℕ, zero, suc, ◌<◌, Bool, true, false, ◌||◌, List, [], ◌∷◌, length, map, get_or, refl, sym, ap, ◌∙◌, arith}
 use Rattle.std.specs.List.{list_any}
-use Rattle.elf_object.specs.Object.{Piece}
+use Rattle.section_table.specs.elf_object.Object.{Piece}
 use Rattle.section_table.specs.Sections.{SectionView as Scn}
 use Rattle.elf_descriptor.specs.Bodies.{is_scn_dirty}
 

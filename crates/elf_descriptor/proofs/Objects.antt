@@ -8,13 +8,13 @@ use Rattle.elf_types.specs.declared.records.Kind.{Kind}
 use Rattle.elf_types.specs.declared.errors.ElfError.{ElfError}
 use Rattle.elf_types.specs.declared.errors.ElfError.TheVariants.{NoSection, NoData}
 use Rattle.elf_types.specs.Answers.{answered, refused_if, first_refusal}
-use Rattle.elf_xlate.specs.Translation.{items_kind}
-use Rattle.elf_object.specs.Object.{Section, Piece, header_of, section_at, piece_at, absent_section, home_piece, is_dirty, some_section_marked, some_piece_marked}
-use Rattle.elf_object.specs.Open.{home_bytes}
-use Rattle.elf_object.specs.Answers.{no_section, no_data, piece_count, kind_at, piece_refusal}
-use Rattle.elf_object.specs.Calls.{shdr_answer, pieces_answer, home_answer, piece_kind_answer, piece_align_answer}
-use Rattle.section_data.specs.Held.{piece_in, kind_in}
-use Rattle.section_data.specs.Refused.{no_piece}
+use Rattle.section_table.specs.elf_xlate.Translation.{items_kind}
+use Rattle.section_table.specs.elf_object.Object.{Section, Piece, header_of, section_at, piece_at, absent_section, home_piece, is_dirty, some_section_marked, some_piece_marked}
+use Rattle.section_table.specs.elf_object.Open.{home_bytes}
+use Rattle.section_table.specs.elf_object.Answers.{no_section, no_data, piece_count, kind_at, piece_refusal}
+use Rattle.section_table.specs.elf_object.Calls.{shdr_answer, pieces_answer, home_answer, piece_kind_answer, piece_align_answer}
+use Rattle.section_table.specs.section_data.Held.{piece_in, kind_in}
+use Rattle.section_table.specs.section_data.Refused.{no_piece}
 use Rattle.section_table.specs.Sections.{absent_scn}
 use Rattle.elf_descriptor.specs.declared.body.Body.{Body}
 use Rattle.elf_descriptor.specs.declared.body.Base.{Base}

@@ -4,12 +4,12 @@ use Rattle.std.specs.Prelude.{OnOk, OnErr, IfErr, IfSome, IsSome, is_some}
 use Rattle.elf_types.specs.declared.records.Kind.{Kind}
 use Rattle.elf_types.specs.declared.errors.ElfError.{ElfError}
 use Rattle.elf_types.specs.declared.errors.ElfError.TheVariants.{Memory}
-use Rattle.elf_xlate.specs.declared.content.Items.{Items}
-use Rattle.elf_xlate.specs.Translation.{items_kind}
-use Rattle.elf_object.specs.Object.{Piece}
-use Rattle.section_data.specs.Views.{CellView, IsCell}
-use Rattle.section_data.specs.Held.{piece_in, HeldIs}
-use Rattle.section_data.specs.Leaves.{Owns, OwnsKind, Stays}
+use Rattle.section_table.specs.elf_xlate.declared.content.Items.{Items}
+use Rattle.section_table.specs.elf_xlate.Translation.{items_kind}
+use Rattle.section_table.specs.elf_object.Object.{Piece}
+use Rattle.section_table.specs.section_data.Views.{CellView, IsCell}
+use Rattle.section_table.specs.section_data.Held.{piece_in, HeldIs}
+use Rattle.section_table.specs.section_data.Leaves.{Owns, OwnsKind, Stays}
 use Rattle.section_table.specs.Sections.{SectionView as Scn}
 use Rattle.elf_descriptor.specs.declared.body.Body.{Body}
 use Rattle.elf_descriptor.specs.Views.{scn_at}

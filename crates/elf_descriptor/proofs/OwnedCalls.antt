@@ -9,21 +9,21 @@ use Rattle.elf_types.specs.declared.records.Kind.{Kind}
 use Rattle.elf_types.specs.declared.errors.ElfError.{ElfError}
 use Rattle.elf_types.specs.declared.errors.ElfError.TheVariants.{Memory}
 use Rattle.elf_types.specs.Answers.{answered, first_refusal}
-use Rattle.elf_xlate.specs.declared.content.Items.{Items}
-use Rattle.elf_xlate.specs.Translation.{items_kind}
-use Rattle.elf_outside.specs.declared.sources.Source.{Ghosts}
-use Rattle.elf_outside.specs.Asks.{Asks, Leaves}
-use Rattle.elf_object.specs.Words.{Answers, AlikeItems}
-use Rattle.elf_object.specs.Object.{Object, Section, Piece}
-use Rattle.elf_object.specs.Answers.{lend_refusal, items_at, piece_count}
-use Rattle.elf_object.specs.Steps.{BecomesOwn}
-use Rattle.elf_object.specs.Calls.{due, wants, reader}
-use Rattle.elf_object.specs.Calls as calls
-use Rattle.elf_object.specs.Due.{is_loaded, homes_due, unless_refused, when_piece_clean}
-use Rattle.section_data.specs.Views.{CellView, IsCell}
-use Rattle.section_data.specs.Held.{piece_in, cell_is_loaded, piece_holds_items, ready}
-use Rattle.section_data.specs.Leaves.{Warms, OwnsKind}
-use Rattle.section_data.specs.Refused.{kind_refused, no_home_items, lend_due, preparing}
+use Rattle.section_table.specs.elf_xlate.declared.content.Items.{Items}
+use Rattle.section_table.specs.elf_xlate.Translation.{items_kind}
+use Rattle.section_table.specs.elf_outside.declared.sources.Source.{Ghosts}
+use Rattle.section_table.specs.elf_outside.Asks.{Asks, Leaves}
+use Rattle.section_table.specs.elf_object.Words.{Answers, AlikeItems}
+use Rattle.section_table.specs.elf_object.Object.{Object, Section, Piece}
+use Rattle.section_table.specs.elf_object.Answers.{lend_refusal, items_at, piece_count}
+use Rattle.section_table.specs.elf_object.Steps.{BecomesOwn}
+use Rattle.section_table.specs.elf_object.Calls.{due, wants, reader}
+use Rattle.section_table.specs.elf_object.Calls as calls
+use Rattle.section_table.specs.elf_object.Due.{is_loaded, homes_due, unless_refused, when_piece_clean}
+use Rattle.section_table.specs.section_data.Views.{CellView, IsCell}
+use Rattle.section_table.specs.section_data.Held.{piece_in, cell_is_loaded, piece_holds_items, ready}
+use Rattle.section_table.specs.section_data.Leaves.{Warms, OwnsKind}
+use Rattle.section_table.specs.section_data.Refused.{kind_refused, no_home_items, lend_due, preparing}
 use Rattle.section_table.specs.Sections.{SectionView as Scn}
 use Rattle.elf_descriptor.specs.declared.body.Body.{Body}
 use Rattle.elf_descriptor.specs.Views.{object_of, section_of, scn_at, no_scn, loaded_of, held_of, state_of, ready_of}

@@ -12,20 +12,20 @@ use Rattle.elf_types.specs.declared.records.Order.{Order}
 use Rattle.elf_types.specs.declared.records.Kind.{Kind}
 use Rattle.elf_types.specs.declared.records.Ehdr.{Ehdr}
 use Rattle.elf_types.specs.Answers.{answered}
-use Rattle.elf_xlate.specs.declared.content.Items.{Items}
-use Rattle.elf_xlate.specs.Translation.{items_kind}
-use Rattle.elf_object.specs.Object.{Object, Section, Piece, home_piece}
-use Rattle.elf_object.specs.Answers.{lend_refusal, items_at}
-use Rattle.elf_object.specs.Steps.{with_own, with_section, own_piece}
-use Rattle.elf_object.specs.Valid.{IsPiece, OthersOwn, KeepsObject, KeepsTied}
-use Rattle.elf_object.specs.Calls as calls
-use Rattle.elf_object.proofs.PieceLaws.{IsOwn}
+use Rattle.section_table.specs.elf_xlate.declared.content.Items.{Items}
+use Rattle.section_table.specs.elf_xlate.Translation.{items_kind}
+use Rattle.section_table.specs.elf_object.Object.{Object, Section, Piece, home_piece}
+use Rattle.section_table.specs.elf_object.Answers.{lend_refusal, items_at}
+use Rattle.section_table.specs.elf_object.Steps.{with_own, with_section, own_piece}
+use Rattle.section_table.specs.elf_object.Valid.{IsPiece, OthersOwn, KeepsObject, KeepsTied}
+use Rattle.section_table.specs.elf_object.Calls as calls
+use Rattle.section_table.proofs.elf_object.PieceLaws.{IsOwn}
 use Rattle.writing_laws.specs.Based.{KeepsBased}
-use Rattle.section_data.specs.Views.{CellView, IsCell}
-use Rattle.section_data.specs.Held.{piece_in, piece_holds_items, ready}
-use Rattle.section_data.specs.Leaves.{Owns, LiesIn}
-use Rattle.section_data.proofs.Holdings.{ready_own}
-use Rattle.section_data.proofs.Owning.{own_kind, claimed_piece}
+use Rattle.section_table.specs.section_data.Views.{CellView, IsCell}
+use Rattle.section_table.specs.section_data.Held.{piece_in, piece_holds_items, ready}
+use Rattle.section_table.specs.section_data.Leaves.{Owns, LiesIn}
+use Rattle.section_table.proofs.section_data.Holdings.{ready_own}
+use Rattle.section_table.proofs.section_data.Owning.{own_kind, claimed_piece}
 use Rattle.section_table.specs.Sections.{SectionView as Scn, absent_scn}
 use Rattle.elf_descriptor.specs.declared.body.Body.{Body}
 use Rattle.elf_descriptor.specs.Views.{object_of, section_of, raw_of, scn_at, has_mark}

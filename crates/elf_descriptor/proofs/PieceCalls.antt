@@ -9,20 +9,20 @@ use Rattle.elf_types.specs.declared.records.Kind.{Kind}
 use Rattle.elf_types.specs.declared.errors.ElfError.{ElfError}
 use Rattle.elf_types.specs.declared.errors.ElfError.TheVariants.{Memory, NoSection, NoData, WrongKind, OutOfFile, Ragged}
 use Rattle.elf_types.specs.Answers.{answered, refused_if, first_refusal, err_of}
-use Rattle.elf_xlate.specs.declared.content.Items.{Items}
-use Rattle.elf_xlate.specs.Translation.{decoded, is_whole}
-use Rattle.elf_xlate.proofs.Decoded.{whole_is}
-use Rattle.elf_outside.specs.declared.sources.Source.{Ghosts}
-use Rattle.elf_outside.specs.Asks.{Asks}
-use Rattle.elf_object.specs.Words.{Wants, Answers}
-use Rattle.elf_object.specs.Object.{Object, Section, Piece, section_at, absent_section}
-use Rattle.elf_object.specs.Answers.{content, no_section, no_data, wrong_kind, no_content, same_kind, data_refusal, lend_refusal}
-use Rattle.elf_object.specs.Valid.{IsSection}
-use Rattle.elf_object.specs.Calls.{reader}
-use Rattle.elf_object.specs.Due.{is_loaded, holds_items, homes_due, unless_refused, when_piece_clean}
-use Rattle.section_data.specs.Views.{CellView}
-use Rattle.section_data.specs.Held.{piece_in, kind_in, cell_is_loaded, piece_holds_items, ready, is_ragged}
-use Rattle.section_data.specs.Refused.{no_piece, wrong_piece_kind, no_home_items, items_refused, kind_refused, home_out, home_ragged, load_due, piece_due, due_unless}
+use Rattle.section_table.specs.elf_xlate.declared.content.Items.{Items}
+use Rattle.section_table.specs.elf_xlate.Translation.{decoded, is_whole}
+use Rattle.section_table.proofs.elf_xlate.Decoded.{whole_is}
+use Rattle.section_table.specs.elf_outside.declared.sources.Source.{Ghosts}
+use Rattle.section_table.specs.elf_outside.Asks.{Asks}
+use Rattle.section_table.specs.elf_object.Words.{Wants, Answers}
+use Rattle.section_table.specs.elf_object.Object.{Object, Section, Piece, section_at, absent_section}
+use Rattle.section_table.specs.elf_object.Answers.{content, no_section, no_data, wrong_kind, no_content, same_kind, data_refusal, lend_refusal}
+use Rattle.section_table.specs.elf_object.Valid.{IsSection}
+use Rattle.section_table.specs.elf_object.Calls.{reader}
+use Rattle.section_table.specs.elf_object.Due.{is_loaded, holds_items, homes_due, unless_refused, when_piece_clean}
+use Rattle.section_table.specs.section_data.Views.{CellView}
+use Rattle.section_table.specs.section_data.Held.{piece_in, kind_in, cell_is_loaded, piece_holds_items, ready, is_ragged}
+use Rattle.section_table.specs.section_data.Refused.{no_piece, wrong_piece_kind, no_home_items, items_refused, kind_refused, home_out, home_ragged, load_due, piece_due, due_unless}
 use Rattle.section_table.specs.Sections.{SectionView as Scn, absent_scn}
 use Rattle.elf_descriptor.specs.declared.body.Body.{Body}
 use Rattle.elf_descriptor.specs.Views.{object_of, section_of, raw_of, scn_at, no_scn, loaded_of, held_of, state_of}

@@ -8,26 +8,26 @@ use Rattle.std.proofs.lemmas.List.FromFn.{length-map-range_with_len, length-enum
 use Rattle.std.proofs.lemmas.Option.{get_or_from_slice_get, slice_get_within}
 use Rattle.elf_types.specs.declared.records.Ehdr.{Ehdr}
 use Rattle.elf_types.specs.declared.records.Shdr.{Shdr}
-use Rattle.elf_layout.specs.declared.parts.PartAt.{PartAt}
-use Rattle.elf_layout.specs.declared.parts.Places.{Places}
-use Rattle.elf_layout.specs.Layout.{positions, standing, places_of as parts_places}
-use Rattle.elf_outside.specs.declared.sources.Source.{Ghosts}
-use Rattle.elf_object.specs.Object.{Object, Section, section_at, occupies_file, has_file_bytes, is_null, is_dirty}
-use Rattle.elf_object.specs.Joined.{file_bytes}
-use Rattle.elf_object.specs.Derived.{derived_header, numbered_shdr}
-use Rattle.elf_object.specs.Layout.{parts_of, places_of, placed, placed_by, placed_header, placed_shdr, placed_section, section_place, segments_place, table_place, section_part, section_numbers, table_part}
-use Rattle.elf_object.specs.Refusal.{refusal, placing_refusal}
-use Rattle.elf_object.specs.Image.{image_length}
+use Rattle.section_table.specs.elf_layout.declared.parts.PartAt.{PartAt}
+use Rattle.section_table.specs.elf_layout.declared.parts.Places.{Places}
+use Rattle.section_table.specs.elf_layout.Layout.{positions, standing, places_of as parts_places}
+use Rattle.section_table.specs.elf_outside.declared.sources.Source.{Ghosts}
+use Rattle.section_table.specs.elf_object.Object.{Object, Section, section_at, occupies_file, has_file_bytes, is_null, is_dirty}
+use Rattle.section_table.specs.elf_object.Joined.{file_bytes}
+use Rattle.section_table.specs.elf_object.Derived.{derived_header, numbered_shdr}
+use Rattle.section_table.specs.elf_object.Layout.{parts_of, places_of, placed, placed_by, placed_header, placed_shdr, placed_section, section_place, segments_place, table_place, section_part, section_numbers, table_part}
+use Rattle.section_table.specs.elf_object.Refusal.{refusal, placing_refusal}
+use Rattle.section_table.specs.elf_object.Image.{image_length}
 use Rattle.elf_types.specs.declared.errors.ElfError.{ElfError}
 use Rattle.elf_types.specs.Answers.{answered}
-use Rattle.elf_object.specs.Calls.{update_null}
-use Rattle.elf_object.specs.Valid.{KeepsObject, KeepsTied}
-use Rattle.object_laws.specs.Laws.{SizesAreLengths}
-use Rattle.object_laws.proofs.PlaceLaws.{AreNotTooLarge, IsFitting, not_too_large}
-use Rattle.object_laws.proofs.PlacedLaws.{size_fits, update_passes}
-use Rattle.object_laws.proofs.StandLaws.{length-standing}
+use Rattle.section_table.specs.elf_object.Calls.{update_null}
+use Rattle.section_table.specs.elf_object.Valid.{KeepsObject, KeepsTied}
+use Rattle.writing_laws.specs.object_laws.Laws.{SizesAreLengths}
+use Rattle.writing_laws.proofs.object_laws.PlaceLaws.{AreNotTooLarge, IsFitting, not_too_large}
+use Rattle.writing_laws.proofs.object_laws.PlacedLaws.{size_fits, update_passes}
+use Rattle.writing_laws.proofs.object_laws.StandLaws.{length-standing}
 use Rattle.writing_laws.specs.Based.{KeepsBased}
-use Rattle.section_data.specs.Sizes.{data_size}
+use Rattle.section_table.specs.section_data.Sizes.{data_size}
 use Rattle.section_table.specs.Sections.{SectionView as Scn, absent_scn}
 use Rattle.elf_descriptor.specs.declared.body.Body.{Body}
 use Rattle.elf_descriptor.specs.State.{State}

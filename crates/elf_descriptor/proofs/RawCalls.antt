@@ -5,17 +5,17 @@ use Rattle.std.proofs.lemmas.Bool.{ltb-true, ltb-false, le-leb, leb-true}
 use Rattle.elf_types.specs.declared.errors.ElfError.{ElfError}
 use Rattle.elf_types.specs.declared.errors.ElfError.TheVariants.{Memory, NoSection, OutOfFile}
 use Rattle.elf_types.specs.Answers.{answered, refused_if, first_refusal, err_of}
-use Rattle.elf_outside.specs.declared.sources.Source.{Ghosts}
-use Rattle.elf_outside.specs.Asks.{Asks}
-use Rattle.elf_object.specs.Words.{Answers}
-use Rattle.elf_object.specs.Object.{Object, Section, section_at}
-use Rattle.elf_object.specs.Answers.{out_of_file, raw_refusal}
-use Rattle.elf_object.specs.Calls.{raw_answer, wants}
-use Rattle.elf_object.specs.Calls as calls
-use Rattle.elf_object.specs.Due.{is_loaded, home_due, homes_due, unless_refused}
-use Rattle.section_data.specs.Views.{CellView}
-use Rattle.section_data.specs.Held.{cell_is_loaded}
-use Rattle.section_data.specs.Refused.{home_out, load_due, loading}
+use Rattle.section_table.specs.elf_outside.declared.sources.Source.{Ghosts}
+use Rattle.section_table.specs.elf_outside.Asks.{Asks}
+use Rattle.section_table.specs.elf_object.Words.{Answers}
+use Rattle.section_table.specs.elf_object.Object.{Object, Section, section_at}
+use Rattle.section_table.specs.elf_object.Answers.{out_of_file, raw_refusal}
+use Rattle.section_table.specs.elf_object.Calls.{raw_answer, wants}
+use Rattle.section_table.specs.elf_object.Calls as calls
+use Rattle.section_table.specs.elf_object.Due.{is_loaded, home_due, homes_due, unless_refused}
+use Rattle.section_table.specs.section_data.Views.{CellView}
+use Rattle.section_table.specs.section_data.Held.{cell_is_loaded}
+use Rattle.section_table.specs.section_data.Refused.{home_out, load_due, loading}
 use Rattle.section_table.specs.Sections.{SectionView as Scn, absent_scn}
 use Rattle.elf_descriptor.specs.declared.body.Body.{Body}
 use Rattle.elf_descriptor.specs.Views.{object_of, section_of, scn_at, no_scn, loaded_of, held_of, state_of}

@@ -6,16 +6,16 @@ use Rattle.std.proofs.Math.Nat.{zero-add}
 use Rattle.elf_types.specs.declared.errors.ElfError.{ElfError}
 use Rattle.elf_types.specs.declared.errors.ElfError.TheVariants.{Memory}
 use Rattle.elf_types.specs.Answers.{answered, IsRefusal}
-use Rattle.elf_xlate.specs.declared.content.Items.{Items}
-use Rattle.elf_outside.specs.declared.sources.Source.{Ghosts}
-use Rattle.elf_outside.specs.Asks.{Asks, Leaves}
-use Rattle.elf_object.specs.Words.{Wants, Answers}
-use Rattle.elf_object.specs.Object.{Object, piece_at}
-use Rattle.elf_object.specs.Due.{is_loaded, holds_items, home_due, homes_due, unless_refused, is_refused_unread}
-use Rattle.elf_object.proofs.AnswerLaws.{answers_refusal, answered_refusal}
-use Rattle.section_data.specs.Views.{CellView}
-use Rattle.section_data.specs.Held.{cell_is_loaded}
-use Rattle.section_data.specs.Leaves.{Warms, RawBecomes}
+use Rattle.section_table.specs.elf_xlate.declared.content.Items.{Items}
+use Rattle.section_table.specs.elf_outside.declared.sources.Source.{Ghosts}
+use Rattle.section_table.specs.elf_outside.Asks.{Asks, Leaves}
+use Rattle.section_table.specs.elf_object.Words.{Wants, Answers}
+use Rattle.section_table.specs.elf_object.Object.{Object, piece_at}
+use Rattle.section_table.specs.elf_object.Due.{is_loaded, holds_items, home_due, homes_due, unless_refused, is_refused_unread}
+use Rattle.section_table.proofs.elf_object.AnswerLaws.{answers_refusal, answered_refusal}
+use Rattle.section_table.specs.section_data.Views.{CellView}
+use Rattle.section_table.specs.section_data.Held.{cell_is_loaded}
+use Rattle.section_table.specs.section_data.Leaves.{Warms, RawBecomes}
 use Rattle.section_table.specs.Sections.{SectionView as Scn}
 use Rattle.elf_descriptor.specs.declared.body.Body.{Body}
 use Rattle.elf_descriptor.specs.Views.{object_of, scn_at, loaded_of, held_of, state_of}

@@ -5,13 +5,13 @@ use Rattle.std.proofs.lemmas.List.Elements.{Contains-append_left, Contains-appen
 use Rattle.std.proofs.lemmas.List.Sums.{sum_by-append, sum_by-cons}
 use Rattle.elf_types.specs.declared.errors.ElfError.{ElfError}
 use Rattle.elf_types.specs.Answers.{IsRefusal}
-use Rattle.elf_outside.specs.declared.sources.Source.{Ghosts}
-use Rattle.elf_outside.specs.Asks.{ReadRose}
-use Rattle.elf_outside.proofs.AskLemmas.{asks_both, asks_then, asks_fewer}
-use Rattle.elf_object.specs.Object.{Object, section_at}
-use Rattle.elf_object.specs.Due.{is_loaded, home_due, homes_due}
+use Rattle.section_table.specs.elf_outside.declared.sources.Source.{Ghosts}
+use Rattle.section_table.specs.elf_outside.Asks.{ReadRose}
+use Rattle.section_table.proofs.elf_outside.AskLemmas.{asks_both, asks_then, asks_fewer}
+use Rattle.section_table.specs.elf_object.Object.{Object, section_at}
+use Rattle.section_table.specs.elf_object.Due.{is_loaded, home_due, homes_due}
 use Rattle.elf_descriptor.specs.State.{State}
-use Rattle.elf_object.specs.Calls.{Call, due}
+use Rattle.section_table.specs.elf_object.Calls.{Call, due}
 use Rattle.elf_descriptor.specs.Reads.{Reads, Looks}
 
 -- an answer after a step that was Ok, or that was refused as the answer is

@@ -3,13 +3,13 @@ use Rattle.std.proofs.Common.{◌≡◌, ◌∙◌, ℕ, zero, suc, ◌+◌, ◌
 use Rattle.std.specs.Prelude.{slice_get, ◌||◌, IfSome, IsSome, is_some, if◌then◌else◌}
 use Rattle.std.proofs.lemmas.List.{length-take, length-drop}
 use Rattle.std.proofs.lemmas.List.Elements.{All-get_or, All-take, All-replicate, All-from_get_or}
-use Rattle.elf_object.specs.Object.{Object, Section, section_at, absent_section, is_dirty}
-use Rattle.elf_object.specs.Open.{home_bytes}
+use Rattle.section_table.specs.elf_object.Object.{Object, Section, section_at, absent_section, is_dirty}
+use Rattle.section_table.specs.elf_object.Open.{home_bytes}
 use Rattle.elf_types.specs.Lists.{AreBytes}
-use Rattle.elf_object.specs.Valid.{IsObject}
+use Rattle.section_table.specs.elf_object.Valid.{IsObject}
 use Rattle.writing_laws.specs.Based.{IsBased, HomeStands, some_unmarked}
-use Rattle.section_data.specs.Views.{CellView}
-use Rattle.section_data.specs.Held.{cell_is_loaded}
+use Rattle.section_table.specs.section_data.Views.{CellView}
+use Rattle.section_table.specs.section_data.Held.{cell_is_loaded}
 use Rattle.section_table.specs.Sections.{SectionView as Scn, absent_scn}
 use Rattle.elf_descriptor.specs.declared.body.Body.{Body}
 use Rattle.elf_descriptor.specs.declared.body.Base.{Base}

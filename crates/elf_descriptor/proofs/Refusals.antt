@@ -4,9 +4,9 @@ use Rattle.std.specs.Prelude.{IsTrue, ◌⊎◌, slice_get}
 use Rattle.elf_types.specs.declared.errors.ElfError.{ElfError}
 use Rattle.elf_types.specs.declared.errors.ElfError.TheVariants.{Memory, Read, NoEntry, Unfit, BadChain, Unended}
 use Rattle.elf_types.specs.Answers.{answered, refused_if, first_refusal, err_of}
-use Rattle.elf_object.specs.Words.{Wants, Answers, is_late}
-use Rattle.elf_object.specs.Answers.{entry_answer}
-use Rattle.elf_object.specs.Due.{is_refused_unread, unless_refused}
+use Rattle.section_table.specs.elf_object.Words.{Wants, Answers, is_late}
+use Rattle.section_table.specs.elf_object.Answers.{entry_answer}
+use Rattle.section_table.specs.elf_object.Due.{is_refused_unread, unless_refused}
 
 -- what a test refuses is refused in a call that it comes first in
 pub answered_err : {A B E : Type 0} (refusal : Option E) (v : A) (w : B) (e : E) → answered refusal v ≡ Err e → answered refusal w ≡ Err e

@@ -6,13 +6,13 @@ use Rattle.std.proofs.Math.ListN.{replicate}
 use Rattle.std.proofs.lemmas.List.{length-take, length-drop}
 use Rattle.std.proofs.lemmas.Option.{get_or_from_slice_get, slice_get_within}
 use Rattle.elf_types.specs.declared.records.Shdr.{Shdr}
-use Rattle.elf_object.specs.Object.{Object, Section, Home, WrittenFront, home_piece, section_at}
-use Rattle.elf_object.specs.Open.{home_of, home_bytes, front_in_image}
-use Rattle.elf_object.specs.Derived.{written_header}
-use Rattle.elf_object.specs.Joined.{file_bytes}
-use Rattle.elf_object.specs.Image.{front_blocks}
-use Rattle.elf_object.specs.Settled.{settled_section, settled_over, blank, untold_section, untold}
-use Rattle.section_data.proofs.Loading.{opened_lies}
+use Rattle.section_table.specs.elf_object.Object.{Object, Section, Home, WrittenFront, home_piece, section_at}
+use Rattle.section_table.specs.elf_object.Open.{home_of, home_bytes, front_in_image}
+use Rattle.section_table.specs.elf_object.Derived.{written_header}
+use Rattle.section_table.specs.elf_object.Joined.{file_bytes}
+use Rattle.section_table.specs.elf_object.Image.{front_blocks}
+use Rattle.section_table.specs.elf_object.Settled.{settled_section, settled_over, blank, untold_section, untold}
+use Rattle.section_table.proofs.section_data.Loading.{opened_lies}
 use Rattle.section_table.specs.Sections.{SectionView as Scn, absent_scn, reopened_scn}
 use Rattle.elf_descriptor.specs.declared.body.Body.{Body}
 use Rattle.elf_descriptor.specs.Views.{object_of, section_of, raw_of, source_bytes, scn_at}

@@ -7,27 +7,27 @@ use Rattle.std.proofs.lemmas.Option.{get_or_from_slice_get, slice_get_within}
 use Rattle.elf_types.specs.declared.records.Ehdr.{Ehdr}
 use Rattle.elf_types.specs.declared.records.Phdr.{Phdr}
 use Rattle.elf_types.specs.declared.records.Shdr.{Shdr}
-use Rattle.elf_xlate.specs.Headers.{IsPhdr, IsShdr, phdr_fits, shdr_fits}
-use Rattle.elf_outside.specs.declared.sources.Source.{Ghosts}
-use Rattle.elf_object.specs.Object.{Object, section_at, is_dirty}
-use Rattle.elf_object.specs.Open.{home_of, home_bytes}
-use Rattle.elf_object.specs.Derived.{written_header}
-use Rattle.elf_object.specs.Joined.{file_bytes}
-use Rattle.elf_object.specs.Layout.{places_of, placed, placed_by}
-use Rattle.elf_object.specs.Image.{image as image_of}
-use Rattle.elf_object.specs.Refusal.{refusal}
-use Rattle.elf_object.specs.Settled.{settled_over, settled}
-use Rattle.elf_object.specs.Valid.{IsObject, IsTied}
-use Rattle.elf_object.proofs.SettledSections.{settled-told}
-use Rattle.object_laws.specs.Laws.{UpdatesKeep, UpdatesTie}
-use Rattle.object_laws.proofs.ImageLaws.{placed-dirty}
-use Rattle.object_laws.proofs.StandLaws.{section_count-placed}
-use Rattle.object_laws.proofs.CountLaws.{headers_of}
-use Rattle.object_laws.proofs.FrontLaws.{ArePhdrs, AreShdrs, IsReadable}
-use Rattle.object_laws.proofs.SettledLaws.{placed_readable, section_raw, settle-dirty}
+use Rattle.section_table.specs.elf_xlate.Headers.{IsPhdr, IsShdr, phdr_fits, shdr_fits}
+use Rattle.section_table.specs.elf_outside.declared.sources.Source.{Ghosts}
+use Rattle.section_table.specs.elf_object.Object.{Object, section_at, is_dirty}
+use Rattle.section_table.specs.elf_object.Open.{home_of, home_bytes}
+use Rattle.section_table.specs.elf_object.Derived.{written_header}
+use Rattle.section_table.specs.elf_object.Joined.{file_bytes}
+use Rattle.section_table.specs.elf_object.Layout.{places_of, placed, placed_by}
+use Rattle.section_table.specs.elf_object.Image.{image as image_of}
+use Rattle.section_table.specs.elf_object.Refusal.{refusal}
+use Rattle.section_table.specs.elf_object.Settled.{settled_over, settled}
+use Rattle.section_table.specs.elf_object.Valid.{IsObject, IsTied}
+use Rattle.section_table.proofs.elf_object.SettledSections.{settled-told}
+use Rattle.writing_laws.specs.object_laws.Laws.{UpdatesKeep, UpdatesTie}
+use Rattle.writing_laws.proofs.object_laws.ImageLaws.{placed-dirty}
+use Rattle.writing_laws.proofs.object_laws.StandLaws.{section_count-placed}
+use Rattle.writing_laws.proofs.object_laws.CountLaws.{headers_of}
+use Rattle.writing_laws.proofs.object_laws.FrontLaws.{ArePhdrs, AreShdrs, IsReadable}
+use Rattle.writing_laws.proofs.object_laws.SettledLaws.{placed_readable, section_raw, settle-dirty}
 use Rattle.writing_laws.specs.Based.{IsBased, UpdatesKeepBased}
-use Rattle.section_data.proofs.Loading.{opened_lies}
-use Rattle.section_data.specs.Held.{cell_is_loaded}
+use Rattle.section_table.proofs.section_data.Loading.{opened_lies}
+use Rattle.section_table.specs.section_data.Held.{cell_is_loaded}
 use Rattle.section_table.specs.Sections.{SectionView as Scn, absent_scn, reopened_scn}
 use Rattle.elf_descriptor.specs.declared.body.Written.{Written}
 use Rattle.elf_descriptor.specs.declared.body.Base.{Base}

@@ -4,11 +4,11 @@ use Rattle.std.specs.Prelude.{min, nat_lt, if◌then◌else◌}
 use Rattle.std.proofs.lemmas.Bool.{ltb-true, ltb-false}
 use Rattle.elf_types.specs.declared.errors.ElfError.{ElfError}
 use Rattle.elf_types.specs.Answers.{answered}
-use Rattle.elf_object.specs.Object.{Section}
-use Rattle.elf_object.specs.Answers.{no_section}
-use Rattle.elf_object.specs.Joined.{pieces_end}
-use Rattle.section_data.specs.Sizes.{home_size, data_size}
-use Rattle.section_data.proofs.Sizes.{data_size_is}
+use Rattle.section_table.specs.elf_object.Object.{Section}
+use Rattle.section_table.specs.elf_object.Answers.{no_section}
+use Rattle.section_table.specs.elf_object.Joined.{pieces_end}
+use Rattle.section_table.specs.section_data.Sizes.{home_size, data_size}
+use Rattle.section_table.proofs.section_data.Sizes.{data_size_is}
 use Rattle.elf_descriptor.specs.declared.body.Body.{Body}
 use Rattle.elf_descriptor.specs.Views.{object_of, section_of, raw_of, scn_at, no_scn}
 use Rattle.elf_descriptor.specs.Sound.{IsElf}

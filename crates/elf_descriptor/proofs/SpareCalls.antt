@@ -5,8 +5,8 @@ use Rattle.std.proofs.lemmas.List.{length-append, take_all}
 use Rattle.std.proofs.lemmas.Bool.{eqb-false}
 use Rattle.elf_types.specs.declared.errors.ElfError.{ElfError}
 use Rattle.elf_types.specs.declared.records.Shdr.{Shdr}
-use Rattle.elf_outside.specs.declared.sources.Source.{Ghosts}
-use Rattle.elf_object.specs.Object.{is_dirty}
+use Rattle.section_table.specs.elf_outside.declared.sources.Source.{Ghosts}
+use Rattle.section_table.specs.elf_object.Object.{is_dirty}
 use Rattle.elf_descriptor.specs.declared.body.Body.{Body}
 use Rattle.elf_descriptor.specs.declared.body.Spare.{Spare}
 use Rattle.elf_descriptor.specs.declared.body.Base.TheVariants as bases

@@ -9,26 +9,26 @@ use Rattle.elf_types.specs.declared.records.Part.TheVariants as part
 use Rattle.elf_types.specs.declared.errors.ElfError.{ElfError}
 use Rattle.elf_types.specs.declared.errors.ElfError.TheVariants.{NoEntry, Unfit}
 use Rattle.elf_types.specs.Answers.{answered, refused_if, first_refusal, IsRefusal}
-use Rattle.elf_xlate.specs.declared.content.Items.{Items}
-use Rattle.elf_xlate.specs.Items.{item_size}
-use Rattle.elf_xlate.specs.Translation.{decoded, items_kind, items_count, is_whole}
-use Rattle.elf_xlate.proofs.Decoded.{whole_is}
-use Rattle.elf_xlate.proofs.Decoded as counts
-use Rattle.elf_outside.specs.declared.sources.Source.{Ghosts}
-use Rattle.elf_outside.specs.Asks.{ReadRose}
-use Rattle.elf_object.specs.Words.{Answers}
-use Rattle.elf_object.specs.Object.{Object, Piece}
-use Rattle.elf_object.specs.Answers.{content, items_at, count_at, no_entry, lend_refusal, item_refusal}
-use Rattle.elf_object.specs.Answers as object
-use Rattle.elf_object.specs.Calls.{update_item_refusal}
-use Rattle.elf_object.specs.Calls as calls
-use Rattle.elf_object.specs.Due.{homes_due}
-use Rattle.elf_object.specs.Steps.{with_own}
-use Rattle.elf_object.proofs.PassedLaws.{none_first, none_rest, not_refused}
-use Rattle.elf_object.proofs.AnswerLaws.{lend_kind}
-use Rattle.section_data.specs.Held.{piece_in, count_in}
-use Rattle.section_data.specs.Refused.{kind_refused, no_home_items, store_refused}
-use Rattle.section_data.proofs.Holdings.{count_own, count_clean}
+use Rattle.section_table.specs.elf_xlate.declared.content.Items.{Items}
+use Rattle.section_table.specs.elf_xlate.Items.{item_size}
+use Rattle.section_table.specs.elf_xlate.Translation.{decoded, items_kind, items_count, is_whole}
+use Rattle.section_table.proofs.elf_xlate.Decoded.{whole_is}
+use Rattle.section_table.proofs.elf_xlate.Decoded as counts
+use Rattle.section_table.specs.elf_outside.declared.sources.Source.{Ghosts}
+use Rattle.section_table.specs.elf_outside.Asks.{ReadRose}
+use Rattle.section_table.specs.elf_object.Words.{Answers}
+use Rattle.section_table.specs.elf_object.Object.{Object, Piece}
+use Rattle.section_table.specs.elf_object.Answers.{content, items_at, count_at, no_entry, lend_refusal, item_refusal}
+use Rattle.section_table.specs.elf_object.Answers as object
+use Rattle.section_table.specs.elf_object.Calls.{update_item_refusal}
+use Rattle.section_table.specs.elf_object.Calls as calls
+use Rattle.section_table.specs.elf_object.Due.{homes_due}
+use Rattle.section_table.specs.elf_object.Steps.{with_own}
+use Rattle.section_table.proofs.elf_object.PassedLaws.{none_first, none_rest, not_refused}
+use Rattle.section_table.proofs.elf_object.AnswerLaws.{lend_kind}
+use Rattle.section_table.specs.section_data.Held.{piece_in, count_in}
+use Rattle.section_table.specs.section_data.Refused.{kind_refused, no_home_items, store_refused}
+use Rattle.section_table.proofs.section_data.Holdings.{count_own, count_clean}
 use Rattle.elf_descriptor.specs.declared.body.Body.{Body}
 use Rattle.elf_descriptor.specs.Views.{object_of, raw_of, scn_at, no_scn}
 use Rattle.elf_descriptor.specs.Bodies.{no_list_in}

@@ -1,10 +1,10 @@
 -- A table of strings that is held, as the state says it.
 use Rattle.std.proofs.Common.{ℕ, ◌<◌, length, sym, ap, ◌∙◌, subst}
-use Rattle.elf_outside.specs.declared.sources.Source.{Ghosts}
-use Rattle.elf_object.specs.Object.{Section, Piece}
-use Rattle.elf_object.specs.Answers.{piece_count}
-use Rattle.section_data.specs.Held.{piece_in}
-use Rattle.section_data.proofs.Holdings.{none_of}
+use Rattle.section_table.specs.elf_outside.declared.sources.Source.{Ghosts}
+use Rattle.section_table.specs.elf_object.Object.{Section, Piece}
+use Rattle.section_table.specs.elf_object.Answers.{piece_count}
+use Rattle.section_table.specs.section_data.Held.{piece_in}
+use Rattle.section_table.proofs.section_data.Holdings.{none_of}
 use Rattle.elf_descriptor.specs.declared.body.Body.{Body}
 use Rattle.elf_descriptor.specs.Views.{section_of, scn_at, state_of}
 use Rattle.elf_descriptor.specs.Sound.{IsElf}

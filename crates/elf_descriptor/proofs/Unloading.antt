@@ -4,13 +4,13 @@ use Rattle.std.specs.Prelude.{◌&&◌, is_some, is_none, slice_get, nat_lt, ◌
 use Rattle.std.specs.List.{list_any}
 use Rattle.std.proofs.lemmas.Bool.{ltb-true, ltb-false, eqb-true, cond-true}
 use Rattle.std.proofs.lemmas.List.Elements.{All-get_or}
-use Rattle.elf_outside.specs.declared.sources.Source.{Ghosts}
-use Rattle.elf_object.specs.Object.{Section, Piece, section_at, absent_section}
-use Rattle.elf_object.specs.Open.{home_bytes}
+use Rattle.section_table.specs.elf_outside.declared.sources.Source.{Ghosts}
+use Rattle.section_table.specs.elf_object.Object.{Section, Piece, section_at, absent_section}
+use Rattle.section_table.specs.elf_object.Open.{home_bytes}
 use Rattle.writing_laws.specs.Based.{IsBased, HomeStands, some_unmarked}
-use Rattle.section_data.specs.Views.{CellView, passes_end}
-use Rattle.section_data.specs.Held.{is_untouched}
-use Rattle.section_data.specs.Leaves.{unloaded as unloaded_cell}
+use Rattle.section_table.specs.section_data.Views.{CellView, passes_end}
+use Rattle.section_table.specs.section_data.Held.{is_untouched}
+use Rattle.section_table.specs.section_data.Leaves.{unloaded as unloaded_cell}
 use Rattle.section_table.specs.Sections.{SectionView as Scn}
 use Rattle.elf_descriptor.specs.declared.body.Body.{Body}
 use Rattle.elf_descriptor.specs.declared.body.Base.{Base}

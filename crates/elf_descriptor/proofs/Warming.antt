@@ -8,16 +8,16 @@ use Rattle.std.proofs.lemmas.Option.{get_or_from_slice_get, slice_get-get_or, sl
 use Rattle.std.proofs.Math.Seq.{map-set_same}
 use Rattle.elf_types.specs.declared.records.Class.{Class}
 use Rattle.elf_types.specs.declared.records.Order.{Order}
-use Rattle.elf_xlate.specs.declared.content.Items.{Items}
-use Rattle.elf_xlate.specs.Translation.{decoded}
-use Rattle.elf_outside.specs.declared.sources.Source.{Ghosts}
-use Rattle.elf_outside.specs.Asks.{Leaves}
-use Rattle.elf_object.specs.Object.{Section, Home}
-use Rattle.elf_object.specs.Open.{home_bytes}
-use Rattle.section_data.specs.Views.{CellView}
-use Rattle.section_data.specs.Held.{HeldIs}
-use Rattle.section_data.specs.Leaves.{Warms, RawBecomes, LiesIn}
-use Rattle.section_data.proofs.Loading.{warms_same}
+use Rattle.section_table.specs.elf_xlate.declared.content.Items.{Items}
+use Rattle.section_table.specs.elf_xlate.Translation.{decoded}
+use Rattle.section_table.specs.elf_outside.declared.sources.Source.{Ghosts}
+use Rattle.section_table.specs.elf_outside.Asks.{Leaves}
+use Rattle.section_table.specs.elf_object.Object.{Section, Home}
+use Rattle.section_table.specs.elf_object.Open.{home_bytes}
+use Rattle.section_table.specs.section_data.Views.{CellView}
+use Rattle.section_table.specs.section_data.Held.{HeldIs}
+use Rattle.section_table.specs.section_data.Leaves.{Warms, RawBecomes, LiesIn}
+use Rattle.section_table.proofs.section_data.Loading.{warms_same}
 use Rattle.section_table.specs.Sections.{SectionView as Scn, section_in, AreNumbered, absent_scn}
 use Rattle.elf_descriptor.specs.declared.body.Body.{Body}
 use Rattle.elf_descriptor.specs.Views.{object_of, section_of, raw_of, bytes_or, scn_at, HasCounts, ready_of, is_of_source, has_lengths, has_mark}

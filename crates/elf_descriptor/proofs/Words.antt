@@ -1,9 +1,9 @@
 -- Words that a proof opens together. The value of the one that stands for them says nothing: what
 -- counts is that a proof that unfolds it unfolds the others.
 use Rattle.std.specs.Prelude.{Bool, true}
-use Rattle.elf_object.specs.Answers.{part_refusal, flags_of}
-use Rattle.elf_object.specs.Calls.{phdr_answer, flags_answer}
-use Rattle.section_data.specs.Held.{piece_in}
+use Rattle.section_table.specs.elf_object.Answers.{part_refusal, flags_of}
+use Rattle.section_table.specs.elf_object.Calls.{phdr_answer, flags_answer}
+use Rattle.section_table.specs.section_data.Held.{piece_in}
 use Rattle.elf_descriptor.specs.Views.{object_of}
 
 -- a piece of a section

@@ -5,11 +5,11 @@ use Rattle.elf_types.specs.declared.records.Ehdr.{Ehdr}
 use Rattle.elf_types.specs.declared.records.Phdr.{Phdr}
 use Rattle.elf_types.specs.declared.records.Shdr.{Shdr}
 use Rattle.elf_types.specs.declared.errors.ElfError.{ElfError}
-use Rattle.elf_outside.specs.declared.sources.Source.{Ghosts}
-use Rattle.elf_ident.specs.declared.fronts.Front.{Front}
-use Rattle.elf_ident.specs.Reading.{IsFittingFront, IsCounted, HasTables}
-use Rattle.elf_object.specs.Object.{Object}
-use Rattle.elf_object.specs.Open.{begun, opened, standing_header}
+use Rattle.section_table.specs.elf_outside.declared.sources.Source.{Ghosts}
+use Rattle.section_table.specs.elf_ident.declared.fronts.Front.{Front}
+use Rattle.section_table.specs.elf_ident.Reading.{IsFittingFront, IsCounted, HasTables}
+use Rattle.section_table.specs.elf_object.Object.{Object}
+use Rattle.section_table.specs.elf_object.Open.{begun, opened, standing_header}
 use Rattle.elf_types.specs.Lists.{AreBytes}
 use Rattle.section_table.specs.Sections.{SectionView as Scn}
 use Rattle.elf_descriptor.specs.declared.body.Body.{Body}

@@ -4,7 +4,7 @@ use Rattle.std.specs.List.{list_any}
 use Rattle.elf_types.specs.declared.records.Kind.{Kind}
 use Rattle.elf_types.specs.declared.errors.ElfError.{ElfError}
 use Rattle.elf_types.specs.Answers.{first_refusal}
-use Rattle.section_data.specs.Refused.{no_piece, home_out, items_refused, kind_refused}
+use Rattle.section_table.specs.section_data.Refused.{no_piece, home_out, items_refused, kind_refused}
 use Rattle.section_table.specs.Sections.{SectionView as Scn}
 use Rattle.elf_descriptor.specs.declared.body.Body.{Body}
 use Rattle.elf_descriptor.specs.Views.{scn_at, no_scn}

@@ -1,10 +1,10 @@
 -- What a write of the device that a descriptor is over leaves of the descriptor (elf_update with
 -- ELF_C_WRITE, elf(3E)).
 use Rattle.std.specs.Prelude.{◌≡◌, ℕ, ◌+◌, ◌<◌, ◌≤◌, min, true, false, IsTrue, length, take, None, IfSome}
-use Rattle.elf_outside.specs.declared.sources.Source.{Ghosts as SourceGhosts}
-use Rattle.elf_object.specs.Blocks.{extents_meet}
-use Rattle.elf_object.specs.Object.{Object, section_at}
-use Rattle.elf_object.specs.Due.{is_loaded}
+use Rattle.section_table.specs.elf_outside.declared.sources.Source.{Ghosts as SourceGhosts}
+use Rattle.section_table.specs.elf_object.Blocks.{extents_meet}
+use Rattle.section_table.specs.elf_object.Object.{Object, section_at}
+use Rattle.section_table.specs.elf_object.Due.{is_loaded}
 use Rattle.writing_laws.specs.Based.{some_unmarked}
 use Rattle.elf_descriptor.specs.State.{State}
 

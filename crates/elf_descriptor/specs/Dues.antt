@@ -2,9 +2,9 @@
 use Rattle.std.specs.Prelude.{◌≡◌, ℕ, ◌<◌, length, IsTrue}
 use Rattle.elf_types.specs.declared.records.Class.{Class}
 use Rattle.elf_types.specs.declared.records.Kind.{Kind}
-use Rattle.section_data.specs.Views.{CellView}
-use Rattle.section_data.specs.Held.{kind_in, is_at_hand}
-use Rattle.section_data.specs.Refused.{kind_refused, piece_due, due_unless}
+use Rattle.section_table.specs.section_data.Views.{CellView}
+use Rattle.section_table.specs.section_data.Held.{kind_in, is_at_hand}
+use Rattle.section_table.specs.section_data.Refused.{kind_refused, piece_due, due_unless}
 use Rattle.elf_descriptor.specs.declared.body.Body.{Body}
 use Rattle.elf_descriptor.specs.Views.{scn_at}
 

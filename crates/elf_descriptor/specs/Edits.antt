@@ -7,12 +7,12 @@ use Rattle.elf_types.specs.declared.records.ScnId.{ScnId}
 use Rattle.elf_types.specs.declared.records.Part.{Part}
 use Rattle.elf_types.specs.declared.records.Part.TheVariants as part
 use Rattle.elf_types.specs.declared.errors.ElfError.{ElfError}
-use Rattle.elf_object.specs.Object.{Object, new_section}
-use Rattle.elf_object.specs.Steps.{with_sections}
-use Rattle.elf_object.specs.Calls.{Call}
-use Rattle.elf_object.specs.Calls as calls
-use Rattle.elf_object.specs.Words.{Edits, EditsWith}
-use Rattle.section_data.specs.Views.{CellView}
+use Rattle.section_table.specs.elf_object.Object.{Object, new_section}
+use Rattle.section_table.specs.elf_object.Steps.{with_sections}
+use Rattle.section_table.specs.elf_object.Calls.{Call}
+use Rattle.section_table.specs.elf_object.Calls as calls
+use Rattle.section_table.specs.elf_object.Words.{Edits, EditsWith}
+use Rattle.section_table.specs.section_data.Views.{CellView}
 use Rattle.section_table.specs.Sections.{SectionView as Scn, new_scn}
 use Rattle.elf_descriptor.specs.declared.body.Body.{Body}
 use Rattle.elf_descriptor.specs.State.{State}

@@ -3,11 +3,11 @@
 use Rattle.std.specs.Prelude.{◌≡◌, ℕ, ◌≤◌, true, take}
 use Rattle.std.specs.List.{list_all}
 use Rattle.elf_types.specs.declared.records.Kind.TheVariants as kinds
-use Rattle.elf_object.specs.Blocks.{stacked, last_end}
-use Rattle.elf_object.specs.Object.{Object, section_at}
-use Rattle.elf_object.specs.Answers.{piece_count, same_kind}
-use Rattle.elf_object.specs.Joined.{aligned_pieces}
-use Rattle.elf_object.specs.Strings.{kind_of_piece}
+use Rattle.section_table.specs.elf_object.Blocks.{stacked, last_end}
+use Rattle.section_table.specs.elf_object.Object.{Object, section_at}
+use Rattle.section_table.specs.elf_object.Answers.{piece_count, same_kind}
+use Rattle.section_table.specs.elf_object.Joined.{aligned_pieces}
+use Rattle.section_table.specs.elf_object.Strings.{kind_of_piece}
 
 -- each of so many pieces, the first of a section, holds bytes, and the last of them ends there
 pub record AreFirst (o : Object) (s count end : ℕ) : Type 0 where

@@ -9,13 +9,13 @@ use Rattle.elf_types.specs.declared.records.Phdr.{Phdr}
 use Rattle.elf_types.specs.declared.records.Shdr.{Shdr}
 use Rattle.elf_types.specs.declared.records.Part.{Part}
 use Rattle.elf_types.specs.declared.records.Part.TheVariants as part
-use Rattle.elf_xlate.specs.Headers.{ehdr_bytes, ehdr_fits, phdr_fits, shdr_fits}
-use Rattle.elf_ident.specs.Reading.{IsStored, IsPhdrTable, IsShdrTable}
-use Rattle.elf_layout.specs.declared.parts.Places.{Places}
-use Rattle.elf_object.specs.Blocks.{Block, same_block}
-use Rattle.elf_object.specs.Layout.{section_place}
-use Rattle.elf_object.specs.Open.{phdrs_bytes, shdrs_bytes}
-use Rattle.elf_outside.specs.declared.sources.Source.{Ghosts}
+use Rattle.section_table.specs.elf_xlate.Headers.{ehdr_bytes, ehdr_fits, phdr_fits, shdr_fits}
+use Rattle.section_table.specs.elf_ident.Reading.{IsStored, IsPhdrTable, IsShdrTable}
+use Rattle.section_table.specs.elf_layout.declared.parts.Places.{Places}
+use Rattle.section_table.specs.elf_object.Blocks.{Block, same_block}
+use Rattle.section_table.specs.elf_object.Layout.{section_place}
+use Rattle.section_table.specs.elf_object.Open.{phdrs_bytes, shdrs_bytes}
+use Rattle.section_table.specs.elf_outside.declared.sources.Source.{Ghosts}
 use Rattle.elf_descriptor.specs.declared.body.Body.{Body}
 use Rattle.elf_descriptor.specs.declared.body.Written.{Written}
 use Rattle.elf_descriptor.specs.State.{State}

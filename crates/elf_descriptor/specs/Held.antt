@@ -1,11 +1,11 @@
 -- What is held of a piece: the items of an own one, or of the clean home piece the home's bytes
 -- where they are loaded.
 use Rattle.std.specs.Prelude.{◌≡◌, ℕ, ◌+◌, ◌<◌, ◌≤◌, false, IsTrue, List, length, take, drop, Some, None}
-use Rattle.elf_object.specs.Words.{AlikeBytes}
-use Rattle.elf_object.specs.Object.{section_at, piece_at}
-use Rattle.elf_object.specs.Due.{is_loaded}
-use Rattle.section_data.specs.Views.{CellView}
-use Rattle.section_data.specs.Held.{piece_in}
+use Rattle.section_table.specs.elf_object.Words.{AlikeBytes}
+use Rattle.section_table.specs.elf_object.Object.{section_at, piece_at}
+use Rattle.section_table.specs.elf_object.Due.{is_loaded}
+use Rattle.section_table.specs.section_data.Views.{CellView}
+use Rattle.section_table.specs.section_data.Held.{piece_in}
 use Rattle.elf_descriptor.specs.declared.held.Held.{Held}
 use Rattle.elf_descriptor.specs.declared.held.Held.TheVariants.{Edited, Raw, Unread}
 use Rattle.elf_descriptor.specs.State.{State}

@@ -8,14 +8,14 @@ use Rattle.elf_types.specs.contracts.lists.List.{the_row as list_row}
 use Rattle.elf_types.specs.declared.records.Kind.{Kind}
 use Rattle.elf_types.specs.declared.errors.ElfError.{ElfError}
 use Rattle.elf_types.specs.Answers.{answered, IsRefusal}
-use Rattle.elf_xlate.specs.declared.content.Items.{Items}
-use Rattle.elf_outside.specs.declared.sources.Source.{Ghosts}
-use Rattle.elf_outside.specs.Asks.{Asks}
-use Rattle.elf_object.specs.Words.{Answers, result_map}
-use Rattle.elf_object.specs.Answers.{piece_count, lend_refusal}
-use Rattle.elf_object.specs.Calls.{due}
-use Rattle.elf_object.specs.Calls as calls
-use Rattle.elf_object.specs.Due.{is_loaded, holds_items, homes_due}
+use Rattle.section_table.specs.elf_xlate.declared.content.Items.{Items}
+use Rattle.section_table.specs.elf_outside.declared.sources.Source.{Ghosts}
+use Rattle.section_table.specs.elf_outside.Asks.{Asks}
+use Rattle.section_table.specs.elf_object.Words.{Answers, result_map}
+use Rattle.section_table.specs.elf_object.Answers.{piece_count, lend_refusal}
+use Rattle.section_table.specs.elf_object.Calls.{due}
+use Rattle.section_table.specs.elf_object.Calls as calls
+use Rattle.section_table.specs.elf_object.Due.{is_loaded, holds_items, homes_due}
 use Rattle.elf_descriptor.specs.contracts.descriptor.Elf.{the_row}
 use Rattle.elf_descriptor.specs.State.{State}
 use Rattle.elf_descriptor.specs.Reads.{Queries, wanted}

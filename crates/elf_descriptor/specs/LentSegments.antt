@@ -7,8 +7,8 @@ use denote.Ref.{MutBor}
 use Rattle.elf_types.specs.declared.records.Phdr.{Phdr}
 use Rattle.elf_types.specs.contracts.records.Phdr.{the_row as phdr_row}
 use Rattle.elf_types.specs.Lists.{refilled}
-use Rattle.elf_outside.specs.declared.sources.Source.{Ghosts}
-use Rattle.elf_object.specs.Calls as calls
+use Rattle.section_table.specs.elf_outside.declared.sources.Source.{Ghosts}
+use Rattle.section_table.specs.elf_object.Calls as calls
 use Rattle.elf_descriptor.specs.declared.body.Body.{Body}
 use Rattle.elf_descriptor.specs.contracts.body.Body.{the_row as body_row}
 use Rattle.elf_descriptor.specs.contracts.descriptor.Elf.{the_row}

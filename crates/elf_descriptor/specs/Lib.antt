@@ -1,3 +1,12 @@
+pub use Rattle.section_table.specs.elf_ident
+pub use Rattle.section_table.specs.elf_layout
+pub use Rattle.section_table.specs.elf_object
+pub use Rattle.section_table.specs.elf_outside
+pub use Rattle.section_table.specs.elf_xlate
+pub use Rattle.writing_laws.specs.object_laws
+pub use Rattle.section_table.specs.section_data
+pub use Rattle.section_table.specs.strtab_build
+pub use Rattle.writing_laws.specs as writing_laws
 pub mod State
 pub mod Views
 pub mod Sound
@@ -23,3 +32,4 @@ pub mod LentSegments
 pub mod Owned
 pub mod Lends
 pub mod Stores
+pub mod Passed

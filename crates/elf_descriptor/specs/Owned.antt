@@ -5,13 +5,13 @@ use denote.RattleType.{RattleType}
 use denote.Ref.{MutBor}
 use Rattle.elf_types.specs.contracts.lists.List.{the_row as list_row}
 use Rattle.elf_types.specs.declared.records.Kind.{Kind}
-use Rattle.elf_xlate.specs.declared.content.Items.{Items}
-use Rattle.elf_object.specs.Object.{Object, piece_at}
-use Rattle.elf_object.specs.Answers.{piece_count}
-use Rattle.section_data.specs.Views.{CellView, IsCell}
-use Rattle.section_data.specs.Held.{piece_in, HeldIs}
-use Rattle.section_data.specs.Leaves.{Owns, OwnsKind}
-use Rattle.section_data.specs.Lends.{with_items}
+use Rattle.section_table.specs.elf_xlate.declared.content.Items.{Items}
+use Rattle.section_table.specs.elf_object.Object.{Object, piece_at}
+use Rattle.section_table.specs.elf_object.Answers.{piece_count}
+use Rattle.section_table.specs.section_data.Views.{CellView, IsCell}
+use Rattle.section_table.specs.section_data.Held.{piece_in, HeldIs}
+use Rattle.section_table.specs.section_data.Leaves.{Owns, OwnsKind}
+use Rattle.section_table.specs.section_data.Lends.{with_items}
 use Rattle.elf_descriptor.specs.declared.body.Body.{Body}
 use Rattle.elf_descriptor.specs.contracts.body.Body.{the_row as body_row}
 use Rattle.elf_descriptor.specs.Views.{scn_at}

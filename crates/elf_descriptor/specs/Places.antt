@@ -6,14 +6,14 @@ use Rattle.elf_types.specs.declared.records.Class.{Class}
 use Rattle.elf_types.specs.declared.records.Class.TheVariants.{C32, C64}
 use Rattle.elf_types.specs.declared.records.Ehdr.{Ehdr}
 use Rattle.elf_types.specs.declared.records.Shdr.{Shdr}
-use Rattle.elf_layout.specs.declared.parts.PartAt.{PartAt}
-use Rattle.elf_layout.specs.declared.parts.Places.{Places}
-use Rattle.elf_layout.specs.Meeting.{has_bytes}
-use Rattle.elf_object.specs.Object.{Object, is_null, occupies_file}
-use Rattle.elf_object.specs.Derived.{derived_header, numbered_shdr}
-use Rattle.elf_object.specs.Layout.{parts_of, segments_place, section_place, table_place}
-use Rattle.section_data.specs.Views.{CellView}
-use Rattle.section_data.specs.Sizes.{data_size}
+use Rattle.section_table.specs.elf_layout.declared.parts.PartAt.{PartAt}
+use Rattle.section_table.specs.elf_layout.declared.parts.Places.{Places}
+use Rattle.section_table.specs.elf_layout.Meeting.{has_bytes}
+use Rattle.section_table.specs.elf_object.Object.{Object, is_null, occupies_file}
+use Rattle.section_table.specs.elf_object.Derived.{derived_header, numbered_shdr}
+use Rattle.section_table.specs.elf_object.Layout.{parts_of, segments_place, section_place, table_place}
+use Rattle.section_table.specs.section_data.Views.{CellView}
+use Rattle.section_table.specs.section_data.Sizes.{data_size}
 use Rattle.section_table.specs.Sections.{SectionView as Scn}
 use Rattle.elf_descriptor.specs.declared.body.Body.{Body}
 

@@ -2,11 +2,11 @@
 use Rattle.std.specs.Prelude.{◌≡◌, ℕ, ◌+◌, ◌≤◌, false, IsTrue, List, Contains, Result, IfErr}
 use Rattle.elf_types.specs.declared.errors.ElfError.{ElfError}
 use Rattle.elf_types.specs.Answers.{IsRefusal}
-use Rattle.elf_outside.specs.declared.sources.Source.{Ghosts}
-use Rattle.elf_outside.specs.Asks.{Asks}
-use Rattle.elf_object.specs.Words.{Wants}
-use Rattle.elf_object.specs.Calls.{Call, due, wants}
-use Rattle.elf_object.specs.Due.{is_loaded, holds_items, homes_due}
+use Rattle.section_table.specs.elf_outside.declared.sources.Source.{Ghosts}
+use Rattle.section_table.specs.elf_outside.Asks.{Asks}
+use Rattle.section_table.specs.elf_object.Words.{Wants}
+use Rattle.section_table.specs.elf_object.Calls.{Call, due, wants}
+use Rattle.section_table.specs.elf_object.Due.{is_loaded, holds_items, homes_due}
 use Rattle.elf_descriptor.specs.State.{State}
 
 -- It may load the sections of one list, and make the home pieces of another hold their items. What

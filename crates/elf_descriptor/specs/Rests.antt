@@ -3,11 +3,11 @@ use Rattle.std.specs.Prelude.{◌≡◌, ℕ, IsTrue, None, [], OnOk, Result, �
 use Rattle.std.specs.Borrow.{Fml, MutBor, RattleType, follows_so}
 use mathlib.Core.Option.{none}
 use Rattle.elf_types.specs.declared.errors.ElfError.{ElfError}
-use Rattle.elf_outside.specs.declared.sources.Source.{Ghosts}
+use Rattle.section_table.specs.elf_outside.declared.sources.Source.{Ghosts}
 use Rattle.elf_descriptor.specs.contracts.descriptor.Elf.{the_row}
-use Rattle.elf_object.specs.Object.{piece_at}
-use Rattle.elf_object.specs.Calls as calls
-use Rattle.elf_object.specs.Due.{is_loaded, holds_items}
+use Rattle.section_table.specs.elf_object.Object.{piece_at}
+use Rattle.section_table.specs.elf_object.Calls as calls
+use Rattle.section_table.specs.elf_object.Due.{is_loaded, holds_items}
 use Rattle.elf_descriptor.specs.State.{State}
 use Rattle.elf_descriptor.specs.Reads.{Queries, Looks}
 

@@ -1,13 +1,13 @@
 -- Memory for what is read: it is kept aside for a home's bytes, and they are let go where they can
 -- be read again (elf_getdata and elf_rawdata of elf(3E)).
 use Rattle.std.specs.Prelude.{◌≡◌, ℕ, Bool, true, false, not, ◌&&◌, ◌||◌, length, slice_get, slice_set, is_none, List, Option, None, Some, if◌then◌else◌}
-use Rattle.elf_object.specs.Words.{Wants}
-use Rattle.elf_object.specs.Object.{Object, Section, section_at}
-use Rattle.elf_object.specs.Calls as calls
-use Rattle.elf_object.specs.Due.{is_loaded}
-use Rattle.section_data.specs.Views.{CellView, passes_end}
-use Rattle.section_data.specs.Held.{is_untouched}
-use Rattle.section_data.specs.Leaves.{FillsRoom}
+use Rattle.section_table.specs.elf_object.Words.{Wants}
+use Rattle.section_table.specs.elf_object.Object.{Object, Section, section_at}
+use Rattle.section_table.specs.elf_object.Calls as calls
+use Rattle.section_table.specs.elf_object.Due.{is_loaded}
+use Rattle.section_table.specs.section_data.Views.{CellView, passes_end}
+use Rattle.section_table.specs.section_data.Held.{is_untouched}
+use Rattle.section_table.specs.section_data.Leaves.{FillsRoom}
 use Rattle.elf_descriptor.specs.declared.body.Body.{Body}
 use Rattle.elf_descriptor.specs.State.{State}
 use Rattle.elf_descriptor.specs.Reads.{wanted}

@@ -1,11 +1,11 @@
 -- A descriptor after an update in place: what was written is what it is over (elf_update with
 -- ELF_C_WRITE, elf(3E)).
 use Rattle.std.specs.Prelude.{◌≡◌, ℕ, Bool, false, All, List, map, Option, Some, None, is_some}
-use Rattle.elf_xlate.specs.Headers.{IsPhdr}
-use Rattle.elf_object.specs.Derived.{written_header}
-use Rattle.elf_object.specs.Refusal.{refusal}
-use Rattle.elf_object.specs.Settled.{settled}
-use Rattle.elf_object.specs.Object.{Object}
+use Rattle.section_table.specs.elf_xlate.Headers.{IsPhdr}
+use Rattle.section_table.specs.elf_object.Derived.{written_header}
+use Rattle.section_table.specs.elf_object.Refusal.{refusal}
+use Rattle.section_table.specs.elf_object.Settled.{settled}
+use Rattle.section_table.specs.elf_object.Object.{Object}
 use Rattle.section_table.specs.Sections.{reopened_scn}
 use Rattle.elf_descriptor.specs.declared.body.Written.{Written}
 use Rattle.elf_descriptor.specs.declared.body.Body.{Body}

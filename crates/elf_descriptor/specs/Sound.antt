@@ -2,12 +2,12 @@
 use Rattle.std.specs.Prelude.{◌≡◌, ◌≤◌, ℕ, false, List, length, slice_get, Option, Some, IsSome, IfSome}
 use Rattle.elf_types.specs.declared.records.Class.{Class}
 use Rattle.elf_types.specs.declared.records.Order.{Order}
-use Rattle.elf_ident.specs.Reading.{IsStored, IsPhdrTable, IsShdrTable}
-use Rattle.elf_object.specs.Object.{Object}
-use Rattle.elf_object.specs.Valid.{IsObject, IsTied}
+use Rattle.section_table.specs.elf_ident.Reading.{IsStored, IsPhdrTable, IsShdrTable}
+use Rattle.section_table.specs.elf_object.Object.{Object}
+use Rattle.section_table.specs.elf_object.Valid.{IsObject, IsTied}
 use Rattle.writing_laws.specs.Based.{IsBased}
-use Rattle.section_data.specs.Leaves.{LiesIn}
-use Rattle.section_data.specs.Held.{HeldIs}
+use Rattle.section_table.specs.section_data.Leaves.{LiesIn}
+use Rattle.section_table.specs.section_data.Held.{HeldIs}
 use Rattle.section_table.specs.Sections.{SectionView as Scn}
 use Rattle.elf_descriptor.specs.declared.body.Written.{Written}
 use Rattle.elf_descriptor.specs.declared.body.Body.{Body}

@@ -1,6 +1,6 @@
 -- What a descriptor stands for (elf_begin, elf(3E)).
 use Rattle.std.specs.Prelude.{Bool, List}
-use Rattle.elf_object.specs.Object.{Object}
+use Rattle.section_table.specs.elf_object.Object.{Object}
 
 -- a plain object, what is held of it, and the source that it is over
 pub record State (S : Type 0) : Type 0 where

@@ -4,12 +4,12 @@ use Rattle.elf_types.specs.declared.records.Class.{Class}
 use Rattle.elf_types.specs.declared.records.Kind.{Kind}
 use Rattle.elf_types.specs.declared.errors.ElfError.{ElfError}
 use Rattle.elf_types.specs.Answers.{first_refusal}
-use Rattle.elf_xlate.specs.declared.content.Items.{Items}
-use Rattle.elf_outside.specs.declared.sources.Source.{Ghosts}
-use Rattle.elf_object.specs.Answers.{items_at}
-use Rattle.elf_object.specs.Calls.{Call, due, update_item}
-use Rattle.elf_object.specs.Steps.{BecomesOwn}
-use Rattle.section_data.specs.Refused.{store_refused}
+use Rattle.section_table.specs.elf_xlate.declared.content.Items.{Items}
+use Rattle.section_table.specs.elf_outside.declared.sources.Source.{Ghosts}
+use Rattle.section_table.specs.elf_object.Answers.{items_at}
+use Rattle.section_table.specs.elf_object.Calls.{Call, due, update_item}
+use Rattle.section_table.specs.elf_object.Steps.{BecomesOwn}
+use Rattle.section_table.specs.section_data.Refused.{store_refused}
 use Rattle.elf_descriptor.specs.declared.body.Body.{Body}
 use Rattle.elf_descriptor.specs.State.{State}
 use Rattle.elf_descriptor.specs.Views.{scn_at, no_scn}

@@ -2,11 +2,11 @@
 use Rattle.std.specs.Prelude.{◌≡◌, ℕ, ◌<◌, length, true, false, None, is_some, IsTrue}
 use Rattle.elf_types.specs.declared.constants.TheConstants.{SHT_STRTAB}
 use Rattle.elf_types.specs.declared.records.Kind.TheVariants as kinds
-use Rattle.elf_object.specs.Object.{section_at, piece_at}
-use Rattle.elf_object.specs.Answers.{no_section, piece_count}
-use Rattle.elf_object.specs.Due.{is_loaded}
-use Rattle.section_data.specs.Views.{CellView}
-use Rattle.section_data.specs.Held.{piece_in, cell_is_loaded}
+use Rattle.section_table.specs.elf_object.Object.{section_at, piece_at}
+use Rattle.section_table.specs.elf_object.Answers.{no_section, piece_count}
+use Rattle.section_table.specs.elf_object.Due.{is_loaded}
+use Rattle.section_table.specs.section_data.Views.{CellView}
+use Rattle.section_table.specs.section_data.Held.{piece_in, cell_is_loaded}
 use Rattle.elf_descriptor.specs.declared.body.Body.{Body}
 use Rattle.elf_descriptor.specs.State.{State}
 use Rattle.elf_descriptor.specs.Views.{scn_at}

@@ -1,8 +1,8 @@
 -- What a call that reads at the first use leaves of what the program keeps.
 use Rattle.std.specs.Prelude.{◌≡◌, ℕ, List, slice_set, Option}
-use Rattle.section_data.specs.Views.{CellView}
-use Rattle.section_data.specs.Held.{HeldIs}
-use Rattle.section_data.specs.Leaves.{Warms}
+use Rattle.section_table.specs.section_data.Views.{CellView}
+use Rattle.section_table.specs.section_data.Held.{HeldIs}
+use Rattle.section_table.specs.section_data.Leaves.{Warms}
 use Rattle.elf_descriptor.specs.declared.body.Body.{Body}
 use Rattle.elf_descriptor.specs.Views.{scn_at}
 

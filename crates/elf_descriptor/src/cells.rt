@@ -4,21 +4,20 @@ ghost use Rattle.std.specs.Prelude.{◌≡◌, ◌<◌, ◌-◌, length, slice_i
 ghost use Rattle.std.specs.List.{list_any};
 ghost use Rattle.elf_types.specs.declared.records.Kind.TheVariants as kinds;
 ghost use Rattle.elf_types.specs.Answers.{answered};
-ghost use Rattle.elf_outside.specs.Asks.{Asks};
-ghost use Rattle.elf_object.specs.Words.{Answers};
-ghost use Rattle.section_data.specs.Leaves.{LiesIn, Warms};
-ghost use Rattle.section_data.specs.Held.{piece_in, kind_in, is_at_hand, cell_is_loaded};
-ghost use Rattle.section_data.specs.Refused.{kind_refused, loading};
+ghost use Rattle.section_table.specs.elf_outside.Asks.{Asks};
+ghost use Rattle.section_table.specs.elf_object.Words.{Answers};
+ghost use Rattle.section_table.specs.section_data.Leaves.{LiesIn, Warms};
+ghost use Rattle.section_table.specs.section_data.Held.{piece_in, kind_in, is_at_hand, cell_is_loaded};
+ghost use Rattle.section_table.specs.section_data.Refused.{kind_refused, loading};
 ghost use Rattle.elf_descriptor.specs.Dues.{list_due};
-ghost use Rattle.section_data.specs.Views.{IsCell};
+ghost use Rattle.section_table.specs.section_data.Views.{IsCell};
 ghost use Rattle.elf_descriptor.specs.Held.{IsHeldIn};
 ghost use Rattle.elf_descriptor.specs.Rooms.{can_forget};
 ghost use Rattle.elf_descriptor.specs.Tables.{HoldsAlone};
 
 use crate::held::Held;
-use elf_outside::Source;
 use elf_types::{Class, ElfError, Kind};
-use section_data::Cell;
+use section_table::prelude::{Cell, Source};
 
 /// Makes each item of a piece of a kind be at hand: it is own, or its home is loaded. It
 /// refuses in this order: `NoData`, `WrongKind` with the kind that the piece holds, and for the
@@ -51,7 +50,7 @@ pub fn fetch_list<S: Source>(
 }
 
 /// What is held of a piece.
-#[tactic(auto, unfolding(section_data::specs::Held::ready))]
+#[tactic(auto, unfolding(section_table::specs::Passed::ready))]
 pub fn held_in(cell: &Cell, p: u32) -> Held<'_>
     requires { p < length cell.now.pieces }
     ensures held { IsHeldIn cell.now p result }

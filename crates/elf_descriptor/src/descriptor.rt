@@ -3,7 +3,7 @@
 ghost use Rattle.std.specs.Prelude.{◌≡◌};
 
 use crate::body::Body;
-use elf_outside::Source;
+use section_table::prelude::Source;
 use std::alloc::Global;
 use std::marker::Model;
 

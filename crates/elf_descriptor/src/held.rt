@@ -1,6 +1,6 @@
 //! What is held of a piece.
 
-use elf_xlate::Items;
+use section_table::prelude::Items;
 
 /// What is held of a piece.
 #[derive(Drop)]

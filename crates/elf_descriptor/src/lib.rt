@@ -8,6 +8,7 @@ mod body;
 mod cells;
 mod descriptor;
 mod held;
+pub mod prelude;
 
 pub use descriptor::Elf;
 pub use held::Held;

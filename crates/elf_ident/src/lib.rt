@@ -5,6 +5,7 @@ mod counts;
 mod file_kinds;
 mod fronts;
 mod headers;
+pub mod prelude;
 mod tables;
 
 pub use counts::Counts;

@@ -14,9 +14,9 @@ use Rattle.elf_types.specs.declared.errors.ElfError.{ElfError}
 use Rattle.elf_types.specs.declared.errors.ElfError.TheVariants.{Memory, Read, NoEntry, OutOfFile, Ragged}
 use Rattle.elf_object.specs.SymbolSections.{symshndx, place_of_symbol}
 use Rattle.elf_types.specs.Answers.{◌>>=◌, answered, err_of, IsRefusal}
-use Rattle.elf_xlate.specs.declared.content.Items.{Items}
-use Rattle.elf_xlate.specs.Translation.{decoded, items_kind}
-use Rattle.elf_xlate.proofs.Decoded.{decoded_kind}
+use Rattle.elf_ident.specs.elf_xlate.declared.content.Items.{Items}
+use Rattle.elf_ident.specs.elf_xlate.Translation.{decoded, items_kind}
+use Rattle.elf_ident.proofs.elf_xlate.Decoded.{decoded_kind}
 use Rattle.elf_object.specs.Words.{Wants, Answers, Edits}
 use Rattle.elf_object.specs.Object.{Object, section_at, piece_at}
 use Rattle.elf_object.specs.Answers.{content, or_empty, no_section, no_data, wrong_kind, no_content, same_kind, piece_count, kind_at, items_at, flags_of, entry_answer, piece_refusal, data_refusal, raw_refusal, lend_refusal, part_refusal, halves_of, words_of, addrs_of, syms_of, rels_of, relas_of, dyns_of}

@@ -2,11 +2,11 @@
 use Rattle.std.specs.Prelude.{Bool, true}
 use lib.Count.{ones}
 use Rattle.elf_types.specs.Kinds.{is_compressed, kind_of_type, section_kind}
-use Rattle.elf_xlate.specs.Numbers.{by_weight, weighed, number_of, number_at, lowest_bytes, octets, signed_of, unsigned_of}
-use Rattle.elf_xlate.specs.Fields.{number_in, written, written_in, record_bytes}
-use Rattle.elf_xlate.specs.Items.{half_fields, half_of, half_bytes, word_fields, word_of, word_bytes, addr_fields, addr_of, addr_bytes, sym_fields, sym_of, sym_bytes, sym_fits, rel_fields, rel_of, rel_bytes, rel_fits, rela_fields, rela_of, rela_bytes, rela_fits, dyn_fields, dyn_of, dyn_bytes, dyn_fits}
-use Rattle.elf_xlate.specs.Headers.{ehdr_fields, ehdr_of, ident, ehdr_bytes, ehdr_fits, phdr_fields, phdr_of, phdr_bytes, phdr_fits, shdr_fields, shdr_of, shdr_bytes, shdr_fits}
-use Rattle.elf_xlate.specs.Translation.{items_of, listed, decoded, encoded, first_unfit}
+use Rattle.elf_ident.specs.elf_xlate.Numbers.{by_weight, weighed, number_of, number_at, lowest_bytes, octets, signed_of, unsigned_of}
+use Rattle.elf_ident.specs.elf_xlate.Fields.{number_in, written, written_in, record_bytes}
+use Rattle.elf_ident.specs.elf_xlate.Items.{half_fields, half_of, half_bytes, word_fields, word_of, word_bytes, addr_fields, addr_of, addr_bytes, sym_fields, sym_of, sym_bytes, sym_fits, rel_fields, rel_of, rel_bytes, rel_fits, rela_fields, rela_of, rela_bytes, rela_fits, dyn_fields, dyn_of, dyn_bytes, dyn_fits}
+use Rattle.elf_ident.specs.elf_xlate.Headers.{ehdr_fields, ehdr_of, ident, ehdr_bytes, ehdr_fits, phdr_fields, phdr_of, phdr_bytes, phdr_fits, shdr_fields, shdr_of, shdr_bytes, shdr_fits}
+use Rattle.elf_ident.specs.elf_xlate.Translation.{items_of, listed, decoded, encoded, first_unfit}
 use Rattle.elf_layout.specs.Layout.{rounded_up, place_of, end_after, in_order_from, standing, length_with, length_from, length_of, positions, places_of, limit_of, some_above, is_too_large, overlap_refusal, refusal_within, refusal_of}
 use Rattle.elf_layout.specs.Meeting.{has_bytes, end_of, meets, parts_by_position, first_met, overlap_of}
 use Rattle.elf_ident.specs.Front.{no_ident, ident_in, header_at, header_in, zero_shdr, first_section, true_shnum, true_shstrndx, true_phnum, header_refusal, count_refusal, counts_by, counts_in, phdrs_at, shdrs_at, front_at, head_in, front}

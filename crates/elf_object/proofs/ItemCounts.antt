@@ -1,9 +1,9 @@
 -- The list in items of a kind has as many as are counted.
 use Rattle.std.proofs.Common.{◌≡◌, length, refl}
 use Rattle.elf_types.specs.declared.records.Kind.TheVariants as kinds
-use Rattle.elf_xlate.specs.declared.content.Items.{Items}
-use Rattle.elf_xlate.specs.declared.content.Items.TheVariants as items
-use Rattle.elf_xlate.specs.Translation.{items_kind, items_count}
+use Rattle.elf_ident.specs.elf_xlate.declared.content.Items.{Items}
+use Rattle.elf_ident.specs.elf_xlate.declared.content.Items.TheVariants as items
+use Rattle.elf_ident.specs.elf_xlate.Translation.{items_kind, items_count}
 use Rattle.elf_object.specs.Answers.{halves_of, words_of, addrs_of, syms_of, rels_of, relas_of, dyns_of}
 
 pub halves_counted : (l : Items) → items_kind l ≡ kinds.Half

@@ -1,3 +1,8 @@
+pub use Rattle.elf_ident.proofs as elf_ident
+pub use Rattle.elf_layout.proofs as elf_layout
+pub use Rattle.elf_ident.proofs.elf_outside
+pub use Rattle.elf_ident.proofs.elf_xlate
+pub use Rattle.strtab_build.proofs as strtab_build
 pub mod PassedLaws
 pub mod StepLaws
 pub mod AnswerLaws

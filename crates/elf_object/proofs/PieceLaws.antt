@@ -3,7 +3,7 @@ use Rattle.std.proofs.Common.{ℕ, zero, suc, List, [], ◌∷◌, ◌++◌, set
 use Rattle.std.specs.Prelude.{IsSome, IsTrue}
 use lib.Count.{ones}
 use Rattle.std.proofs.lemmas.List.Elements.{All-nil, All-set, All-push}
-use Rattle.elf_xlate.specs.declared.content.Items.{Items}
+use Rattle.elf_ident.specs.elf_xlate.declared.content.Items.{Items}
 use Rattle.elf_object.specs.Object.{Piece, home_piece}
 use Rattle.elf_object.specs.Steps.{own_piece}
 use Rattle.elf_object.specs.Calls.{is_piece_align}

@@ -9,8 +9,8 @@ use Rattle.elf_types.specs.declared.records.Part.TheVariants as part
 use Rattle.elf_types.specs.declared.errors.ElfError.{ElfError}
 use Rattle.elf_types.specs.declared.errors.ElfError.TheVariants.{TooLarge, TooMany, Unfit, OutOfFile}
 use Rattle.elf_types.specs.Answers.{refused_if, first_refusal, IsRefusal}
-use Rattle.elf_xlate.specs.declared.content.Items.{Items}
-use Rattle.elf_xlate.specs.Translation.{first_unfit}
+use Rattle.elf_ident.specs.elf_xlate.declared.content.Items.{Items}
+use Rattle.elf_ident.specs.elf_xlate.Translation.{first_unfit}
 use Rattle.elf_layout.specs.Layout.{overlap_refusal, is_too_large, limit_of, refusal_within, refusal_of}
 use Rattle.elf_layout.specs.Meeting.{overlap_of}
 use Rattle.elf_layout.specs.declared.parts.PartAt.{PartAt}

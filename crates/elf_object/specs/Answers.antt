@@ -12,9 +12,9 @@ use Rattle.elf_types.specs.declared.records.Dyn.{Dyn}
 use Rattle.elf_types.specs.declared.errors.ElfError.{ElfError}
 use Rattle.elf_types.specs.declared.errors.ElfError.TheVariants.{NoSection, NoData, NoEntry, WrongKind, OutOfFile, Ragged, Reserved}
 use Rattle.elf_types.specs.declared.records.TheConstants.{DIRTY, LAYOUT}
-use Rattle.elf_xlate.specs.declared.content.Items.{Items}
-use Rattle.elf_xlate.specs.declared.content.Items.TheVariants as items
-use Rattle.elf_xlate.specs.Translation.{decoded, items_kind, items_count}
+use Rattle.elf_ident.specs.elf_xlate.declared.content.Items.{Items}
+use Rattle.elf_ident.specs.elf_xlate.declared.content.Items.TheVariants as items
+use Rattle.elf_ident.specs.elf_xlate.Translation.{decoded, items_kind, items_count}
 use Rattle.elf_types.specs.Answers.{refused_if, first_refusal, err_of}
 use Rattle.elf_object.specs.Object.{Object, section_at, piece_at}
 

@@ -18,12 +18,12 @@ use Rattle.elf_types.specs.declared.records.Part.TheVariants as part
 use Rattle.elf_types.specs.declared.errors.ElfError.{ElfError}
 use Rattle.elf_types.specs.declared.errors.ElfError.TheVariants.{NoSection, TooMany, Unfit, FlagKept, BadAlign}
 use Rattle.elf_types.specs.declared.constants.TheConstants.{PN_XNUM, MAX_SECTIONS, MAX_PIECES, MAX_PIECE_ALIGN}
-use Rattle.elf_xlate.specs.declared.content.Items.{Items}
-use Rattle.elf_xlate.specs.declared.content.Items.TheVariants as items
-use Rattle.elf_xlate.specs.Fields.{fits}
-use Rattle.elf_xlate.specs.Headers.{ehdr_fits, phdr_fits, shdr_fits}
-use Rattle.elf_xlate.specs.Items.{sym_fits, rel_fits, rela_fits, dyn_fits}
-use Rattle.elf_xlate.specs.Translation.{first_unfit, items_kind}
+use Rattle.elf_ident.specs.elf_xlate.declared.content.Items.{Items}
+use Rattle.elf_ident.specs.elf_xlate.declared.content.Items.TheVariants as items
+use Rattle.elf_ident.specs.elf_xlate.Fields.{fits}
+use Rattle.elf_ident.specs.elf_xlate.Headers.{ehdr_fits, phdr_fits, shdr_fits}
+use Rattle.elf_ident.specs.elf_xlate.Items.{sym_fits, rel_fits, rela_fits, dyn_fits}
+use Rattle.elf_ident.specs.elf_xlate.Translation.{first_unfit, items_kind}
 use Rattle.elf_types.specs.Answers.{refused_if, first_refusal, answered, err_of}
 use Rattle.elf_object.specs.Words.{Wants}
 use Rattle.elf_object.specs.Object.{Object, section_at, piece_at, header_of}

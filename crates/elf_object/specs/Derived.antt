@@ -5,7 +5,7 @@ use Rattle.std.specs.Prelude.{ℕ, ◌==◌, nat_lt, if◌then◌else◌}
 use Rattle.elf_types.specs.declared.records.Ehdr.{Ehdr}
 use Rattle.elf_types.specs.declared.records.Shdr.{Shdr}
 use Rattle.elf_types.specs.declared.constants.TheConstants.{EV_CURRENT, SHN_LORESERVE, SHN_XINDEX, PN_XNUM}
-use Rattle.elf_xlate.specs.Headers.{ehdr_size, phdr_size, shdr_size}
+use Rattle.elf_ident.specs.elf_xlate.Headers.{ehdr_size, phdr_size, shdr_size}
 
 -- a value of a table's, and 0 where the table has no entries
 abbrev pub where_any : ℕ → ℕ → ℕ

@@ -3,7 +3,7 @@
 use Rattle.std.specs.Prelude.{ℕ, List, [], map, if◌then◌else◌, None, Some}
 use Rattle.elf_types.specs.declared.records.Class.{Class}
 use Rattle.elf_types.specs.declared.records.Order.{Order}
-use Rattle.elf_xlate.specs.Translation.{encoded}
+use Rattle.elf_ident.specs.elf_xlate.Translation.{encoded}
 use Rattle.elf_object.specs.Blocks.{Block, stacked, last_end, spread}
 use Rattle.elf_object.specs.Object.{Object, Section, Piece, section_at, has_file_bytes}
 

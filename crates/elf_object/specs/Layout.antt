@@ -8,7 +8,7 @@ use Rattle.elf_types.specs.declared.records.Class.TheVariants.{C32, C64}
 use Rattle.elf_types.specs.declared.records.Ehdr.{Ehdr}
 use Rattle.elf_types.specs.declared.records.Shdr.{Shdr}
 use Rattle.elf_types.specs.declared.records.Part.TheVariants as part
-use Rattle.elf_xlate.specs.Headers.{ehdr_size, phdr_size, shdr_size}
+use Rattle.elf_ident.specs.elf_xlate.Headers.{ehdr_size, phdr_size, shdr_size}
 use Rattle.elf_layout.specs.declared.parts.PartAt.{PartAt}
 use Rattle.elf_layout.specs.declared.parts.Places.{Places}
 use Rattle.elf_layout.specs.Layout.{standing, places_of as parts_places}

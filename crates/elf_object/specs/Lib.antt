@@ -1,3 +1,8 @@
+pub use Rattle.elf_ident.specs as elf_ident
+pub use Rattle.elf_layout.specs as elf_layout
+pub use Rattle.elf_ident.specs.elf_outside
+pub use Rattle.elf_ident.specs.elf_xlate
+pub use Rattle.strtab_build.specs as strtab_build
 pub mod Words
 pub mod Blocks
 pub mod Object
@@ -19,3 +24,4 @@ pub mod SymbolSections
 pub mod Strings
 pub mod Valid
 pub mod Samples
+pub mod Passed

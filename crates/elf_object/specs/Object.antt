@@ -9,7 +9,7 @@ use Rattle.elf_types.specs.declared.records.Ehdr.{Ehdr}
 use Rattle.elf_types.specs.declared.records.Phdr.{Phdr}
 use Rattle.elf_types.specs.declared.records.Shdr.{Shdr}
 use Rattle.elf_types.specs.declared.constants.TheConstants.{SHT_NULL, SHT_NOBITS, SHF_ALLOC}
-use Rattle.elf_xlate.specs.declared.content.Items.{Items}
+use Rattle.elf_ident.specs.elf_xlate.declared.content.Items.{Items}
 use Rattle.elf_types.specs.Kinds.{has_flag}
 use Rattle.elf_ident.specs.Front.{zero_shdr}
 use Rattle.elf_object.specs.Blocks.{Block}

@@ -9,7 +9,7 @@ use Rattle.elf_types.specs.declared.records.Phdr.{Phdr}
 use Rattle.elf_types.specs.declared.records.Shdr.{Shdr}
 use Rattle.elf_types.specs.declared.errors.ElfError.{ElfError}
 use Rattle.elf_types.specs.declared.constants.TheConstants.{EI_NIDENT, EI_PAD, EV_CURRENT}
-use Rattle.elf_xlate.specs.Headers.{ehdr_bytes, phdr_bytes, shdr_bytes}
+use Rattle.elf_ident.specs.elf_xlate.Headers.{ehdr_bytes, phdr_bytes, shdr_bytes}
 use Rattle.elf_ident.specs.declared.fronts.Front.{Front}
 use Rattle.elf_ident.specs.Front.{front}
 use Rattle.elf_object.specs.Blocks.{Block}

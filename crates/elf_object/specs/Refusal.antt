@@ -7,8 +7,8 @@ use Rattle.elf_types.specs.declared.records.Part.TheVariants as part
 use Rattle.elf_types.specs.declared.errors.ElfError.{ElfError}
 use Rattle.elf_types.specs.declared.errors.ElfError.TheVariants.{TooMany, Unfit, OutOfFile}
 use Rattle.elf_types.specs.declared.constants.TheConstants.{SHN_LORESERVE, PN_XNUM}
-use Rattle.elf_xlate.specs.Headers.{phdr_fits}
-use Rattle.elf_xlate.specs.Translation.{first_unfit}
+use Rattle.elf_ident.specs.elf_xlate.Headers.{phdr_fits}
+use Rattle.elf_ident.specs.elf_xlate.Translation.{first_unfit}
 use Rattle.elf_layout.specs.Layout.{refusal_of}
 use Rattle.elf_types.specs.Answers.{refused_if, first_refusal}
 use Rattle.elf_object.specs.Object.{Object, Section, Piece, section_at, occupies_file, has_file_bytes, home_is_clean, is_dirty}

@@ -8,9 +8,9 @@ use Rattle.elf_types.specs.declared.records.Shdr.{Shdr}
 use Rattle.elf_types.specs.declared.records.Sym.{Sym}
 use Rattle.elf_types.specs.declared.errors.ElfError.{ElfError}
 use Rattle.elf_types.specs.declared.errors.ElfError.TheVariants.{Memory}
-use Rattle.elf_xlate.specs.declared.content.Items.{Items}
-use Rattle.elf_xlate.specs.Numbers.{octets}
-use Rattle.elf_xlate.specs.Fields.{written}
+use Rattle.elf_ident.specs.elf_xlate.declared.content.Items.{Items}
+use Rattle.elf_ident.specs.elf_xlate.Numbers.{octets}
+use Rattle.elf_ident.specs.elf_xlate.Fields.{written}
 use Rattle.elf_ident.specs.Front.{zero_shdr}
 use Rattle.elf_object.specs.Words.{Wants}
 use Rattle.elf_object.specs.Object.{Object, Section, new_section, no_phdr, header_of}
@@ -21,7 +21,7 @@ use Rattle.elf_types.specs.declared.records.Part.TheVariants as part
 use Rattle.elf_object.specs.Calls.{Call, step, sym, update_sym, newdata, newdata_aligned, newphdr, newscn, set_fill, flag, update_null}
 use Rattle.elf_object.specs.SymbolSections.{symshndx}
 use Rattle.elf_object.specs.Runs.{left_by, addall, set_item, set_shdr}
-use Rattle.elf_xlate.specs.declared.content.Items.TheVariants.{Bytes}
+use Rattle.elf_ident.specs.elf_xlate.declared.content.Items.TheVariants.{Bytes}
 use Rattle.std.proofs.Math.ListN.{replicate}
 
 -- a hexadecimal digit

@@ -10,7 +10,7 @@ use Rattle.elf_types.specs.declared.errors.ElfError.{ElfError}
 use Rattle.elf_types.specs.declared.errors.ElfError.TheVariants.{NotStrings, OutOfFile, NoString, Unended}
 use Rattle.elf_types.specs.declared.constants.TheConstants.{SHT_STRTAB}
 use Rattle.elf_types.specs.Answers.{refused_if, first_refusal, answered, err_of}
-use Rattle.elf_xlate.specs.Translation.{items_kind}
+use Rattle.elf_ident.specs.elf_xlate.Translation.{items_kind}
 use Rattle.strtab_build.specs.Table.{string_at}
 use Rattle.elf_object.specs.Words.{Refusals}
 use Rattle.elf_object.specs.Blocks.{Block, block_covers}

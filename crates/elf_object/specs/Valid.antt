@@ -7,7 +7,7 @@ use Rattle.elf_types.specs.Lists.{AreBytes}
 use Rattle.elf_types.specs.declared.records.Class.{Class}
 use Rattle.elf_types.specs.declared.records.Kind.TheVariants as kinds
 use Rattle.elf_types.specs.declared.constants.TheConstants.{EI_NIDENT, EI_PAD, MAX_SECTIONS, MAX_SEGMENTS, MAX_PIECES}
-use Rattle.elf_xlate.specs.Headers.{IsEhdr, IsShdr, ehdr_fits, shdr_fits}
+use Rattle.elf_ident.specs.elf_xlate.Headers.{IsEhdr, IsShdr, ehdr_fits, shdr_fits}
 use Rattle.elf_object.specs.Object.{Object, Section, Piece, Home, is_dirty}
 use Rattle.elf_object.specs.Open.{opened}
 use Rattle.elf_object.specs.Calls.{Call, step, is_piece_align}

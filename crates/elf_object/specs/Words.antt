@@ -9,8 +9,8 @@ use Rattle.std.specs.Borrow.{Bor}
 use Rattle.elf_types.specs.declared.errors.ElfError.{ElfError}
 use Rattle.elf_types.specs.declared.errors.ElfError.TheVariants.{Memory, Read, Write, NoEntry, Unfit, BadChain, Unended}
 use Rattle.elf_layout.specs.Layout.{MayWantMemory}
-use Rattle.elf_xlate.specs.declared.content.Items.{Items}
-use Rattle.elf_xlate.specs.Translation.{items_kind, items_count}
+use Rattle.elf_ident.specs.elf_xlate.declared.content.Items.{Items}
+use Rattle.elf_ident.specs.elf_xlate.Translation.{items_kind, items_count}
 
 -- ---- Where Memory and Read may come
 

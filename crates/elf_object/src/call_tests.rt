@@ -5,7 +5,7 @@
 ghost use Rattle.std.specs.Prelude.{[], ◌≡◌, ℕ, ◌+◌, ◌^◌, ◌∷◌, true, false, Some, None, Ok, Err};
 ghost use Rattle.elf_types.specs.declared.errors.ElfError.TheVariants.{Memory, NoEntry, NoSection, NoString, NotStrings, OutOfFile, Overlap, Read, TooMany, Unended, Unfit, WrongKind};
 ghost use Rattle.elf_types.specs.declared.records.Kind.TheVariants as kind;
-ghost use Rattle.elf_xlate.specs.declared.content.Items.TheVariants as items;
+ghost use Rattle.elf_ident.specs.elf_xlate.declared.content.Items.TheVariants as items;
 ghost use Rattle.elf_types.specs.declared.records.Part.TheVariants as part;
 ghost use Rattle.elf_object.specs.Words.{AlikeBytes, AlikeItems, Answers, AnswersRead, Edits, IsLike, Updates, handing_back, late_after, result_map, seen};
 ghost use Rattle.elf_object.specs.Object.{header_of, no_phdr};

@@ -2,13 +2,13 @@
 //! of the ELF header cannot hold (gABI chapter 4, "ELF Header" and "Section Header").
 
 ghost use Rattle.std.specs.Prelude.{◌≡◌};
-ghost use Rattle.elf_xlate.specs.Headers.{HasNarrowCounts, ehdr_size, phdr_size, shdr_size};
+ghost use Rattle.elf_ident.specs.elf_xlate.Headers.{HasNarrowCounts, ehdr_size, phdr_size, shdr_size};
 ghost use Rattle.elf_object.specs.Derived.{derived_header, numbered_shdr, where_any, written_header};
 ghost use Rattle.elf_object.specs.Steps.{stored_ehdr};
 
+use elf_ident::prelude::{ehdr_size, phdr_size, shdr_size};
 use elf_types::constants::{EV_CURRENT, PN_XNUM, SHN_LORESERVE, SHN_XINDEX};
 use elf_types::{Class, Ehdr, Shdr};
-use elf_xlate::{ehdr_size, phdr_size, shdr_size};
 
 /// A header that has the true counts, with what follows from them: the version, the sizes of the
 /// header and of the tables' entries, and, where they have entries, the places of the two tables,

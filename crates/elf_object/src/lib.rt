@@ -3,6 +3,7 @@
 #![tactic(auto)]
 
 pub mod derived;
+pub mod prelude;
 pub mod sections;
 
 pub use derived::{derived_header, numbered_shdr, stored_ehdr, written_header};

@@ -7,17 +7,17 @@ use Rattle.elf_types.specs.declared.records.Ehdr.{Ehdr}
 use Rattle.elf_types.specs.declared.records.DataId.{DataId}
 use Rattle.elf_types.specs.declared.records.Part.{Part}
 use Rattle.elf_types.specs.declared.records.Part.TheVariants as part
-use Rattle.elf_xlate.specs.declared.content.Items.{Items}
-use Rattle.elf_xlate.specs.Translation.{encoded, first_unfit}
-use Rattle.elf_outside.specs.Asks.{Asks}
-use Rattle.elf_outside.specs.declared.sources.Source.{Ghosts}
-use Rattle.elf_object.specs.Object.{Object, header_of, section_at, piece_at, has_file_bytes, home_is_clean}
-use Rattle.elf_object.specs.Answers.{piece_count}
-use Rattle.elf_object.specs.Due.{is_loaded, home_due}
-use Rattle.writing_laws.specs.Plan.{section_due, places_below}
-use Rattle.writing_laws.specs.Ready.{IsReady}
-use Rattle.elf_descriptor.specs.State.{State}
-use Rattle.elf_descriptor.specs.Held.{AreHeldBytes, IsUnread}
+use Rattle.update_plan.specs.elf_xlate.declared.content.Items.{Items}
+use Rattle.update_plan.specs.elf_xlate.Translation.{encoded, first_unfit}
+use Rattle.update_plan.specs.elf_outside.Asks.{Asks}
+use Rattle.update_plan.specs.elf_outside.declared.sources.Source.{Ghosts}
+use Rattle.update_plan.specs.elf_object.Object.{Object, header_of, section_at, piece_at, has_file_bytes, home_is_clean}
+use Rattle.update_plan.specs.elf_object.Answers.{piece_count}
+use Rattle.update_plan.specs.elf_object.Due.{is_loaded, home_due}
+use Rattle.update_plan.specs.writing_laws.Plan.{section_due, places_below}
+use Rattle.update_plan.specs.writing_laws.Ready.{IsReady}
+use Rattle.update_plan.specs.elf_descriptor.State.{State}
+use Rattle.update_plan.specs.elf_descriptor.Held.{AreHeldBytes, IsUnread}
 use Rattle.elf_update.specs.Origins.{absent_piece, origin_due, CopiesBy}
 use Rattle.elf_update.specs.declared.parts.Origin.TheVariants.{Piece}
 use Rattle.elf_update.specs.Descriptors.{kept_of_elf, faults_of, taken_of, stored_pieces, stored_due, HasToRead}

@@ -11,25 +11,25 @@ use Rattle.elf_types.specs.declared.records.Class.{Class}
 use Rattle.elf_types.specs.declared.records.Ehdr.{Ehdr}
 use Rattle.elf_types.specs.declared.records.Order.{Order}
 use Rattle.elf_types.specs.declared.records.Part.TheVariants as part
-use Rattle.elf_layout.specs.declared.parts.PartAt.{PartAt}
-use Rattle.elf_layout.specs.Capping.{capped}
-use Rattle.elf_layout.specs.Layout.{rounded_up}
-use Rattle.elf_xlate.specs.declared.content.Items.{Items}
-use Rattle.elf_xlate.specs.Translation.{encoded, file_size, items_kind, items_count}
-use Rattle.elf_xlate.proofs.Lengths.{length_encoded}
-use Rattle.elf_object.specs.Answers.{piece_count, piece_refusal}
-use Rattle.elf_object.specs.Calls.{piece_align_answer}
-use Rattle.elf_object.specs.Blocks.{stacked, last_end}
-use Rattle.elf_object.specs.Object.{Object, Section, Piece, section_at, piece_at, absent_section, home_piece, has_file_bytes, home_is_clean}
-use Rattle.elf_object.specs.Joined.{aligned_pieces, piece_bytes, piece_blocks, pieces_end, file_bytes}
-use Rattle.elf_object.specs.Layout.{section_part, table_part, parts_of}
-use Rattle.elf_object.specs.Valid.{IsObject, IsSection, OthersOwn}
-use Rattle.object_laws.proofs.ImageLaws.{length-joined}
-use Rattle.object_laws.proofs.PlacedLaws.{update_passes}
-use Rattle.object_laws.proofs.CapLaws.{parts_may_be_capped}
-use Rattle.writing_laws.specs.Ready.{IsReady}
-use Rattle.elf_descriptor.specs.State.{State}
-use Rattle.elf_descriptor.specs.Held.{AreHeldBytes}
+use Rattle.update_plan.specs.elf_layout.declared.parts.PartAt.{PartAt}
+use Rattle.update_plan.specs.elf_layout.Capping.{capped}
+use Rattle.update_plan.specs.elf_layout.Layout.{rounded_up}
+use Rattle.update_plan.specs.elf_xlate.declared.content.Items.{Items}
+use Rattle.update_plan.specs.elf_xlate.Translation.{encoded, file_size, items_kind, items_count}
+use Rattle.update_plan.proofs.elf_xlate.Lengths.{length_encoded}
+use Rattle.update_plan.specs.elf_object.Answers.{piece_count, piece_refusal}
+use Rattle.update_plan.specs.elf_object.Calls.{piece_align_answer}
+use Rattle.update_plan.specs.elf_object.Blocks.{stacked, last_end}
+use Rattle.update_plan.specs.elf_object.Object.{Object, Section, Piece, section_at, piece_at, absent_section, home_piece, has_file_bytes, home_is_clean}
+use Rattle.update_plan.specs.elf_object.Joined.{aligned_pieces, piece_bytes, piece_blocks, pieces_end, file_bytes}
+use Rattle.update_plan.specs.elf_object.Layout.{section_part, table_part, parts_of}
+use Rattle.update_plan.specs.elf_object.Valid.{IsObject, IsSection, OthersOwn}
+use Rattle.update_plan.proofs.object_laws.ImageLaws.{length-joined}
+use Rattle.update_plan.proofs.object_laws.PlacedLaws.{update_passes}
+use Rattle.update_plan.proofs.object_laws.CapLaws.{parts_may_be_capped}
+use Rattle.update_plan.specs.writing_laws.Ready.{IsReady}
+use Rattle.update_plan.specs.elf_descriptor.State.{State}
+use Rattle.update_plan.specs.elf_descriptor.Held.{AreHeldBytes}
 use Rattle.update_plan.proofs.InFileLaws.{inside_of}
 use Rattle.elf_update.specs.Origins.{absent_piece, IsExtent}
 use Rattle.elf_update.specs.Descriptors.{stored_pieces}

@@ -2,10 +2,10 @@
 use Rattle.std.proofs.Common.{◌≡◌, ℕ, zero, suc, ◌+◌, ◌*◌, ◌<◌, ◌≤◌, List, [], ◌∷◌, length, take, drop, get_or, refl, sym, ap, ◌∙◌, subst, arith}
 use Rattle.elf_types.specs.declared.records.Ehdr.{Ehdr}
 use Rattle.elf_types.specs.declared.records.Part.{Part}
-use Rattle.elf_xlate.specs.Headers.{ehdr_size, phdr_size, shdr_size}
-use Rattle.elf_object.specs.Object.{Object, header_of}
-use Rattle.elf_object.specs.Image.{front_blocks}
-use Rattle.elf_object.specs.Valid.{IsObject}
+use Rattle.update_plan.specs.elf_xlate.Headers.{ehdr_size, phdr_size, shdr_size}
+use Rattle.update_plan.specs.elf_object.Object.{Object, header_of}
+use Rattle.update_plan.specs.elf_object.Image.{front_blocks}
+use Rattle.update_plan.specs.elf_object.Valid.{IsObject}
 use Rattle.elf_update.specs.declared.parts.PieceExtent.{PieceExtent}
 use Rattle.elf_update.specs.declared.parts.Origin.{Origin}
 use Rattle.elf_update.specs.declared.parts.Origin.TheVariants.{Piece, Base}

@@ -4,9 +4,9 @@ use Rattle.std.specs.Prelude.{Bool, IfErr}
 use Rattle.std.proofs.lemmas.List.{append-nil}
 use Rattle.elf_types.specs.declared.errors.ElfError.{ElfError}
 use Rattle.elf_types.specs.declared.errors.ElfError.TheVariants.{Read, Write}
-use Rattle.elf_outside.specs.Asks.{DeviceReadRose}
-use Rattle.elf_outside.specs.declared.sinks.Sink.{Ghosts as SinkGhosts}
-use Rattle.elf_outside.proofs.PutLemmas.{device_read_rose_before, device_read_rose_on}
+use Rattle.update_plan.specs.elf_outside.Asks.{DeviceReadRose}
+use Rattle.update_plan.specs.elf_outside.declared.sinks.Sink.{Ghosts as SinkGhosts}
+use Rattle.update_plan.proofs.elf_outside.PutLemmas.{device_read_rose_before, device_read_rose_on}
 use Rattle.elf_update.specs.Texts.{IsText, Flows}
 use Rattle.elf_update.specs.Emits.{UsesParts, Emits}
 use Rattle.elf_update.specs.declared.parts.ImageParts.{Ghosts}

@@ -1,7 +1,7 @@
 -- Ranges of bytes that are made of entries of one size.
 use Rattle.std.proofs.Common.{◌≡◌, ℕ, ◌+◌, ◌-◌, ◌*◌, ◌/◌, ◌%◌, ◌<◌, ◌≤◌, min, List, ◌++◌, take, drop, sym, ap, ◌∙◌, arith, drop-drop, take-add, ⊎_elim}
 use Rattle.std.proofs.Math.Nat.{div-add-mod, mod-lt, mul-le-mul_left}
-use Rattle.elf_outside.proofs.RangeLemmas.{take-drop-range}
+use Rattle.update_plan.proofs.elf_outside.RangeLemmas.{take-drop-range}
 use Rattle.std.proofs.lemmas.Bool.{cases_lt}
 use Rattle.std.proofs.lemmas.List.{append-nil}
 

@@ -4,12 +4,12 @@ use Rattle.std.specs.Prelude.{Bool}
 use Rattle.std.specs.Option.{option_map}
 use Rattle.std.proofs.lemmas.List.{append-nil, length-append, take_all}
 use Rattle.elf_types.specs.declared.errors.ElfError.{ElfError}
-use Rattle.elf_outside.specs.Writes.{Appends, AppendsFront}
+use Rattle.update_plan.specs.elf_outside.Writes.{Appends, AppendsFront}
 use Rattle.elf_types.specs.declared.errors.ElfError.TheVariants.{Read}
-use Rattle.elf_outside.specs.Puts.{WriteRose, Puts}
-use Rattle.elf_outside.specs.declared.sinks.Sink.{Ghosts}
-use Rattle.elf_outside.proofs.WriteLemmas.{appends_both, front_after, front_before}
-use Rattle.elf_outside.proofs.PutLemmas.{write_rose_on, uses_sink_both}
+use Rattle.update_plan.specs.elf_outside.Puts.{WriteRose, Puts}
+use Rattle.update_plan.specs.elf_outside.declared.sinks.Sink.{Ghosts}
+use Rattle.update_plan.proofs.elf_outside.WriteLemmas.{appends_both, front_after, front_before}
+use Rattle.update_plan.proofs.elf_outside.PutLemmas.{write_rose_on, uses_sink_both}
 use Rattle.elf_update.specs.Texts.{IsText, Streams, Flows}
 
 -- ---- Texts

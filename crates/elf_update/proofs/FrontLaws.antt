@@ -8,15 +8,15 @@ use Rattle.elf_types.specs.declared.records.Class.TheVariants.{C32, C64}
 use Rattle.elf_types.specs.declared.records.Ehdr.{Ehdr}
 use Rattle.elf_types.specs.declared.records.Phdr.{Phdr}
 use Rattle.elf_types.specs.declared.records.Shdr.{Shdr}
-use Rattle.elf_xlate.specs.Headers.{ehdr_size, phdr_size, shdr_size, ehdr_bytes, phdr_bytes, shdr_bytes, ehdr_fits, phdr_fits, shdr_fits}
-use Rattle.elf_ident.specs.Front.{zero_shdr}
-use Rattle.elf_object.specs.Object.{Object, Section, header_of, no_phdr, absent_section, section_at}
-use Rattle.elf_object.specs.Open.{front_in_image, phdrs_bytes, shdrs_bytes}
-use Rattle.elf_object.specs.Derived.{written_header}
-use Rattle.elf_object.specs.Image.{front_blocks}
-use Rattle.elf_object.specs.Valid.{IsObject, IsSection}
-use Rattle.object_laws.proofs.LengthLaws.{length-ehdr_bytes, length-phdr_bytes, length-shdr_bytes, length-phdrs_bytes, length-shdrs_bytes}
-use Rattle.writing_laws.specs.Ready.{IsReady}
+use Rattle.update_plan.specs.elf_xlate.Headers.{ehdr_size, phdr_size, shdr_size, ehdr_bytes, phdr_bytes, shdr_bytes, ehdr_fits, phdr_fits, shdr_fits}
+use Rattle.update_plan.specs.elf_ident.Front.{zero_shdr}
+use Rattle.update_plan.specs.elf_object.Object.{Object, Section, header_of, no_phdr, absent_section, section_at}
+use Rattle.update_plan.specs.elf_object.Open.{front_in_image, phdrs_bytes, shdrs_bytes}
+use Rattle.update_plan.specs.elf_object.Derived.{written_header}
+use Rattle.update_plan.specs.elf_object.Image.{front_blocks}
+use Rattle.update_plan.specs.elf_object.Valid.{IsObject, IsSection}
+use Rattle.update_plan.proofs.object_laws.LengthLaws.{length-ehdr_bytes, length-phdr_bytes, length-shdr_bytes, length-phdrs_bytes, length-shdrs_bytes}
+use Rattle.update_plan.specs.writing_laws.Ready.{IsReady}
 use Rattle.elf_update.proofs.RowLaws.{flat_at}
 use Rattle.elf_update.proofs.StoredLaws.{phdr_fits_at}
 

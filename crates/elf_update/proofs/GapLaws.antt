@@ -7,8 +7,8 @@ use Rattle.std.proofs.lemmas.List.{length-append, length-take, length-drop, leng
 use Rattle.std.proofs.lemmas.List.FromFn.{length-map-range_with_len, get_or-map-range_with_len}
 use Rattle.elf_types.specs.declared.errors.ElfError.{ElfError}
 use Rattle.elf_types.specs.declared.errors.ElfError.TheVariants.{Write}
-use Rattle.elf_outside.specs.declared.sinks.Sink.{Ghosts as SinkGhosts}
-use Rattle.writing_laws.specs.Plan.{places_below}
+use Rattle.update_plan.specs.elf_outside.declared.sinks.Sink.{Ghosts as SinkGhosts}
+use Rattle.update_plan.specs.writing_laws.Plan.{places_below}
 use Rattle.elf_update.specs.declared.parts.ImageParts.{Ghosts}
 use Rattle.elf_update.specs.Texts.{Flows}
 use Rattle.elf_update.specs.Emits.{Emits, ground_byte, gap_text}

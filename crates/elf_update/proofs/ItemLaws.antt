@@ -4,12 +4,12 @@ use Rattle.std.proofs.lemmas.List.{take_at, drop_at}
 use Rattle.elf_types.specs.declared.records.Class.{Class}
 use Rattle.elf_types.specs.declared.records.Class.TheVariants.{C32, C64}
 use Rattle.elf_types.specs.declared.records.Order.{Order}
-use Rattle.elf_xlate.specs.declared.content.Items.{Items}
-use Rattle.elf_xlate.specs.declared.content.Items.TheVariants.{Empty, Bytes, Half, Word, Addr, Sym, Rel, Rela, Dyn}
-use Rattle.elf_xlate.specs.Items.{item_size}
-use Rattle.elf_xlate.specs.Translation.{encoded, between, items_between, items_kind, items_count}
-use Rattle.elf_xlate.proofs.Ranges.{encoded_ranges, whole_range}
-use Rattle.elf_xlate.proofs.Lengths.{length_encoded}
+use Rattle.update_plan.specs.elf_xlate.declared.content.Items.{Items}
+use Rattle.update_plan.specs.elf_xlate.declared.content.Items.TheVariants.{Empty, Bytes, Half, Word, Addr, Sym, Rel, Rela, Dyn}
+use Rattle.update_plan.specs.elf_xlate.Items.{item_size}
+use Rattle.update_plan.specs.elf_xlate.Translation.{encoded, between, items_between, items_kind, items_count}
+use Rattle.update_plan.proofs.elf_xlate.Ranges.{encoded_ranges, whole_range}
+use Rattle.update_plan.proofs.elf_xlate.Lengths.{length_encoded}
 
 between_length : {X : Type 0} (a b : ℕ) (l : List X) → a ≤ b → b ≤ length l → length (between a b l) ≡ b - a
 between_length a b l low high =

@@ -1,3 +1,8 @@
+pub use Rattle.update_plan.proofs.elf_descriptor
+pub use Rattle.update_plan.proofs.elf_object
+pub use Rattle.update_plan.proofs.object_laws
+pub use Rattle.update_plan.proofs as update_plan
+pub use Rattle.update_plan.proofs.writing_laws
 pub mod FlowLaws
 pub mod EmitLaws
 pub mod PageLaws

@@ -4,8 +4,8 @@ use borrow.Rule.Slice.PartMut.{put_mid}
 use Rattle.std.proofs.lemmas.List.{append-nil, length-append, length-take, length-drop}
 use Rattle.std.proofs.lemmas.List.{replicate-append-replicate}
 use Rattle.elf_types.specs.declared.errors.ElfError.{ElfError}
-use Rattle.elf_outside.specs.Puts.{Puts}
-use Rattle.elf_outside.specs.declared.sinks.Sink.{Ghosts}
+use Rattle.update_plan.specs.elf_outside.Puts.{Puts}
+use Rattle.update_plan.specs.elf_outside.declared.sinks.Sink.{Ghosts}
 use Rattle.elf_update.specs.Texts.{Flows}
 use Rattle.elf_update.proofs.FlowLaws.{flows_none, flows_both, flows_stop, flows_as, flows_waits, flows_past}
 

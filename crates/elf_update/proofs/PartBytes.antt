@@ -5,17 +5,17 @@ use Rattle.std.specs.Prelude.{if◌then◌else◌, map}
 use Rattle.std.specs.List.{range_with_len}
 use Rattle.std.proofs.lemmas.List.{append-nil}
 use Rattle.elf_types.specs.declared.records.Part.TheVariants as part
-use Rattle.elf_layout.specs.declared.parts.PartAt.{PartAt}
-use Rattle.elf_layout.specs.Layout.{rounded_up, place_of, end_after, in_order_from, standing, positions, places_of as parts_places}
-use Rattle.elf_object.specs.Blocks.{Block, stacked, last_end}
-use Rattle.elf_object.specs.Object.{Object, section_at, has_file_bytes, is_dirty}
-use Rattle.elf_object.specs.Open.{no_block}
-use Rattle.elf_object.specs.Joined.{aligned_pieces, piece_blocks, pieces_end, file_bytes}
-use Rattle.elf_object.specs.Layout.{section_part, section_numbers, table_part, parts_of, placed_parts, places_of, placed}
-use Rattle.elf_object.specs.Image.{front_blocks, section_block, part_blocks}
-use Rattle.object_laws.proofs.ImageLaws.{joined-none, placed-dirty}
-use Rattle.object_laws.proofs.StandLaws.{section_count-placed}
-use Rattle.writing_laws.proofs.PieceLaws.{pieces_in_line}
+use Rattle.update_plan.specs.elf_layout.declared.parts.PartAt.{PartAt}
+use Rattle.update_plan.specs.elf_layout.Layout.{rounded_up, place_of, end_after, in_order_from, standing, positions, places_of as parts_places}
+use Rattle.update_plan.specs.elf_object.Blocks.{Block, stacked, last_end}
+use Rattle.update_plan.specs.elf_object.Object.{Object, section_at, has_file_bytes, is_dirty}
+use Rattle.update_plan.specs.elf_object.Open.{no_block}
+use Rattle.update_plan.specs.elf_object.Joined.{aligned_pieces, piece_blocks, pieces_end, file_bytes}
+use Rattle.update_plan.specs.elf_object.Layout.{section_part, section_numbers, table_part, parts_of, placed_parts, places_of, placed}
+use Rattle.update_plan.specs.elf_object.Image.{front_blocks, section_block, part_blocks}
+use Rattle.update_plan.proofs.object_laws.ImageLaws.{joined-none, placed-dirty}
+use Rattle.update_plan.proofs.object_laws.StandLaws.{section_count-placed}
+use Rattle.update_plan.proofs.writing_laws.PieceLaws.{pieces_in_line}
 use Rattle.update_plan.specs.Plans.{no_part, stand_at}
 use Rattle.elf_update.specs.Pieces.{pieces_length, stacked_text}
 use Rattle.elf_update.specs.Descriptors.{stored_pieces}

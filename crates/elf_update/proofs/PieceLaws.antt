@@ -8,11 +8,11 @@ use Rattle.std.proofs.lemmas.List.{drop_more, drop_all, take_all, append-nil}
 use Rattle.elf_types.specs.declared.errors.ElfError.{ElfError}
 use Rattle.elf_types.specs.declared.errors.ElfError.TheVariants.{Write}
 use Rattle.elf_types.specs.declared.records.Part.{Part}
-use Rattle.elf_outside.specs.declared.sinks.Sink.{Ghosts as SinkGhosts}
-use Rattle.elf_layout.specs.Layout.{rounded_up}
-use Rattle.elf_object.specs.Blocks.{block_end, stacked, last_end}
-use Rattle.writing_laws.proofs.LineLaws.{line_within, length-in_line}
-use Rattle.writing_laws.proofs.PieceLaws.{stacked_line}
+use Rattle.update_plan.specs.elf_outside.declared.sinks.Sink.{Ghosts as SinkGhosts}
+use Rattle.update_plan.specs.elf_layout.Layout.{rounded_up}
+use Rattle.update_plan.specs.elf_object.Blocks.{block_end, stacked, last_end}
+use Rattle.update_plan.proofs.writing_laws.LineLaws.{line_within, length-in_line}
+use Rattle.update_plan.proofs.writing_laws.PieceLaws.{stacked_line}
 use Rattle.elf_update.specs.declared.parts.ImageParts.{Ghosts}
 use Rattle.elf_update.specs.declared.parts.Origin.TheVariants.{Piece}
 use Rattle.elf_update.specs.Origins.{absent_piece, origin_due}

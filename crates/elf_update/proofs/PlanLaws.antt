@@ -5,22 +5,22 @@ use Rattle.std.specs.List.{range_with_len, enumerate_from, filter, AllByRecursio
 use Rattle.std.proofs.lemmas.Bool.{cases_lt, ltb-true}
 use Rattle.std.proofs.lemmas.List.Sums.{sum_by-cons}
 use Rattle.std.proofs.lemmas.List.Elements.{All-from_recursion}
-use Rattle.elf_layout.specs.declared.parts.PartAt.{PartAt}
-use Rattle.elf_layout.specs.Layout.{end_after, in_order_from, standing}
-use Rattle.elf_layout.specs.Meeting.{has_bytes, sorted_by, ranked_from, ranks_by_position}
-use Rattle.elf_object.specs.Blocks.{Block}
-use Rattle.elf_object.specs.Object.{Object, Section, section_at, absent_section, has_file_bytes, home_is_clean, is_dirty}
-use Rattle.elf_object.specs.Open.{no_block}
-use Rattle.elf_object.specs.Layout.{section_part, table_part, parts_of, placed_parts, places_of, placed_section, placed}
-use Rattle.elf_object.specs.Image.{part_blocks}
-use Rattle.elf_object.specs.Due.{is_loaded, home_due, homes_due, clean_homes}
-use Rattle.object_laws.proofs.ImageLaws.{placed-dirty, section_at-placed}
-use Rattle.object_laws.proofs.StandLaws.{IsBlockOf, AreBlocksOf, placed_blocks, section_at-past, type-placed, section_count-placed}
-use Rattle.writing_laws.specs.Plan.{plan, block_of_rank, section_due, rank_due}
-use Rattle.writing_laws.specs.Ready.{IsReady}
-use Rattle.writing_laws.proofs.RankLaws.{plan_by_rank}
-use Rattle.writing_laws.proofs.SortLaws.{each_sorted}
-use Rattle.writing_laws.proofs.DueLaws.{plan_due}
+use Rattle.update_plan.specs.elf_layout.declared.parts.PartAt.{PartAt}
+use Rattle.update_plan.specs.elf_layout.Layout.{end_after, in_order_from, standing}
+use Rattle.update_plan.specs.elf_layout.Meeting.{has_bytes, sorted_by, ranked_from, ranks_by_position}
+use Rattle.update_plan.specs.elf_object.Blocks.{Block}
+use Rattle.update_plan.specs.elf_object.Object.{Object, Section, section_at, absent_section, has_file_bytes, home_is_clean, is_dirty}
+use Rattle.update_plan.specs.elf_object.Open.{no_block}
+use Rattle.update_plan.specs.elf_object.Layout.{section_part, table_part, parts_of, placed_parts, places_of, placed_section, placed}
+use Rattle.update_plan.specs.elf_object.Image.{part_blocks}
+use Rattle.update_plan.specs.elf_object.Due.{is_loaded, home_due, homes_due, clean_homes}
+use Rattle.update_plan.proofs.object_laws.ImageLaws.{placed-dirty, section_at-placed}
+use Rattle.update_plan.proofs.object_laws.StandLaws.{IsBlockOf, AreBlocksOf, placed_blocks, section_at-past, type-placed, section_count-placed}
+use Rattle.update_plan.specs.writing_laws.Plan.{plan, block_of_rank, section_due, rank_due}
+use Rattle.update_plan.specs.writing_laws.Ready.{IsReady}
+use Rattle.update_plan.proofs.writing_laws.RankLaws.{plan_by_rank}
+use Rattle.update_plan.proofs.writing_laws.SortLaws.{each_sorted}
+use Rattle.update_plan.proofs.writing_laws.DueLaws.{plan_due}
 use Rattle.update_plan.specs.Plans.{part_of_rank}
 use Rattle.elf_update.specs.Pieces.{stacked_text, block_at, blocks_at, HasLength}
 use Rattle.elf_update.specs.Descriptors.{stored_pieces, stored_due, planned}

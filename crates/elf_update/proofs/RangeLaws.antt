@@ -3,8 +3,8 @@ use Rattle.std.proofs.Common.{◌≡◌, inl, ℕ, ◌+◌, ◌-◌, ◌≤◌, 
 use Rattle.std.proofs.lemmas.List.{append-nil}
 use Rattle.elf_types.specs.declared.errors.ElfError.{ElfError}
 use Rattle.elf_types.specs.declared.errors.ElfError.TheVariants.{Read, Write}
-use Rattle.elf_outside.specs.declared.sinks.Sink.{Ghosts as SinkGhosts}
-use Rattle.writing_laws.specs.Plan.{places_below}
+use Rattle.update_plan.specs.elf_outside.declared.sinks.Sink.{Ghosts as SinkGhosts}
+use Rattle.update_plan.specs.writing_laws.Plan.{places_below}
 use Rattle.elf_update.specs.declared.parts.ImageParts.{Ghosts}
 use Rattle.elf_update.specs.Texts.{Flows}
 use Rattle.elf_update.specs.declared.parts.Origin.{Origin}

@@ -9,14 +9,14 @@ use Rattle.elf_types.specs.declared.records.Part.TheVariants as part
 use Rattle.elf_types.specs.declared.errors.ElfError.{ElfError}
 use Rattle.elf_types.specs.declared.errors.ElfError.TheVariants.{Unfit, OutOfFile}
 use Rattle.elf_types.specs.Answers.{first_refusal, refused_if}
-use Rattle.elf_xlate.specs.declared.content.Items.{Items}
-use Rattle.elf_xlate.specs.Headers.{phdr_fits}
-use Rattle.elf_xlate.specs.Translation.{first_unfit}
-use Rattle.elf_xlate.proofs.Pieces.{each_passes}
-use Rattle.elf_object.specs.Object.{Object, Section, section_at, absent_section, home_piece, no_phdr, has_file_bytes, home_is_clean}
-use Rattle.elf_object.specs.Refusal.{too_many, unfit_segment, unfit_in_piece, unfit_in_section, unfit_item, missing_in_section, missing_home, content_refusal}
-use Rattle.object_laws.proofs.PlacedLaws.{update_passes}
-use Rattle.writing_laws.specs.Ready.{IsReady}
+use Rattle.update_plan.specs.elf_xlate.declared.content.Items.{Items}
+use Rattle.update_plan.specs.elf_xlate.Headers.{phdr_fits}
+use Rattle.update_plan.specs.elf_xlate.Translation.{first_unfit}
+use Rattle.update_plan.proofs.elf_xlate.Pieces.{each_passes}
+use Rattle.update_plan.specs.elf_object.Object.{Object, Section, section_at, absent_section, home_piece, no_phdr, has_file_bytes, home_is_clean}
+use Rattle.update_plan.specs.elf_object.Refusal.{too_many, unfit_segment, unfit_in_piece, unfit_in_section, unfit_item, missing_in_section, missing_home, content_refusal}
+use Rattle.update_plan.proofs.object_laws.PlacedLaws.{update_passes}
+use Rattle.update_plan.specs.writing_laws.Ready.{IsReady}
 use Rattle.update_plan.proofs.RowLaws.{row_passed}
 
 -- none of four refusals came

@@ -7,34 +7,34 @@ use Rattle.std.proofs.lemmas.List.{append-nil, take_all}
 use Rattle.elf_types.specs.declared.errors.ElfError.{ElfError}
 use Rattle.elf_types.specs.declared.errors.ElfError.TheVariants.{Memory, Read, Write}
 use Rattle.elf_types.specs.Answers.{answered, IsRefusal}
-use Rattle.elf_layout.specs.declared.parts.PartAt.{PartAt}
-use Rattle.elf_layout.specs.declared.parts.Places.{Places}
-use Rattle.elf_layout.specs.Layout.{positions, end_after, in_order_from, standing, places_of as parts_places}
-use Rattle.elf_layout.specs.Meeting.{ranks_by_position}
-use Rattle.elf_outside.specs.Asks.{DeviceReadRose, UsesSource}
-use Rattle.elf_outside.specs.Puts.{WriteRose}
-use Rattle.elf_outside.specs.Writes.{Appends}
-use Rattle.elf_outside.specs.declared.sources.Source.{Ghosts}
-use Rattle.elf_outside.specs.declared.sinks.Sink.{Ghosts as SinkGhosts}
-use Rattle.elf_outside.proofs.UseLemmas.{uses_source_on, uses_sink_on}
-use Rattle.elf_object.specs.Blocks.{Block, is_covered}
-use Rattle.elf_object.specs.Object.{Object, is_dirty}
-use Rattle.elf_object.specs.Valid.{IsObject}
-use Rattle.elf_object.specs.Layout.{parts_of, places_of, placed_parts, placed, placed_by}
-use Rattle.elf_object.specs.Image.{image, image_length, kept_base, uncovered_byte, part_blocks}
-use Rattle.elf_object.specs.Refusal.{refusal}
-use Rattle.elf_object.specs.Due.{update_to_due, homes_due, clean_homes, is_refused_unread, unless_unread}
-use Rattle.elf_layout.specs.Layout.{MayWantMemory}
-use Rattle.elf_object.specs.Words.{UpdateAnswers, result_map}
-use Rattle.elf_object.specs.Calls.{update_null}
-use Rattle.object_laws.proofs.ImageLaws.{placed-dirty}
-use Rattle.object_laws.proofs.PlacedLaws.{placed_is}
-use Rattle.object_laws.proofs.TornLaws.{dirty-placed, placed_stays}
-use Rattle.writing_laws.specs.Lines.{AreInLine, in_line}
-use Rattle.writing_laws.specs.Plan.{plan, places_below, base_gaps}
-use Rattle.writing_laws.proofs.PieceLaws.{kept_at_most}
-use Rattle.writing_laws.proofs.PlanLaws.{plan_is_image, gaps_are_fill}
-use Rattle.elf_descriptor.specs.State.{State}
+use Rattle.update_plan.specs.elf_layout.declared.parts.PartAt.{PartAt}
+use Rattle.update_plan.specs.elf_layout.declared.parts.Places.{Places}
+use Rattle.update_plan.specs.elf_layout.Layout.{positions, end_after, in_order_from, standing, places_of as parts_places}
+use Rattle.update_plan.specs.elf_layout.Meeting.{ranks_by_position}
+use Rattle.update_plan.specs.elf_outside.Asks.{DeviceReadRose, UsesSource}
+use Rattle.update_plan.specs.elf_outside.Puts.{WriteRose}
+use Rattle.update_plan.specs.elf_outside.Writes.{Appends}
+use Rattle.update_plan.specs.elf_outside.declared.sources.Source.{Ghosts}
+use Rattle.update_plan.specs.elf_outside.declared.sinks.Sink.{Ghosts as SinkGhosts}
+use Rattle.update_plan.proofs.elf_outside.UseLemmas.{uses_source_on, uses_sink_on}
+use Rattle.update_plan.specs.elf_object.Blocks.{Block, is_covered}
+use Rattle.update_plan.specs.elf_object.Object.{Object, is_dirty}
+use Rattle.update_plan.specs.elf_object.Valid.{IsObject}
+use Rattle.update_plan.specs.elf_object.Layout.{parts_of, places_of, placed_parts, placed, placed_by}
+use Rattle.update_plan.specs.elf_object.Image.{image, image_length, kept_base, uncovered_byte, part_blocks}
+use Rattle.update_plan.specs.elf_object.Refusal.{refusal}
+use Rattle.update_plan.specs.elf_object.Due.{update_to_due, homes_due, clean_homes, is_refused_unread, unless_unread}
+use Rattle.update_plan.specs.elf_layout.Layout.{MayWantMemory}
+use Rattle.update_plan.specs.elf_object.Words.{UpdateAnswers, result_map}
+use Rattle.update_plan.specs.elf_object.Calls.{update_null}
+use Rattle.update_plan.proofs.object_laws.ImageLaws.{placed-dirty}
+use Rattle.update_plan.proofs.object_laws.PlacedLaws.{placed_is}
+use Rattle.update_plan.proofs.object_laws.TornLaws.{dirty-placed, placed_stays}
+use Rattle.update_plan.specs.writing_laws.Lines.{AreInLine, in_line}
+use Rattle.update_plan.specs.writing_laws.Plan.{plan, places_below, base_gaps}
+use Rattle.update_plan.proofs.writing_laws.PieceLaws.{kept_at_most}
+use Rattle.update_plan.proofs.writing_laws.PlanLaws.{plan_is_image, gaps_are_fill}
+use Rattle.update_plan.specs.elf_descriptor.State.{State}
 use Rattle.update_plan.proofs.PlacingLaws.{clean_answer, refused_cases}
 use Rattle.update_plan.specs.declared.places.PlacedParts.{PlacedParts}
 use Rattle.update_plan.specs.Placing.{ArePlaced, IsRefused}

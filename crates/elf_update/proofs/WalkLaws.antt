@@ -5,12 +5,12 @@ use Rattle.std.proofs.lemmas.List.{drop_more, drop_all}
 use Rattle.std.proofs.lemmas.List.Sums.{sum_by-cons}
 use Rattle.elf_types.specs.declared.errors.ElfError.{ElfError}
 use Rattle.elf_types.specs.declared.records.Part.{Part}
-use Rattle.elf_layout.specs.declared.parts.PartAt.{PartAt}
-use Rattle.elf_outside.specs.declared.sinks.Sink.{Ghosts as SinkGhosts}
-use Rattle.elf_object.specs.Blocks.{block_end}
-use Rattle.writing_laws.specs.Lines.{AreInLine, in_line}
-use Rattle.writing_laws.specs.Plan.{places_below, base_gaps}
-use Rattle.writing_laws.proofs.LineLaws.{line_within}
+use Rattle.update_plan.specs.elf_layout.declared.parts.PartAt.{PartAt}
+use Rattle.update_plan.specs.elf_outside.declared.sinks.Sink.{Ghosts as SinkGhosts}
+use Rattle.update_plan.specs.elf_object.Blocks.{block_end}
+use Rattle.update_plan.specs.writing_laws.Lines.{AreInLine, in_line}
+use Rattle.update_plan.specs.writing_laws.Plan.{places_below, base_gaps}
+use Rattle.update_plan.proofs.writing_laws.LineLaws.{line_within}
 use Rattle.elf_update.specs.declared.parts.ImageParts.{Ghosts}
 use Rattle.elf_update.specs.Pieces.{stacked_text, block_at, blocks_at, HasLength}
 use Rattle.elf_update.specs.Emits.{Emits, ground_byte, gap_text}

@@ -3,17 +3,17 @@ use Rattle.std.specs.Prelude.{◌≡◌, ℕ, Bool, List, [], ◌∷◌, map, Op
 use Rattle.elf_types.specs.declared.records.DataId.{DataId}
 use Rattle.elf_types.specs.declared.records.Part.{Part}
 use Rattle.elf_types.specs.declared.records.Part.TheVariants as part
-use Rattle.elf_layout.specs.declared.parts.PartAt.{PartAt}
-use Rattle.elf_layout.specs.Meeting.{ranks_by_position}
-use Rattle.elf_outside.specs.declared.sources.Source.{Ghosts}
-use Rattle.elf_object.specs.Object.{Object, section_at, has_file_bytes}
-use Rattle.elf_object.specs.Joined.{aligned_pieces}
-use Rattle.elf_object.specs.Layout.{placed, placed_parts}
-use Rattle.elf_object.specs.Image.{front_blocks}
-use Rattle.writing_laws.specs.Plan.{section_due}
-use Rattle.writing_laws.specs.Ready.{IsReady}
-use Rattle.elf_descriptor.specs.State.{State}
-use Rattle.elf_descriptor.specs.Held.{IsUnread}
+use Rattle.update_plan.specs.elf_layout.declared.parts.PartAt.{PartAt}
+use Rattle.update_plan.specs.elf_layout.Meeting.{ranks_by_position}
+use Rattle.update_plan.specs.elf_outside.declared.sources.Source.{Ghosts}
+use Rattle.update_plan.specs.elf_object.Object.{Object, section_at, has_file_bytes}
+use Rattle.update_plan.specs.elf_object.Joined.{aligned_pieces}
+use Rattle.update_plan.specs.elf_object.Layout.{placed, placed_parts}
+use Rattle.update_plan.specs.elf_object.Image.{front_blocks}
+use Rattle.update_plan.specs.writing_laws.Plan.{section_due}
+use Rattle.update_plan.specs.writing_laws.Ready.{IsReady}
+use Rattle.update_plan.specs.elf_descriptor.State.{State}
+use Rattle.update_plan.specs.elf_descriptor.Held.{IsUnread}
 use Rattle.update_plan.specs.Plans.{part_of_rank}
 
 -- all of a descriptor but its source, and of that what a read leaves

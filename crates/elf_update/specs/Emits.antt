@@ -3,10 +3,10 @@ use Rattle.std.specs.Prelude.{◌≡◌, ◌⊎◌, ℕ, ◌-◌, ◌≤◌, Boo
 use Rattle.std.proofs.Math.ListN.{replicate}
 use Rattle.elf_types.specs.declared.errors.ElfError.{ElfError}
 use Rattle.elf_types.specs.declared.errors.ElfError.TheVariants.{Read, Write}
-use Rattle.elf_outside.specs.Counts.{RaisedAtMost}
-use Rattle.elf_outside.specs.Asks.{DeviceReadRose}
-use Rattle.elf_outside.specs.declared.sinks.Sink.{Ghosts as SinkGhosts}
-use Rattle.writing_laws.specs.Plan.{places_below}
+use Rattle.update_plan.specs.elf_outside.Counts.{RaisedAtMost}
+use Rattle.update_plan.specs.elf_outside.Asks.{DeviceReadRose}
+use Rattle.update_plan.specs.elf_outside.declared.sinks.Sink.{Ghosts as SinkGhosts}
+use Rattle.update_plan.specs.writing_laws.Plan.{places_below}
 use Rattle.elf_update.specs.declared.parts.Origin.{Origin}
 use Rattle.elf_update.specs.Texts.{IsText, Flows}
 use Rattle.elf_update.specs.Origins.{origin_bytes, origin_due}

@@ -2,8 +2,8 @@
 use Rattle.std.specs.Prelude.{◌≡◌, ℕ, ◌==◌, ◌≤◌, List, [], length, slice_index_or, Result, if◌then◌else◌}
 use Rattle.elf_types.specs.declared.errors.ElfError.{ElfError}
 use Rattle.elf_types.specs.declared.records.Part.{Part}
-use Rattle.elf_outside.specs.Counts.{RaisedAtMost}
-use Rattle.elf_outside.specs.Asks.{ReadRose}
+use Rattle.update_plan.specs.elf_outside.Counts.{RaisedAtMost}
+use Rattle.update_plan.specs.elf_outside.Asks.{ReadRose}
 use Rattle.elf_update.specs.declared.parts.Origin.{Origin}
 use Rattle.elf_update.specs.declared.parts.Origin.TheVariants.{Piece, Base}
 use Rattle.elf_update.specs.declared.parts.PieceExtent.{PieceExtent}

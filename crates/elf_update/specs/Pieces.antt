@@ -3,10 +3,10 @@
 use Rattle.std.specs.Prelude.{◌≡◌, ℕ, ◌-◌, List, ◌++◌, map}
 use Rattle.std.proofs.Math.ListN.{replicate}
 use Rattle.elf_types.specs.declared.records.Part.{Part}
-use Rattle.elf_layout.specs.declared.parts.PartAt.{PartAt}
-use Rattle.elf_layout.specs.Layout.{rounded_up}
-use Rattle.elf_object.specs.Blocks.{Block, stacked, last_end}
-use Rattle.writing_laws.specs.Lines.{in_line}
+use Rattle.update_plan.specs.elf_layout.declared.parts.PartAt.{PartAt}
+use Rattle.update_plan.specs.elf_layout.Layout.{rounded_up}
+use Rattle.update_plan.specs.elf_object.Blocks.{Block, stacked, last_end}
+use Rattle.update_plan.specs.writing_laws.Lines.{in_line}
 
 -- the length of a part that is made of pieces
 unfoldable pub pieces_length : List (ℕ × List ℕ) → ℕ

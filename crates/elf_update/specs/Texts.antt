@@ -1,9 +1,9 @@
 -- What goes to a sink through a page: a text waits in the page, and is put page by page.
 use Rattle.std.specs.Prelude.{◌≡◌, ℕ, Bool, IsTrue, List, ◌++◌, length, Option, Result, OnOk, OnErr}
 use Rattle.elf_types.specs.declared.errors.ElfError.{ElfError}
-use Rattle.elf_outside.specs.Writes.{Appends, AppendsFront}
-use Rattle.elf_outside.specs.Puts.{UsesSink}
-use Rattle.elf_outside.specs.declared.sinks.Sink.{Ghosts}
+use Rattle.update_plan.specs.elf_outside.Writes.{Appends, AppendsFront}
+use Rattle.update_plan.specs.elf_outside.Puts.{UsesSink}
+use Rattle.update_plan.specs.elf_outside.declared.sinks.Sink.{Ghosts}
 
 -- a text is the stated one where the bytes are told, and else as long
 pub record IsText (told : Bool) (stated text : List ℕ) : Type 0 where

@@ -3,19 +3,19 @@
 use Rattle.std.specs.Prelude.{◌≡◌, ℕ, List, Result, Ok, Err, OnOk, OnErr}
 use Rattle.elf_types.specs.declared.errors.ElfError.{ElfError}
 use Rattle.elf_types.specs.declared.errors.ElfError.TheVariants.{Read, Write}
-use Rattle.elf_outside.specs.Asks.{UsesSource}
-use Rattle.elf_outside.specs.Puts.{UsesSink}
-use Rattle.elf_outside.specs.Writes.{Appends, AppendsFront}
-use Rattle.elf_outside.specs.declared.sources.Source.{Ghosts}
-use Rattle.elf_outside.specs.declared.sinks.Sink.{Ghosts as SinkGhosts}
-use Rattle.elf_object.specs.Object.{Object}
-use Rattle.elf_object.specs.Layout.{placed, places_of}
-use Rattle.elf_object.specs.Image.{image}
-use Rattle.elf_object.specs.Due.{update_to_due}
-use Rattle.elf_object.specs.Words.{UpdateAnswers}
-use Rattle.elf_object.specs.Calls.{update_null}
-use Rattle.writing_laws.specs.Ready.{IsReady}
-use Rattle.elf_descriptor.specs.State.{State}
+use Rattle.update_plan.specs.elf_outside.Asks.{UsesSource}
+use Rattle.update_plan.specs.elf_outside.Puts.{UsesSink}
+use Rattle.update_plan.specs.elf_outside.Writes.{Appends, AppendsFront}
+use Rattle.update_plan.specs.elf_outside.declared.sources.Source.{Ghosts}
+use Rattle.update_plan.specs.elf_outside.declared.sinks.Sink.{Ghosts as SinkGhosts}
+use Rattle.update_plan.specs.elf_object.Object.{Object}
+use Rattle.update_plan.specs.elf_object.Layout.{placed, places_of}
+use Rattle.update_plan.specs.elf_object.Image.{image}
+use Rattle.update_plan.specs.elf_object.Due.{update_to_due}
+use Rattle.update_plan.specs.elf_object.Words.{UpdateAnswers}
+use Rattle.update_plan.specs.elf_object.Calls.{update_null}
+use Rattle.update_plan.specs.writing_laws.Ready.{IsReady}
+use Rattle.update_plan.specs.elf_descriptor.State.{State}
 use Rattle.elf_update.specs.declared.updates.PlannedParts.{PlannedParts}
 use Rattle.elf_update.specs.Texts.{IsText}
 use Rattle.elf_update.specs.Descriptors.{planned}

@@ -1,7 +1,7 @@
 //! Bytes of the pieces of a descriptor's parts: those that are at hand, and those that are read.
 
 ghost use Rattle.std.specs.Prelude.{◌≡◌, ◌<◌, ◌+◌, ◌^◌, ◌≤◌, None, IsTrue, length, take, drop, slice_index_or, IfSome, IfErr, OnOk};
-ghost use Rattle.writing_laws.specs.Plan.{places_below};
+ghost use Rattle.update_plan.specs.writing_laws.Plan.{places_below};
 ghost use Rattle.elf_update.specs.Origins.{absent_piece, origin_due, CopiesBy};
 ghost use Rattle.elf_update.specs.declared.parts.Origin.TheVariants.{Piece};
 ghost use Rattle.elf_update.specs.Descriptors.{HasStoredPlaces, kept_of_elf, faults_of, taken_of, stored_pieces, stored_due, HasToRead};
@@ -9,9 +9,8 @@ ghost use Rattle.elf_update.specs.Descriptors.{HasStoredPlaces, kept_of_elf, fau
 use crate::data::{copy_held, copy_home};
 use crate::fronts::{HeaderRow, SectionRows, SegmentRows};
 use crate::rows::copy_rows;
-use elf_descriptor::Elf;
-use elf_outside::Source;
 use elf_types::{DataId, ElfError, Part};
+use update_plan::prelude::{Elf, Source};
 
 /// Copies bytes of a piece of a part, at least one, where they are at hand: those of the ELF header
 /// and of the tables are, and those of a section's piece that is held. Else it answers the piece,

@@ -3,21 +3,19 @@
 ghost use Rattle.std.specs.Prelude.{◌≡◌, ◌<◌, ◌+◌, ◌^◌, ◌≤◌, true, false, None, IsTrue, length, take, drop, slice_index_or, IfErr, OnOk};
 ghost use Rattle.elf_types.specs.declared.records.Part.TheVariants as part;
 ghost use Rattle.elf_update.specs.declared.parts.Origin.TheVariants.{Piece};
-ghost use Rattle.elf_xlate.specs.Translation.{encoded, file_size, first_unfit, items_count, items_kind};
-ghost use Rattle.elf_object.specs.Answers.{piece_count};
-ghost use Rattle.elf_object.specs.Object.{section_at, has_file_bytes};
-ghost use Rattle.writing_laws.specs.Plan.{places_below};
-ghost use Rattle.elf_descriptor.specs.Held.{IsUnread};
+ghost use Rattle.update_plan.specs.elf_xlate.Translation.{encoded, file_size, first_unfit, items_count, items_kind};
+ghost use Rattle.update_plan.specs.elf_object.Answers.{piece_count};
+ghost use Rattle.update_plan.specs.elf_object.Object.{section_at, has_file_bytes};
+ghost use Rattle.update_plan.specs.writing_laws.Plan.{places_below};
+ghost use Rattle.update_plan.specs.elf_descriptor.Held.{IsUnread};
 ghost use Rattle.elf_update.specs.Origins.{absent_piece, origin_due, IsExtent, CopiesBy};
 ghost use Rattle.elf_update.specs.Descriptors.{HasStoredPlaces, kept_of_elf, faults_of, taken_of, stored_pieces, stored_due};
 
 use crate::entries::{copy_entries, copy_range};
 use crate::items::ItemsForm;
 use crate::parts::PieceExtent;
-use elf_descriptor::{Elf, Held};
-use elf_outside::Source;
 use elf_types::{Class, DataId, ElfError, Order, ScnId};
-use elf_xlate::{Items, fsize};
+use update_plan::prelude::{Elf, Held, Items, Source, fsize};
 use update_plan::{count_pieces, home_extent, is_in_file};
 
 /// The number of pieces of a section in the file.
@@ -42,7 +40,7 @@ fn items_length(items: &Items, class: Class) -> u64
 }
 
 /// The length of a piece of a section in the file.
-#[tactic(auto, unfolding(elf_object::specs::Answers::piece_refusal, elf_object::specs::Answers::piece_count))]
+#[tactic(auto, unfolding(update_plan::specs::Passed::piece_refusal, update_plan::specs::Passed::piece_count))]
 fn piece_length<S: Source>(elf: &Elf<S>, d: DataId) -> u64
     requires stored { HasStoredPlaces elf.now.o }
     requires section { d.section < length elf.now.o.sections }
@@ -62,7 +60,7 @@ fn piece_length<S: Source>(elf: &Elf<S>, d: DataId) -> u64
 }
 
 /// The alignment and the length of a piece of a section in the file.
-#[tactic(auto, unfolding(elf_object::specs::Calls::piece_align_answer, elf_object::specs::Answers::piece_refusal, elf_object::specs::Answers::piece_count))]
+#[tactic(auto, unfolding(update_plan::specs::Passed::piece_align_answer, update_plan::specs::Passed::piece_refusal, update_plan::specs::Passed::piece_count))]
 pub(crate) fn piece_extent<S: Source>(elf: &Elf<S>, d: DataId) -> PieceExtent
     requires stored { HasStoredPlaces elf.now.o }
     requires section { d.section < length elf.now.o.sections }
@@ -100,7 +98,7 @@ fn copy_items(items: &Items, class: Class, order: Order, from: u64, buf: &mut [u
 }
 
 /// Copies bytes of a piece of a section where it is held, and answers whether it is.
-#[tactic(auto, unfolding(elf_object::specs::Answers::piece_refusal, elf_object::specs::Answers::piece_count))]
+#[tactic(auto, unfolding(update_plan::specs::Passed::piece_refusal, update_plan::specs::Passed::piece_count))]
 pub(crate) fn copy_held<S: Source>(elf: &Elf<S>, d: DataId, from: u64, buf: &mut [u8]) -> bool
     requires stored { HasStoredPlaces elf.now.o }
     requires there { from + length buf.old ≤ length (slice_index_or

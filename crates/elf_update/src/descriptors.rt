@@ -1,17 +1,15 @@
 //! A descriptor as what its image is written from, once the places of its parts are stored.
 
 ghost use Rattle.std.specs.Prelude.{◌≡◌, ◌<◌, length, slice_index_or};
-ghost use Rattle.elf_object.specs.Image.{front_blocks};
+ghost use Rattle.update_plan.specs.elf_object.Image.{front_blocks};
 ghost use Rattle.elf_update.specs.Origins.{absent_piece, IsExtent};
 ghost use Rattle.elf_update.specs.Descriptors.{HasStoredPlaces, kept_of_elf, faults_of, taken_of, stored_pieces, stored_due};
 
 use crate::copies::copy_piece;
 use crate::data::{piece_extent, section_pieces};
 use crate::parts::{ImageParts, Origin, PieceExtent};
-use elf_descriptor::Elf;
-use elf_outside::Source;
 use elf_types::{DataId, ElfError, Part};
-use elf_xlate::{ehdr_size, phdr_size, shdr_size};
+use update_plan::prelude::{Elf, Source, ehdr_size, phdr_size, shdr_size};
 
 /// The number of bytes of the ELF header.
 fn header_length<S: Source>(elf: &Elf<S>) -> u64

@@ -1,17 +1,16 @@
 //! The ELF header and the two tables, row by row.
 
 ghost use Rattle.std.specs.Prelude.{◌≡◌, ◌<◌, length, slice_index_or};
-ghost use Rattle.elf_xlate.specs.Headers.{ehdr_size, phdr_size, shdr_size, phdr_bytes, shdr_bytes};
-ghost use Rattle.elf_object.specs.Object.{no_phdr, section_at};
-ghost use Rattle.elf_object.specs.Image.{front_blocks};
+ghost use Rattle.update_plan.specs.elf_xlate.Headers.{ehdr_size, phdr_size, shdr_size, phdr_bytes, shdr_bytes};
+ghost use Rattle.update_plan.specs.elf_object.Object.{no_phdr, section_at};
+ghost use Rattle.update_plan.specs.elf_object.Image.{front_blocks};
 ghost use Rattle.elf_update.specs.Descriptors.{HasStoredPlaces};
 
 use crate::rows::Rows;
-use elf_descriptor::Elf;
-use elf_object::written_header;
-use elf_outside::Source;
 use elf_types::ScnId;
-use elf_xlate::{ehdr_size, phdr_size, put_ehdr, put_phdr, put_shdr, shdr_size};
+use update_plan::prelude::{
+    Elf, Source, ehdr_size, phdr_size, put_ehdr, put_phdr, put_shdr, shdr_size, written_header,
+};
 
 /// Writes the ELF header. `out` has just as many bytes as it has.
 fn put_header<S: Source>(elf: &Elf<S>, out: &mut [u8])

@@ -1,11 +1,11 @@
 //! Items in their file form, as entries of one size.
 
 ghost use Rattle.std.specs.Prelude.{◌≡◌, None, max};
-ghost use Rattle.elf_xlate.specs.Translation.{first_unfit};
+ghost use Rattle.update_plan.specs.elf_xlate.Translation.{first_unfit};
 
 use crate::entries::Entries;
 use elf_types::{Class, Order};
-use elf_xlate::{Items, item_size, put_items};
+use update_plan::prelude::{Items, item_size, put_items};
 
 /// Items that fit a class, in their file form.
 #[derive(Drop)]
@@ -19,8 +19,8 @@ pub struct ItemsForm<'a> {
 }
 
 impl Entries for ItemsForm<'_> {
-    ghost use Rattle.elf_xlate.specs.Items.{item_size};
-    ghost use Rattle.elf_xlate.specs.Translation.{encoded, items_kind, items_count};
+    ghost use Rattle.update_plan.specs.elf_xlate.Items.{item_size};
+    ghost use Rattle.update_plan.specs.elf_xlate.Translation.{encoded, items_kind, items_count};
 
     ghost ready = { λ f. first_unfit f.class f.items.now ≡ None };
 

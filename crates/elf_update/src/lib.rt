@@ -9,6 +9,7 @@ mod fronts;
 mod items;
 mod pages;
 mod parts;
+pub mod prelude;
 mod puts;
 mod rows;
 mod updates;

@@ -9,11 +9,10 @@ ghost use Rattle.elf_update.specs.Origins.{ReadyFor};
 ghost use Rattle.elf_update.specs.Emits.{origin_text, due_in, UsesParts, WaitsMore};
 
 use crate::parts::{ImageParts, Origin};
-use elf_outside::Sink;
-use elf_outside::writes::put;
 use elf_types::ElfError;
 use std::alloc::Global;
 use std::marker::Model;
+use update_plan::prelude::{Sink, put};
 
 /// How many bytes fill a page.
 pub const PAGE_SIZE: usize = 262144;

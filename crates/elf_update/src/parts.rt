@@ -38,7 +38,7 @@ pub struct PieceExtent {
 pub trait ImageParts {
     ghost use Rattle.elf_update.specs.declared.parts.Origin.{Origin};
     ghost use Rattle.elf_update.specs.Origins.{absent_piece, origin_bytes, origin_due, ReadyFor, IsExtent, CopiesBy};
-    ghost use Rattle.writing_laws.specs.Plan.{places_below};
+    ghost use Rattle.update_plan.specs.writing_laws.Plan.{places_below};
 
     ghost Kept: { Type 0 };
 

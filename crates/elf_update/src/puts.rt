@@ -9,9 +9,8 @@ ghost use Rattle.elf_update.specs.Emits.{origin_text, due_in, Emits};
 
 use crate::pages::{PAGE_SIZE, Page};
 use crate::parts::{ImageParts, Origin};
-use elf_outside::Sink;
-use elf_outside::writes::put_zeros;
 use elf_types::ElfError;
+use update_plan::prelude::{Sink, put_zeros};
 
 /// Puts a byte so many times, page by page.
 fn put_same<K: Sink>(page: &mut Page, sink: &mut K, byte: u8, count: u64) -> Result<(), ElfError>

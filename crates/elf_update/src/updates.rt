@@ -1,18 +1,16 @@
 //! An update to a sink.
 
 ghost use Rattle.std.specs.Prelude.{◌≡◌, [], length, true, false, IfOk, IfErr, OnOk};
-ghost use Rattle.elf_object.specs.Object.{is_dirty};
-ghost use Rattle.elf_object.specs.Image.{kept_base};
-ghost use Rattle.elf_object.specs.Words.{result_map};
+ghost use Rattle.update_plan.specs.elf_object.Object.{is_dirty};
+ghost use Rattle.update_plan.specs.elf_object.Image.{kept_base};
+ghost use Rattle.update_plan.specs.elf_object.Words.{result_map};
 ghost use Rattle.update_plan.specs.Placing.{ArePlaced, IsRefused};
 ghost use Rattle.elf_update.specs.Updates.{IsPlanned, UpdatesTo};
 
 use crate::pages::Page;
 use crate::walks::{Ground, put_end, put_image};
-use elf_descriptor::Elf;
-use elf_layout::{Parts, Places};
-use elf_outside::{Sink, Source};
 use elf_types::ElfError;
+use update_plan::prelude::{Elf, Parts, Places, Sink, Source};
 use update_plan::{PlacedParts, has_layout, place_parts, plan};
 
 /// The plan of an image, and where its parts stand.
@@ -64,7 +62,7 @@ pub fn ground_of<S: Source>(elf: &Elf<S>) -> Ground
 }
 
 /// How many bytes of the base count.
-#[tactic(auto, unfolding(elf_object::specs::Image::kept_base))]
+#[tactic(auto, unfolding(update_plan::specs::Passed::kept_base))]
 fn base_that_counts<S: Source>(elf: &Elf<S>) -> u64
     ensures { result ≡ kept_base elf.now.o }
 {

@@ -1,9 +1,9 @@
 //! The walk over the plan of an image: its parts by their places, and what lies between them.
 
 ghost use Rattle.std.specs.Prelude.{◌≡◌, ◌+◌, ◌-◌, ◌^◌, ◌≤◌, ◌<◌, [], length, take, drop, sum_by, slice_index_or, IfOk, OnOk, All};
-ghost use Rattle.elf_layout.specs.Layout.{rounded_up};
-ghost use Rattle.writing_laws.specs.Lines.{AreInLine, in_line};
-ghost use Rattle.writing_laws.specs.Plan.{places_below, base_gaps};
+ghost use Rattle.update_plan.specs.elf_layout.Layout.{rounded_up};
+ghost use Rattle.update_plan.specs.writing_laws.Lines.{AreInLine, in_line};
+ghost use Rattle.update_plan.specs.writing_laws.Plan.{places_below, base_gaps};
 ghost use Rattle.elf_update.specs.Origins.{absent_piece, origin_due};
 ghost use Rattle.elf_update.specs.Pieces.{filled_piece, stacked_text, blocks_at, HasLength};
 ghost use Rattle.elf_update.specs.Emits.{Emits, gap_text, ground_byte};
@@ -12,9 +12,8 @@ ghost use Rattle.elf_update.specs.declared.parts.Origin.TheVariants.{Piece};
 use crate::pages::Page;
 use crate::parts::{ImageParts, Origin};
 use crate::puts::{put_fill, put_range};
-use elf_layout::PartAt;
-use elf_outside::Sink;
 use elf_types::{ElfError, Part};
+use update_plan::prelude::{PartAt, Sink};
 
 /// What stands between the parts of an image: the bytes of the base below a length, and then the
 /// fill byte.

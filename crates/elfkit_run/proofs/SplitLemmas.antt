@@ -13,11 +13,11 @@ use Rattle.command_objects.specs.Files.{file_of}
 use Rattle.tool_text.specs.declared.commands.StripOptions.{StripOptions}
 use Rattle.tool_output.specs.Outcomes.{write_of}
 use Rattle.tool_output.specs.Made.{Done, Complaint, made_file, of_file, written_outcome}
-use Rattle.command_outcomes.specs.Files.{object_named}
-use Rattle.command_outcomes.specs.Strip.{allocated_complaint, strip_alone, strip_split, strip_done, strip_outcome}
-use Rattle.object_files.proofs.ChangeSteps.{other_write}
-use Rattle.object_writing.specs.Writes.{image_done, named_done}
-use Rattle.object_writing.proofs.NamedLemmas.{unwritten_image}
+use Rattle.selftest_tool.specs.command_outcomes.Files.{object_named}
+use Rattle.selftest_tool.specs.command_outcomes.Strip.{allocated_complaint, strip_alone, strip_split, strip_done, strip_outcome}
+use Rattle.selftest_tool.proofs.object_files.ChangeSteps.{other_write}
+use Rattle.strip_tool.specs.object_writing.Writes.{image_done, named_done}
+use Rattle.strip_tool.proofs.object_writing.NamedLemmas.{unwritten_image}
 
 module _ (out debug file : List ℕ) (first : out ≢ file) (second : debug ≢ file) where
   abbrev IsUnwritten : Result Done Complaint → Type 0

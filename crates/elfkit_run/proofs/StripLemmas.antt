@@ -10,10 +10,10 @@ use Rattle.command_objects.specs.Files.{file_of}
 use Rattle.tool_text.specs.declared.commands.StripOptions.{StripOptions}
 use Rattle.tool_output.specs.Outcomes.{write_of}
 use Rattle.tool_output.specs.Made.{of_file, written_outcome}
-use Rattle.command_outcomes.specs.Files.{object_named}
-use Rattle.command_outcomes.specs.Strip.{strip_alone, strip_split, strip_done, strip_outcome}
-use Rattle.object_writing.specs.Writes.{image_done, named_done}
-use Rattle.object_writing.proofs.NamedLemmas.{unwritten, unwritten_image}
+use Rattle.selftest_tool.specs.command_outcomes.Files.{object_named}
+use Rattle.selftest_tool.specs.command_outcomes.Strip.{strip_alone, strip_split, strip_done, strip_outcome}
+use Rattle.strip_tool.specs.object_writing.Writes.{image_done, named_done}
+use Rattle.strip_tool.proofs.object_writing.NamedLemmas.{unwritten, unwritten_image}
 
 pub strip_unwritten : (debug_only : Bool) (names : List (List ℕ)) (out file : List ℕ)
     → out ≢ file → (r : Result Object ElfError)

@@ -1,2 +1,5 @@
+pub use Rattle.edit_commands.specs.calls_update
+pub use Rattle.edit_commands.specs as edit_commands
+pub use Rattle.edit_commands.specs.read_commands
 pub mod Program
 pub mod Sentences

@@ -16,17 +16,17 @@ use Rattle.tool_text.specs.declared.commands.Command.TheVariants.{Readelf, Nm, S
 use Rattle.usage_text.specs.Usages.{usage_line}
 use Rattle.usage_text.specs.Notices.{notice_text}
 use Rattle.tool_text.specs.Reading.{reading}
-use Rattle.command_outcomes.specs.Selftest.{selftest_outcome}
-use Rattle.command_outcomes.specs.Strip.{strip_outcome, unstrip_outcome}
-use Rattle.command_outcomes.specs.Copy.{copy_outcome, rehash_outcome}
+use Rattle.selftest_tool.specs.command_outcomes.Selftest.{selftest_outcome}
+use Rattle.selftest_tool.specs.command_outcomes.Strip.{strip_outcome, unstrip_outcome}
+use Rattle.selftest_tool.specs.command_outcomes.Copy.{copy_outcome, rehash_outcome}
 use Rattle.elfkit_run.specs.Sentences.{says}
 use Rattle.edit_commands.specs.Calls.{calls_outcome, calls_update_outcome}
-use Rattle.read_commands.specs.Readelf.{readelf_outcome}
-use Rattle.read_commands.specs.Lines.{lines_outcome}
-use Rattle.read_commands.specs.Elflint.{elflint_outcome}
-use Rattle.read_commands.specs.Nm.{nm_outcome}
-use Rattle.read_commands.specs.Size.{size_outcome}
-use Rattle.read_commands.specs.Strings.{strings_outcome}
+use Rattle.edit_commands.specs.read_commands.Readelf.{readelf_outcome}
+use Rattle.edit_commands.specs.read_commands.Lines.{lines_outcome}
+use Rattle.edit_commands.specs.read_commands.Elflint.{elflint_outcome}
+use Rattle.edit_commands.specs.read_commands.Nm.{nm_outcome}
+use Rattle.edit_commands.specs.read_commands.Size.{size_outcome}
+use Rattle.edit_commands.specs.read_commands.Strings.{strings_outcome}
 
 unfoldable pub command_outcome : Command → Map → Outcome
 command_outcome (Readelf parts files) named = readelf_outcome parts files named

@@ -14,9 +14,12 @@ pub mod strip;
 pub mod unstrip;
 
 use copy::copy;
+use edit_commands::prelude::{
+    read_commands_elflint as elflint, read_commands_lines as lines, read_commands_nm as nm,
+    read_commands_readelf as readelf, read_commands_size as size, read_commands_strings as strings,
+};
 use edit_commands::{calls, calls_into, rehash};
 use elf_outside::{Files, Sink};
-use read_commands::{elflint, lines, nm, readelf, size, strings};
 use selftest::selftest;
 use split::strip_by_debug;
 use std::alloc::Global;

@@ -3,6 +3,7 @@
 #![tactic(auto)]
 
 mod commands;
+pub mod prelude;
 mod program;
 mod sentences;
 

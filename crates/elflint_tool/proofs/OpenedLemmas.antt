@@ -16,10 +16,10 @@ use Rattle.elf_xlate.specs.Translation.{decoded, is_whole, items_kind}
 use Rattle.elf_xlate.proofs.Decoded.{whole_is}
 use Rattle.elf_ident.specs.declared.fronts.Front.{Front}
 use Rattle.elf_ident.specs.Front.{front, zero_shdr}
-use Rattle.elf_object.specs.Object.{Object, Section, Home, Piece, section_at, piece_at, absent_section, home_piece}
-use Rattle.elf_object.specs.Open.{home_len, home_of, home_bytes, opened_section, begun, begun_or_refused, opened}
-use Rattle.elf_object.specs.Answers.{content, piece_count, kind_at, same_kind, no_section, no_data, wrong_kind, no_content, lend_refusal}
-use Rattle.elf_object.specs.Sections.{header_at}
+use Rattle.symbol_lookup.specs.elf_object.Object.{Object, Section, Home, Piece, section_at, piece_at, absent_section, home_piece}
+use Rattle.symbol_lookup.specs.elf_object.Open.{home_len, home_of, home_bytes, opened_section, begun, begun_or_refused, opened}
+use Rattle.symbol_lookup.specs.elf_object.Answers.{content, piece_count, kind_at, same_kind, no_section, no_data, wrong_kind, no_content, lend_refusal}
+use Rattle.symbol_lookup.specs.elf_object.Sections.{header_at}
 use Rattle.lint_findings.specs.Looking.{is_out, is_ragged, is_intact}
 
 -- ---- Tests

@@ -8,12 +8,12 @@ use Rattle.elf_types.specs.declared.constants.TheConstants.{SHT_HASH, SHT_GNU_HA
 use Rattle.elf_types.specs.declared.records.Kind.TheVariants as kinds
 use Rattle.elf_types.specs.declared.records.Shdr.{Shdr}
 use Rattle.elf_ident.specs.Front.{zero_shdr}
-use Rattle.elf_object.specs.Object.{Object}
-use Rattle.elf_object.specs.Open.{opened}
-use Rattle.elf_object.specs.Answers.{bytes_of, words_of, items_at, same_kind, lend_refusal}
-use Rattle.elf_object.specs.Sections.{header_at, is_of}
-use Rattle.hash_model.specs.HashSections.{is_whole_sysv, is_whole_gnu}
-use Rattle.hash_model.specs.Listed.{listed_names}
+use Rattle.symbol_lookup.specs.elf_object.Object.{Object}
+use Rattle.symbol_lookup.specs.elf_object.Open.{opened}
+use Rattle.symbol_lookup.specs.elf_object.Answers.{bytes_of, words_of, items_at, same_kind, lend_refusal}
+use Rattle.symbol_lookup.specs.elf_object.Sections.{header_at, is_of}
+use Rattle.symbol_lookup.specs.hash_model.HashSections.{is_whole_sysv, is_whole_gnu}
+use Rattle.symbol_lookup.specs.hash_model.Listed.{listed_names}
 use Rattle.lint_findings.specs.Findings.{Finding, Rule}
 use Rattle.lint_findings.specs.Looking.{is_looked_at, is_plain, is_symbol_table, linked_header, links_to_symbols, words, data_bytes}
 use Rattle.elflint_tool.proofs.OpenedLemmas.{both, is_there, lend_passes}

@@ -3,14 +3,14 @@ use Rattle.std.proofs.Common.{◌≡◌, ◌+◌, ◌<◌, ◌≤◌, ℕ, Bool,
 use Rattle.std.proofs.lemmas.List.{length-take}
 use Rattle.elf_outside.specs.declared.sources.Source.{Ghosts as SourceGhosts}
 use Rattle.elf_outside.specs.declared.sinks.Sink.{Ghosts as SinkGhosts}
-use Rattle.elf_object.specs.Object.{Object}
-use Rattle.elf_descriptor.specs.State.{State}
+use Rattle.symbol_lookup.specs.elf_object.Object.{Object}
+use Rattle.symbol_lookup.specs.elf_descriptor.State.{State}
 use Rattle.tool_output.specs.declared.stops.Stop.{Stop}
 use Rattle.tool_output.specs.declared.outputs.Outputs.{Outputs}
 use Rattle.tool_output.specs.Names.{Name}
 use Rattle.tool_output.specs.Reports.{Report, shown, no_report, joined}
-use Rattle.object_output.specs.Steps.{ReportsOver, ReportsElf}
-use Rattle.object_output.proofs.ElfSteps.{elf_over, elf_failed, elf_then, elf_then_stop}
+use Rattle.lint_findings.specs.object_output.Steps.{ReportsOver, ReportsElf}
+use Rattle.lint_findings.proofs.object_output.ElfSteps.{elf_over, elf_failed, elf_then, elf_then_stop}
 use Rattle.lint_findings.specs.Findings.{Finding, findings_shown, findings_report, no_findings_line}
 use Rattle.lint_findings.proofs.FindingLemmas.{no_findings, found_none, none_where}
 use Rattle.tool_output.proofs.ReportLemmas.{none_joined, joined_none}

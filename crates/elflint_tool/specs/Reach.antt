@@ -6,9 +6,9 @@ use Rattle.elf_types.specs.declared.constants.TheConstants.{SHT_HASH, SHT_GNU_HA
 use Rattle.elf_types.specs.declared.records.Kind.TheVariants as kinds
 use Rattle.elf_types.specs.declared.records.Shdr.{Shdr}
 use Rattle.elf_types.specs.Kinds.{is_compressed}
-use Rattle.elf_object.specs.Object.{Object}
-use Rattle.elf_object.specs.Open.{opened}
-use Rattle.elf_object.specs.Sections.{header_at, is_of}
+use Rattle.symbol_lookup.specs.elf_object.Object.{Object}
+use Rattle.symbol_lookup.specs.elf_object.Open.{opened}
+use Rattle.symbol_lookup.specs.elf_object.Sections.{header_at, is_of}
 use Rattle.lint_findings.specs.declared.places.Place.{Place}
 use Rattle.lint_findings.specs.declared.places.Place.TheVariants.{Section}
 use Rattle.lint_findings.specs.Findings.{Finding}

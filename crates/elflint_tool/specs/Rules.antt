@@ -1,7 +1,7 @@
 -- The rules in their order, and what elflint says of an object.
 use Rattle.std.specs.Prelude.{ℕ, List, [], ◌∷◌, length}
 use Rattle.std.specs.List.{flat_map}
-use Rattle.elf_object.specs.Object.{Object}
+use Rattle.symbol_lookup.specs.elf_object.Object.{Object}
 use Rattle.tool_output.specs.Names.{Name}
 use Rattle.tool_output.specs.Reports.{Report}
 use Rattle.lint_findings.specs.Findings.{Finding, Rule, findings_report}

@@ -5,7 +5,6 @@ ghost use Rattle.std.specs.List.{flat_map};
 ghost use Rattle.elflint_tool.specs.Rules.{finds, findings, lint_passes};
 ghost use Rattle.lint_findings.specs.Steps.{FindsOver};
 
-use elf_descriptor::Elf;
 use elf_outside::{Sink, Source};
 use lint_chains::{bad_notes, bad_versions};
 use lint_hashes::{gnu_hashes_not_whole, hashes_not_whole};
@@ -24,6 +23,7 @@ use lint_symbols::{
     local_symbols_among_the_others, other_symbols_among_the_local, relocations_by_no_symbol,
     symbol_0_in_use, symbols_of_no_section, unreadable_symbol_names,
 };
+use symbol_lookup::prelude::Elf;
 use tool_output::{FileName, Outputs, Stop};
 
 /// A rule.

@@ -2,16 +2,16 @@
 
 ghost use Rattle.std.specs.Prelude.{◌≡◌, codes};
 ghost use Rattle.tool_output.specs.Names.{file_name};
-ghost use Rattle.object_output.specs.Looks.{looks_over};
-ghost use Rattle.object_output.specs.Shows.{ShowsOver};
+ghost use Rattle.lint_findings.specs.object_output.Looks.{looks_over};
+ghost use Rattle.lint_findings.specs.object_output.Shows.{ShowsOver};
 ghost use Rattle.elflint_tool.specs.Rules.{lint_passes, lint_report};
 
 use crate::rules::look_by_all_rules;
-use elf_descriptor::Elf;
 use elf_outside::{Sink, Source};
 use lint_findings::NoFindings;
-use object_output::{ObjectTool, show_object};
+use lint_findings::prelude::{ObjectTool, show_object};
 use std::alloc::Global;
+use symbol_lookup::prelude::Elf;
 use tool_output::{FileName, Outputs, Stop};
 
 /// The tool of the command elflint.

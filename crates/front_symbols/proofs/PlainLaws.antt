@@ -29,8 +29,8 @@ use Rattle.elf_object.specs.Answers.{content, no_section, no_data, wrong_kind, n
 use Rattle.elf_object.specs.Strings.{string_answer, readable}
 use Rattle.elf_object.specs.SymbolSections.{shndx_table}
 use Rattle.elf_object.specs.Due.{home_due, homes_due, with_others, all_sections}
-use Rattle.section_data.specs.Held.{or_empty, items_of_bytes}
-use Rattle.gelf_view.specs.Records.{string_front}
+use Rattle.object_output.specs.section_data.Held.{or_empty, items_of_bytes}
+use Rattle.object_output.specs.gelf_view.Records.{string_front}
 use Rattle.object_output.specs.Steps.{homes_total}
 use Rattle.object_output.proofs.OnceReads.{in_range, nothing_loaded}
 use Rattle.object_output.proofs.OnceSums.{has, Once, once_one, once_others, sum_within}

@@ -7,15 +7,15 @@ use Rattle.elf_types.specs.declared.records.Kind.TheVariants as kinds
 use Rattle.elf_types.specs.declared.errors.ElfError.{ElfError}
 use Rattle.elf_types.specs.declared.errors.ElfError.TheVariants.{BadChain}
 use Rattle.elf_types.specs.Answers.{answered, refused_if, ◌>>=◌}
-use Rattle.elf_object.specs.Words.{result_map}
-use Rattle.elf_object.specs.Object.{Object, section_at}
-use Rattle.elf_object.specs.Answers.{lend_refusal, bytes_of, items_at, count_at}
+use Rattle.elf_descriptor.specs.elf_object.Words.{result_map}
+use Rattle.elf_descriptor.specs.elf_object.Object.{Object, section_at}
+use Rattle.elf_descriptor.specs.elf_object.Answers.{lend_refusal, bytes_of, items_at, count_at}
 use Rattle.gelf_view.specs.declared.notes.NoteAt.{NoteAt}
 use Rattle.gelf_view.specs.declared.versions.Verdef.{Verdef}
 use Rattle.gelf_view.specs.declared.versions.Verneed.{Verneed}
 use Rattle.gelf_view.specs.declared.notes.TheConstants.{NOTE_HEADER_SIZE}
 use Rattle.gelf_view.specs.declared.versions.TheConstants.{VERDEF_SIZE, VERNEED_SIZE}
-use Rattle.elf_layout.specs.Layout.{rounded_up}
+use Rattle.elf_descriptor.specs.elf_layout.Layout.{rounded_up}
 use Rattle.gelf_view.specs.Records.{record_at, LiesAt}
 use Rattle.gelf_view.specs.Notes.{note_align, note_at, note_with, note_of, note_lies, name_end, desc_place, desc_end, descsz}
 use Rattle.gelf_view.specs.Versions.{verdef_of, verdef_at, verneed_of, verneed_at}

@@ -4,7 +4,7 @@ use Rattle.std.specs.Prelude.{◌^◌, IsTrue, IfOk, IfSome, OnOk, if◌then◌e
 use Rattle.std.proofs.lemmas.Bool.{cond-false, ne_eqb}
 use Rattle.elf_types.specs.declared.errors.ElfError.{ElfError}
 use Rattle.elf_types.specs.declared.errors.ElfError.TheVariants.{Memory, Read, BadChain}
-use Rattle.elf_object.specs.Words.{Wants, Refusals, Answers, AnswersRead, result_map}
+use Rattle.elf_descriptor.specs.elf_object.Words.{Wants, Refusals, Answers, AnswersRead, result_map}
 use Rattle.gelf_view.specs.declared.notes.NoteAt.{NoteAt}
 use Rattle.gelf_view.specs.declared.aux.AuxPlace.{AuxPlace}
 use Rattle.gelf_view.specs.Records.{LiesAt}

@@ -5,19 +5,19 @@ use Rattle.elf_types.specs.declared.records.Kind.{Kind}
 use Rattle.elf_types.specs.declared.errors.ElfError.{ElfError}
 use Rattle.elf_types.specs.declared.errors.ElfError.TheVariants.{WrongKind, OutOfFile, Ragged}
 use Rattle.elf_types.specs.Answers.{answered, refused_if, first_refusal, err_of, IsRefusal}
-use Rattle.elf_xlate.specs.declared.content.Items.{Items}
-use Rattle.elf_xlate.specs.Items.{item_size}
-use Rattle.elf_xlate.specs.Translation.{decoded, items_kind, items_count, is_whole}
-use Rattle.elf_xlate.proofs.Decoded as forms
-use Rattle.elf_object.specs.Words.{result_map}
-use Rattle.elf_object.specs.Object.{Object, section_at, piece_at}
-use Rattle.elf_object.specs.Answers.{content, or_empty, items_at, count_at, kind_at, same_kind, no_section, no_data, wrong_kind, no_content, piece_refusal, lend_refusal}
-use Rattle.elf_object.specs.Calls.{piece_kind_answer}
-use Rattle.elf_object.specs.Valid.{IsObject}
-use Rattle.elf_object.proofs.StepLaws.{same_kind-true, same_kind-same}
-use Rattle.elf_object.proofs.AnswerLaws.{answered_value, answered_refusal}
-use Rattle.object_laws.proofs.KeepLaws.{section_at_is}
-use Rattle.section_data.proofs.Items.{kind_whole, whole_kind}
+use Rattle.elf_descriptor.specs.elf_xlate.declared.content.Items.{Items}
+use Rattle.elf_descriptor.specs.elf_xlate.Items.{item_size}
+use Rattle.elf_descriptor.specs.elf_xlate.Translation.{decoded, items_kind, items_count, is_whole}
+use Rattle.elf_descriptor.proofs.elf_xlate.Decoded as forms
+use Rattle.elf_descriptor.specs.elf_object.Words.{result_map}
+use Rattle.elf_descriptor.specs.elf_object.Object.{Object, section_at, piece_at}
+use Rattle.elf_descriptor.specs.elf_object.Answers.{content, or_empty, items_at, count_at, kind_at, same_kind, no_section, no_data, wrong_kind, no_content, piece_refusal, lend_refusal}
+use Rattle.elf_descriptor.specs.elf_object.Calls.{piece_kind_answer}
+use Rattle.elf_descriptor.specs.elf_object.Valid.{IsObject}
+use Rattle.elf_descriptor.proofs.elf_object.StepLaws.{same_kind-true, same_kind-same}
+use Rattle.elf_descriptor.proofs.elf_object.AnswerLaws.{answered_value, answered_refusal}
+use Rattle.elf_descriptor.proofs.object_laws.KeepLaws.{section_at_is}
+use Rattle.elf_descriptor.proofs.section_data.Items.{kind_whole, whole_kind}
 use Rattle.gelf_view.proofs.FetchLemmas.{piece_is_refusal}
 
 -- ---- A home

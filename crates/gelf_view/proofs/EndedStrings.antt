@@ -9,8 +9,8 @@ use Rattle.std.proofs.lemmas.List.Elements.{All-from_get_or}
 use Rattle.std.proofs.lemmas.List.Folds.{list_any_at, list_any_none}
 use Rattle.std.proofs.lemmas.List.Sums.{take_while-cons}
 use Rattle.std.proofs.lemmas.Option.{slice_get_within, unwrap_or-slice_get}
-use Rattle.elf_object.specs.Strings.{has_nul, is_name}
-use Rattle.section_data.specs.Nuls.{IsLastEnd, IsEndedFront}
+use Rattle.elf_descriptor.specs.elf_object.Strings.{has_nul, is_name}
+use Rattle.elf_descriptor.specs.section_data.Nuls.{IsLastEnd, IsEndedFront}
 use Rattle.gelf_view.specs.Records.{string_front, shorter_than, front_of, AreEnded}
 
 -- ---- The string at the front

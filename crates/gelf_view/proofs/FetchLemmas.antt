@@ -7,18 +7,18 @@ use Rattle.elf_types.specs.declared.records.Kind.TheVariants as kinds
 use Rattle.elf_types.specs.declared.errors.ElfError.{ElfError}
 use Rattle.elf_types.specs.declared.errors.ElfError.TheVariants.{Memory, Read, NoSection, NoData, WrongKind}
 use Rattle.elf_types.specs.Answers.{answered, refused_if, first_refusal, IsRefusal}
-use Rattle.elf_xlate.specs.declared.content.Items.{Items}
-use Rattle.elf_outside.specs.declared.sources.Source.{Ghosts}
-use Rattle.elf_outside.specs.Asks.{ReadRose}
-use Rattle.elf_object.specs.Words.{Wants, Answers}
-use Rattle.elf_object.specs.Object.{Object, section_at, piece_at}
-use Rattle.elf_object.specs.Answers.{no_section, no_data, wrong_kind, same_kind, no_content, out_of_file, piece_count, kind_at, piece_refusal, lend_refusal, raw_refusal, bytes_of, items_at}
-use Rattle.elf_object.specs.Due.{is_loaded, homes_due, unless_refused, when_piece_clean}
-use Rattle.elf_object.specs.Calls.{Call, due, raw_answer, piece_kind_answer}
-use Rattle.elf_object.specs.Calls as calls
-use Rattle.elf_object.proofs.PassedLaws.{none_first, none_rest, not_refused, not_not}
-use Rattle.elf_object.proofs.StepLaws.{same_kind-true}
-use Rattle.elf_object.proofs.AnswerLaws.{answered_value, answered_refusal, read_passed}
+use Rattle.elf_descriptor.specs.elf_xlate.declared.content.Items.{Items}
+use Rattle.elf_descriptor.specs.elf_outside.declared.sources.Source.{Ghosts}
+use Rattle.elf_descriptor.specs.elf_outside.Asks.{ReadRose}
+use Rattle.elf_descriptor.specs.elf_object.Words.{Wants, Answers}
+use Rattle.elf_descriptor.specs.elf_object.Object.{Object, section_at, piece_at}
+use Rattle.elf_descriptor.specs.elf_object.Answers.{no_section, no_data, wrong_kind, same_kind, no_content, out_of_file, piece_count, kind_at, piece_refusal, lend_refusal, raw_refusal, bytes_of, items_at}
+use Rattle.elf_descriptor.specs.elf_object.Due.{is_loaded, homes_due, unless_refused, when_piece_clean}
+use Rattle.elf_descriptor.specs.elf_object.Calls.{Call, due, raw_answer, piece_kind_answer}
+use Rattle.elf_descriptor.specs.elf_object.Calls as calls
+use Rattle.elf_descriptor.proofs.elf_object.PassedLaws.{none_first, none_rest, not_refused, not_not}
+use Rattle.elf_descriptor.proofs.elf_object.StepLaws.{same_kind-true}
+use Rattle.elf_descriptor.proofs.elf_object.AnswerLaws.{answered_value, answered_refusal, read_passed}
 use Rattle.elf_descriptor.specs.State.{State}
 use Rattle.elf_descriptor.specs.Reads.{Reads, Queries, wanted}
 use Rattle.elf_descriptor.proofs.Refusals.{err_of_answered, answers_wants}

@@ -4,16 +4,16 @@ use Rattle.std.specs.Prelude.{◌+◌, IsTrue, nat_lt}
 use Rattle.elf_types.specs.declared.errors.ElfError.{ElfError}
 use Rattle.elf_types.specs.declared.errors.ElfError.TheVariants.{Memory, Read, BadChain}
 use Rattle.elf_types.specs.Answers.{answered, refused_if, err_of, ◌>>=◌}
-use Rattle.elf_outside.specs.declared.sources.Source.{Ghosts}
-use Rattle.elf_outside.specs.Asks.{ReadRose}
-use Rattle.elf_outside.proofs.AskLemmas.{read_rose_on}
-use Rattle.elf_object.specs.Words.{Wants, Answers, MayWant, result_map}
-use Rattle.elf_object.specs.Object.{Object}
+use Rattle.elf_descriptor.specs.elf_outside.declared.sources.Source.{Ghosts}
+use Rattle.elf_descriptor.specs.elf_outside.Asks.{ReadRose}
+use Rattle.elf_descriptor.proofs.elf_outside.AskLemmas.{read_rose_on}
+use Rattle.elf_descriptor.specs.elf_object.Words.{Wants, Answers, MayWant, result_map}
+use Rattle.elf_descriptor.specs.elf_object.Object.{Object}
 use Rattle.elf_types.specs.declared.records.Order.{Order}
-use Rattle.elf_object.specs.Answers.{lend_refusal, bytes_of, items_at, count_at}
+use Rattle.elf_descriptor.specs.elf_object.Answers.{lend_refusal, bytes_of, items_at, count_at}
 use Rattle.elf_types.specs.declared.records.Kind.TheVariants as kinds
-use Rattle.elf_object.specs.Due.{homes_due, unless_refused, when_piece_clean}
-use Rattle.elf_object.specs.Calls.{due}
+use Rattle.elf_descriptor.specs.elf_object.Due.{homes_due, unless_refused, when_piece_clean}
+use Rattle.elf_descriptor.specs.elf_object.Calls.{due}
 use Rattle.elf_descriptor.specs.State.{State}
 use Rattle.elf_descriptor.specs.Reads.{Reads, Queries, wanted}
 use Rattle.elf_descriptor.proofs.Refusals.{answers_wants}

@@ -6,13 +6,13 @@ use Rattle.std.proofs.lemmas.List.Sums.{position_or_len_is}
 use Rattle.elf_types.specs.declared.errors.ElfError.{ElfError}
 use Rattle.elf_types.specs.declared.errors.ElfError.TheVariants.{NoSection, NoEntry}
 use Rattle.elf_types.specs.Answers.{refused_if}
-use Rattle.elf_object.specs.Object.{Object, section_at, absent_section}
-use Rattle.elf_object.specs.Answers.{no_section}
-use Rattle.elf_object.specs.SymbolSections.{shndx_table, extended_index, word_reads, word_memory}
-use Rattle.elf_object.specs.Words.{Wants, Answers}
-use Rattle.elf_object.specs.Due.{homes_due}
-use Rattle.elf_object.specs.Calls.{word, word_answer}
-use Rattle.elf_outside.specs.declared.sources.Source.{Ghosts}
+use Rattle.elf_descriptor.specs.elf_object.Object.{Object, section_at, absent_section}
+use Rattle.elf_descriptor.specs.elf_object.Answers.{no_section}
+use Rattle.elf_descriptor.specs.elf_object.SymbolSections.{shndx_table, extended_index, word_reads, word_memory}
+use Rattle.elf_descriptor.specs.elf_object.Words.{Wants, Answers}
+use Rattle.elf_descriptor.specs.elf_object.Due.{homes_due}
+use Rattle.elf_descriptor.specs.elf_object.Calls.{word, word_answer}
+use Rattle.elf_descriptor.specs.elf_outside.declared.sources.Source.{Ghosts}
 use Rattle.elf_descriptor.specs.State.{State}
 use Rattle.elf_descriptor.specs.Reads.{Reads, Looks, wanted}
 use Rattle.gelf_view.specs.Calls.{is_index_table, extended}

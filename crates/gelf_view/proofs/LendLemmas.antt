@@ -5,12 +5,12 @@ use Rattle.elf_types.specs.declared.records.Kind.{Kind}
 use Rattle.elf_types.specs.declared.errors.ElfError.{ElfError}
 use Rattle.elf_types.specs.declared.errors.ElfError.TheVariants.{NoEntry, Unfit, BadChain, Unended, NoSection, NoData, WrongKind, OutOfFile, Ragged}
 use Rattle.elf_types.specs.Answers.{err_of}
-use Rattle.elf_xlate.specs.declared.content.Items.{Items}
-use Rattle.elf_xlate.specs.Translation.{decoded}
-use Rattle.elf_object.specs.Words.{is_late}
-use Rattle.elf_object.specs.Object.{Object, section_at, piece_at}
-use Rattle.elf_object.specs.Answers.{content, no_section, no_data, wrong_kind, same_kind, no_content, piece_count, kind_at, lend_refusal}
-use Rattle.elf_object.specs.Due.{is_refused_unread}
+use Rattle.elf_descriptor.specs.elf_xlate.declared.content.Items.{Items}
+use Rattle.elf_descriptor.specs.elf_xlate.Translation.{decoded}
+use Rattle.elf_descriptor.specs.elf_object.Words.{is_late}
+use Rattle.elf_descriptor.specs.elf_object.Object.{Object, section_at, piece_at}
+use Rattle.elf_descriptor.specs.elf_object.Answers.{content, no_section, no_data, wrong_kind, same_kind, no_content, piece_count, kind_at, lend_refusal}
+use Rattle.elf_descriptor.specs.elf_object.Due.{is_refused_unread}
 use Rattle.elf_descriptor.proofs.Refusals.{IsUnread, unread_if, unread_first}
 
 made_unread : (s : ℕ) (out : Bool) (made : Option Items) → IsUnread (err_of (if out then Err (OutOfFile s) else (elim made [ None ↦ Err (Ragged s) | Some items ↦ Ok items ])))

@@ -1,3 +1,8 @@
+pub use Rattle.elf_descriptor.proofs as elf_descriptor
+pub use Rattle.elf_descriptor.proofs.elf_object
+pub use Rattle.elf_descriptor.proofs.elf_xlate
+pub use Rattle.elf_descriptor.proofs.object_laws
+pub use Rattle.elf_descriptor.proofs.section_data
 mod NulLemmas
 pub mod EndedStrings
 mod NumberLemmas
@@ -20,3 +25,4 @@ mod SymbolCalls
 pub mod ChainLemmas
 mod ChainCalls
 mod CountLemmas
+pub mod Passed

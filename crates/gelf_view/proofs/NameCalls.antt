@@ -5,12 +5,12 @@ use Rattle.std.proofs.lemmas.Bool.{ne_eqb}
 use Rattle.elf_types.specs.declared.errors.ElfError.{ElfError}
 use Rattle.elf_types.specs.declared.errors.ElfError.TheVariants.{Memory, Read}
 use Rattle.elf_types.specs.Answers.{IsRefusal}
-use Rattle.elf_outside.specs.declared.sources.Source.{Ghosts}
-use Rattle.elf_object.specs.Words.{Wants, Answers}
-use Rattle.elf_object.specs.Object.{section_at}
-use Rattle.elf_object.specs.Due.{homes_due}
-use Rattle.elf_object.specs.Strings as strings
-use Rattle.elf_object.specs.Strings.{string_answer, readable, strptr}
+use Rattle.elf_descriptor.specs.elf_outside.declared.sources.Source.{Ghosts}
+use Rattle.elf_descriptor.specs.elf_object.Words.{Wants, Answers}
+use Rattle.elf_descriptor.specs.elf_object.Object.{section_at}
+use Rattle.elf_descriptor.specs.elf_object.Due.{homes_due}
+use Rattle.elf_descriptor.specs.elf_object.Strings as strings
+use Rattle.elf_descriptor.specs.elf_object.Strings.{string_answer, readable, strptr}
 use Rattle.elf_descriptor.specs.State.{State}
 use Rattle.elf_descriptor.specs.Reads.{Reads, Queries, wanted}
 use Rattle.elf_descriptor.proofs.ReadsLaws.{reads_nothing, reads_then}

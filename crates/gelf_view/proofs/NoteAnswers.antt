@@ -6,11 +6,11 @@ use Rattle.elf_types.specs.declared.records.Kind.TheVariants as kinds
 use Rattle.elf_types.specs.declared.errors.ElfError.{ElfError}
 use Rattle.elf_types.specs.declared.errors.ElfError.TheVariants.{Memory, Read, BadChain}
 use Rattle.elf_types.specs.Answers.{answered, refused_if, first_refusal, ◌>>=◌}
-use Rattle.elf_object.specs.Words.{Wants, Refusals, Answers, AnswersRead, result_map}
-use Rattle.elf_object.specs.Object.{section_at}
-use Rattle.elf_object.specs.Answers.{lend_refusal, bytes_of, items_at, count_at}
-use Rattle.elf_object.specs.Due.{homes_due}
-use Rattle.elf_outside.specs.declared.sources.Source.{Ghosts}
+use Rattle.elf_descriptor.specs.elf_object.Words.{Wants, Refusals, Answers, AnswersRead, result_map}
+use Rattle.elf_descriptor.specs.elf_object.Object.{section_at}
+use Rattle.elf_descriptor.specs.elf_object.Answers.{lend_refusal, bytes_of, items_at, count_at}
+use Rattle.elf_descriptor.specs.elf_object.Due.{homes_due}
+use Rattle.elf_descriptor.specs.elf_outside.declared.sources.Source.{Ghosts}
 use Rattle.elf_descriptor.specs.State.{State}
 use Rattle.elf_descriptor.specs.Reads.{wanted}
 use Rattle.elf_descriptor.proofs.Refusals.{IsUnread, answers_wants}

@@ -4,8 +4,8 @@ use Rattle.std.proofs.lemmas.Bool.{cond-false, and_from, and_left, and_right, le
 use Rattle.elf_types.specs.declared.records.Order.{Order}
 use Rattle.elf_types.specs.declared.errors.ElfError.TheVariants.{BadChain}
 use Rattle.elf_types.specs.Answers.{refused_if, answered}
-use Rattle.elf_xlate.specs.Numbers.{number_at}
-use Rattle.elf_layout.specs.Layout.{rounded_up}
+use Rattle.elf_descriptor.specs.elf_xlate.Numbers.{number_at}
+use Rattle.elf_descriptor.specs.elf_layout.Layout.{rounded_up}
 use Rattle.gelf_view.specs.declared.notes.TheConstants.{NOTE_HEADER_SIZE}
 use Rattle.gelf_view.specs.Notes.{namesz, descsz, note_type, name_end, desc_place, desc_end, note_lies, note_of, note_with}
 

@@ -9,15 +9,15 @@ use Rattle.elf_types.specs.declared.records.Kind.TheVariants as kinds
 use Rattle.elf_types.specs.declared.errors.ElfError.{ElfError}
 use Rattle.elf_types.specs.declared.errors.ElfError.TheVariants.{OutOfFile, Ragged}
 use Rattle.elf_types.specs.Answers.{refused_if, first_refusal, err_of}
-use Rattle.elf_xlate.specs.declared.content.Items.{Items}
-use Rattle.elf_xlate.specs.declared.content.Items.TheVariants as items
-use Rattle.elf_xlate.specs.Translation.{decoded, encoded, items_kind, items_count}
-use Rattle.elf_xlate.proofs.Bytes.{lowest_same}
-use Rattle.elf_object.specs.Object.{Object, section_at, piece_at}
-use Rattle.elf_object.specs.Answers.{content, or_empty, items_at, kind_at, count_at, bytes_of, no_section, no_data, wrong_kind, no_content, out_of_file, piece_refusal, lend_refusal}
+use Rattle.elf_descriptor.specs.elf_xlate.declared.content.Items.{Items}
+use Rattle.elf_descriptor.specs.elf_xlate.declared.content.Items.TheVariants as items
+use Rattle.elf_descriptor.specs.elf_xlate.Translation.{decoded, encoded, items_kind, items_count}
+use Rattle.elf_descriptor.proofs.elf_xlate.Bytes.{lowest_same}
+use Rattle.elf_descriptor.specs.elf_object.Object.{Object, section_at, piece_at}
+use Rattle.elf_descriptor.specs.elf_object.Answers.{content, or_empty, items_at, kind_at, count_at, bytes_of, no_section, no_data, wrong_kind, no_content, out_of_file, piece_refusal, lend_refusal}
 use Rattle.elf_types.specs.Lists.{AreBytes}
-use Rattle.elf_object.specs.Joined.{piece_bytes}
-use Rattle.elf_object.proofs.AnswerLaws.{lend_kind, lend_passed}
+use Rattle.elf_descriptor.specs.elf_object.Joined.{piece_bytes}
+use Rattle.elf_descriptor.proofs.elf_object.AnswerLaws.{lend_kind, lend_passed}
 use Rattle.gelf_view.specs.Calls.{kind_refusal}
 use Rattle.gelf_view.specs.Strings.{bytes_in}
 

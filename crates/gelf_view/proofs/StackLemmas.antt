@@ -6,13 +6,13 @@ use Rattle.std.proofs.lemmas.Bool.{lt-leb, le-ltb, leb-true, ltb-true, and_left,
 use Rattle.std.proofs.lemmas.List.{length-map}
 use Rattle.elf_types.specs.declared.errors.ElfError.TheVariants.{NoString}
 use Rattle.elf_types.specs.Answers.{refused_if}
-use Rattle.elf_layout.specs.Layout.{rounded_up}
-use Rattle.elf_object.specs.Blocks.{Block, block_end, block_covers, stacked, last_end}
-use Rattle.elf_object.specs.Object.{Object, Piece, section_at, piece_at}
-use Rattle.elf_object.specs.Answers.{piece_count}
-use Rattle.elf_object.specs.Joined.{piece_bytes, aligned_pieces, piece_blocks, pieces_end}
-use Rattle.elf_object.specs.Strings.{piece_over, no_string}
-use Rattle.elf_object.proofs.RunningEnds.{end_later, pieces_from}
+use Rattle.elf_descriptor.specs.elf_layout.Layout.{rounded_up}
+use Rattle.elf_descriptor.specs.elf_object.Blocks.{Block, block_end, block_covers, stacked, last_end}
+use Rattle.elf_descriptor.specs.elf_object.Object.{Object, Piece, section_at, piece_at}
+use Rattle.elf_descriptor.specs.elf_object.Answers.{piece_count}
+use Rattle.elf_descriptor.specs.elf_object.Joined.{piece_bytes, aligned_pieces, piece_blocks, pieces_end}
+use Rattle.elf_descriptor.specs.elf_object.Strings.{piece_over, no_string}
+use Rattle.elf_descriptor.proofs.elf_object.RunningEnds.{end_later, pieces_from}
 use Rattle.elf_descriptor.specs.FirstPieces.{AreFirst}
 use Rattle.gelf_view.specs.declared.string_places.Stand.{Stand}
 use Rattle.gelf_view.specs.declared.string_places.Stand.TheVariants.{Covers, Ends, Before}

@@ -5,16 +5,16 @@ use Rattle.elf_types.specs.declared.records.Kind.TheVariants as kinds
 use Rattle.elf_types.specs.declared.errors.ElfError.{ElfError}
 use Rattle.elf_types.specs.declared.errors.ElfError.TheVariants.{Memory, Read, Unended}
 use Rattle.elf_types.specs.Answers.{answered, refused_if, first_refusal, or_refused, IsRefusal}
-use Rattle.elf_xlate.specs.declared.content.Items.{Items}
-use Rattle.elf_outside.specs.declared.sources.Source.{Ghosts}
-use Rattle.elf_outside.specs.Asks.{ReadRose}
-use Rattle.elf_object.specs.Words.{Wants, Refusals, Answers, AnswersRead, seen}
+use Rattle.elf_descriptor.specs.elf_xlate.declared.content.Items.{Items}
+use Rattle.elf_descriptor.specs.elf_outside.declared.sources.Source.{Ghosts}
+use Rattle.elf_descriptor.specs.elf_outside.Asks.{ReadRose}
+use Rattle.elf_descriptor.specs.elf_object.Words.{Wants, Refusals, Answers, AnswersRead, seen}
 use Rattle.std.specs.Borrow.{Bor}
-use Rattle.elf_object.specs.Blocks.{Block}
-use Rattle.elf_object.specs.Object.{Object, piece_at}
-use Rattle.elf_object.specs.Answers.{bytes_of, items_at, lend_refusal}
-use Rattle.elf_object.specs.Due.{is_loaded, homes_due, unless_refused, when_clean, when_piece_clean}
-use Rattle.elf_object.specs.Strings.{has_nul, bytes_from, unended, string_in, string_refusal, string_refusal_unread, string_answer, strptr, strptr_refusals}
+use Rattle.elf_descriptor.specs.elf_object.Blocks.{Block}
+use Rattle.elf_descriptor.specs.elf_object.Object.{Object, piece_at}
+use Rattle.elf_descriptor.specs.elf_object.Answers.{bytes_of, items_at, lend_refusal}
+use Rattle.elf_descriptor.specs.elf_object.Due.{is_loaded, homes_due, unless_refused, when_clean, when_piece_clean}
+use Rattle.elf_descriptor.specs.elf_object.Strings.{has_nul, bytes_from, unended, string_in, string_refusal, string_refusal_unread, string_answer, strptr, strptr_refusals}
 use Rattle.elf_descriptor.specs.State.{State}
 use Rattle.elf_descriptor.specs.Reads.{Reads, Queries, wanted}
 use Rattle.elf_descriptor.proofs.Refusals.{err_of_answered}

@@ -12,20 +12,20 @@ use Rattle.elf_types.specs.declared.records.Kind.TheVariants as kinds
 use Rattle.elf_types.specs.declared.errors.ElfError.{ElfError}
 use Rattle.elf_types.specs.declared.errors.ElfError.TheVariants.{NoSection, NoData, WrongKind, OutOfFile, NotStrings, NoString, Unended}
 use Rattle.elf_types.specs.Answers.{answered, refused_if, first_refusal, or_refused, IsRefusal}
-use Rattle.elf_xlate.specs.declared.content.Items.{Items}
-use Rattle.strtab_build.specs.Table.{string_at}
-use Rattle.elf_object.specs.Blocks.{Block}
-use Rattle.elf_object.specs.Object.{Object, Piece, section_at, piece_at, home_piece, home_is_clean}
-use Rattle.elf_object.specs.Valid.{OthersOwn}
-use Rattle.elf_object.specs.Answers.{no_section, no_data, wrong_kind, no_content, same_kind, kind_at, piece_count, lend_refusal}
-use Rattle.elf_object.specs.Joined.{pieces_end}
-use Rattle.elf_object.specs.Strings.{kind_of_piece, holds_strings, has_nul, bytes_from, piece_over, no_string, unended, string_in, string_refusal_unread, string_refusal, string_answer}
-use Rattle.elf_object.proofs.PassedLaws.{none_first, none_rest, not_refused, not_not}
-use Rattle.elf_object.proofs.AnswerLaws.{answered_refusal}
-use Rattle.elf_object.proofs.StepLaws.{same_kind-true}
+use Rattle.elf_descriptor.specs.elf_xlate.declared.content.Items.{Items}
+use Rattle.elf_descriptor.specs.strtab_build.Table.{string_at}
+use Rattle.elf_descriptor.specs.elf_object.Blocks.{Block}
+use Rattle.elf_descriptor.specs.elf_object.Object.{Object, Piece, section_at, piece_at, home_piece, home_is_clean}
+use Rattle.elf_descriptor.specs.elf_object.Valid.{OthersOwn}
+use Rattle.elf_descriptor.specs.elf_object.Answers.{no_section, no_data, wrong_kind, no_content, same_kind, kind_at, piece_count, lend_refusal}
+use Rattle.elf_descriptor.specs.elf_object.Joined.{pieces_end}
+use Rattle.elf_descriptor.specs.elf_object.Strings.{kind_of_piece, holds_strings, has_nul, bytes_from, piece_over, no_string, unended, string_in, string_refusal_unread, string_refusal, string_answer}
+use Rattle.elf_descriptor.proofs.elf_object.PassedLaws.{none_first, none_rest, not_refused, not_not}
+use Rattle.elf_descriptor.proofs.elf_object.AnswerLaws.{answered_refusal}
+use Rattle.elf_descriptor.proofs.elf_object.StepLaws.{same_kind-true}
 use Rattle.gelf_view.specs.Records.{string_front}
 use Rattle.gelf_view.specs.Strings.{bytes_in, no_strings, home_missing, IsOver, Begins}
-use Rattle.section_data.specs.Nuls.{IsEndedFront}
+use Rattle.elf_descriptor.specs.section_data.Nuls.{IsEndedFront}
 use Rattle.gelf_view.proofs.EndedStrings.{front_strings}
 use Rattle.gelf_view.proofs.PieceBytes.{clean_content, own_content, clean_file}
 

@@ -11,16 +11,16 @@ use Rattle.elf_types.specs.declared.errors.ElfError.{ElfError}
 use Rattle.elf_types.specs.declared.errors.ElfError.TheVariants.{Memory, Read}
 use Rattle.elf_types.specs.Answers.{◌>>=◌, err_of, IsRefusal}
 use Rattle.elf_types.specs.declared.constants.TheConstants.{SHN_LORESERVE, SHN_XINDEX}
-use Rattle.elf_outside.specs.Asks.{ReadRose}
-use Rattle.elf_outside.specs.declared.sources.Source.{Ghosts}
-use Rattle.elf_object.specs.Object.{Object}
-use Rattle.elf_object.specs.Words.{Wants, Answers, AnswersRead, MayWant, result_map}
-use Rattle.elf_object.specs.Answers.{lend_refusal, syms_of, items_at, entry_answer}
-use Rattle.elf_object.specs.Due.{homes_due, home_due, holds_items, with_others, when_piece_clean, unless_refused}
-use Rattle.elf_object.specs.Calls as calls
-use Rattle.elf_object.specs.Calls.{Call, due, sym_answer}
-use Rattle.elf_object.specs.Runs.{after_look}
-use Rattle.elf_object.specs.SymbolSections.{symshndx_refusals, extended_index, table_read, word_reads, word_memory}
+use Rattle.elf_descriptor.specs.elf_outside.Asks.{ReadRose}
+use Rattle.elf_descriptor.specs.elf_outside.declared.sources.Source.{Ghosts}
+use Rattle.elf_descriptor.specs.elf_object.Object.{Object}
+use Rattle.elf_descriptor.specs.elf_object.Words.{Wants, Answers, AnswersRead, MayWant, result_map}
+use Rattle.elf_descriptor.specs.elf_object.Answers.{lend_refusal, syms_of, items_at, entry_answer}
+use Rattle.elf_descriptor.specs.elf_object.Due.{homes_due, home_due, holds_items, with_others, when_piece_clean, unless_refused}
+use Rattle.elf_descriptor.specs.elf_object.Calls as calls
+use Rattle.elf_descriptor.specs.elf_object.Calls.{Call, due, sym_answer}
+use Rattle.elf_descriptor.specs.elf_object.Runs.{after_look}
+use Rattle.elf_descriptor.specs.elf_object.SymbolSections.{symshndx_refusals, extended_index, table_read, word_reads, word_memory}
 use Rattle.elf_descriptor.specs.State.{State}
 use Rattle.elf_descriptor.specs.Reads.{Reads, Queries, Looks, wanted}
 use Rattle.elf_descriptor.proofs.ReadsLaws.{looks_both, reads_then, reads_nothing, reads_wider, dues_stay}

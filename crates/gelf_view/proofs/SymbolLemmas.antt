@@ -12,16 +12,16 @@ use Rattle.elf_types.specs.declared.records.Sym.{Sym}
 use Rattle.elf_types.specs.declared.errors.ElfError.{ElfError}
 use Rattle.elf_types.specs.declared.errors.ElfError.TheVariants.{NoEntry, NoData, WrongKind}
 use Rattle.elf_types.specs.Answers.{refused_if, first_refusal, err_of}
-use Rattle.elf_xlate.specs.declared.content.Items.{Items}
-use Rattle.elf_xlate.specs.Translation.{items_kind}
-use Rattle.elf_object.specs.Object.{Object, section_at, piece_at}
-use Rattle.elf_object.specs.Answers.{no_data, no_entry, wrong_kind, no_content, same_kind, piece_count, kind_at, count_at, items_at, syms_of, words_of, entry_answer, lend_refusal, item_refusal}
-use Rattle.elf_object.specs.Due.{is_refused_unread, unless_refused, when_piece_clean, with_others}
-use Rattle.elf_object.specs.Words.{result_map}
-use Rattle.elf_object.specs.Calls.{sym_answer, word_answer}
-use Rattle.elf_object.specs.SymbolSections.{shndx_table, extended_index, is_extended, table_read, place_of_symbol, word_reads}
-use Rattle.elf_object.proofs.AnswerLaws.{sym_value, lend_passed, lend_kind}
-use Rattle.elf_object.proofs.ItemCounts.{syms_counted}
+use Rattle.elf_descriptor.specs.elf_xlate.declared.content.Items.{Items}
+use Rattle.elf_descriptor.specs.elf_xlate.Translation.{items_kind}
+use Rattle.elf_descriptor.specs.elf_object.Object.{Object, section_at, piece_at}
+use Rattle.elf_descriptor.specs.elf_object.Answers.{no_data, no_entry, wrong_kind, no_content, same_kind, piece_count, kind_at, count_at, items_at, syms_of, words_of, entry_answer, lend_refusal, item_refusal}
+use Rattle.elf_descriptor.specs.elf_object.Due.{is_refused_unread, unless_refused, when_piece_clean, with_others}
+use Rattle.elf_descriptor.specs.elf_object.Words.{result_map}
+use Rattle.elf_descriptor.specs.elf_object.Calls.{sym_answer, word_answer}
+use Rattle.elf_descriptor.specs.elf_object.SymbolSections.{shndx_table, extended_index, is_extended, table_read, place_of_symbol, word_reads}
+use Rattle.elf_descriptor.proofs.elf_object.AnswerLaws.{sym_value, lend_passed, lend_kind}
+use Rattle.elf_descriptor.proofs.elf_object.ItemCounts.{syms_counted}
 use Rattle.elf_descriptor.proofs.Refusals.{unless_entry}
 
 -- ---- The symbol

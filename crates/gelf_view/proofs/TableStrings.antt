@@ -8,19 +8,19 @@ use Rattle.elf_types.specs.declared.records.Kind.TheVariants as kinds
 use Rattle.elf_types.specs.declared.errors.ElfError.{ElfError}
 use Rattle.elf_types.specs.declared.errors.ElfError.TheVariants.{OutOfFile, Unended}
 use Rattle.elf_types.specs.Answers.{refused_if, or_refused}
-use Rattle.elf_xlate.specs.declared.content.Items.{Items}
-use Rattle.elf_xlate.specs.Translation.{items_kind}
-use Rattle.elf_layout.specs.Layout.{rounded_up}
-use Rattle.elf_object.specs.Object.{Piece, section_at, piece_at, home_is_clean}
-use Rattle.elf_object.specs.Valid.{OthersOwn}
-use Rattle.elf_object.specs.Answers.{kind_at, piece_count, same_kind}
-use Rattle.elf_object.specs.Joined.{piece_blocks, pieces_end}
-use Rattle.elf_object.specs.Strings.{piece_over, readable, string_answer}
-use Rattle.elf_object.proofs.RunningEnds.{first_place}
-use Rattle.elf_object.proofs.AnswerLaws.{answered_value}
+use Rattle.elf_descriptor.specs.elf_xlate.declared.content.Items.{Items}
+use Rattle.elf_descriptor.specs.elf_xlate.Translation.{items_kind}
+use Rattle.elf_descriptor.specs.elf_layout.Layout.{rounded_up}
+use Rattle.elf_descriptor.specs.elf_object.Object.{Piece, section_at, piece_at, home_is_clean}
+use Rattle.elf_descriptor.specs.elf_object.Valid.{OthersOwn}
+use Rattle.elf_descriptor.specs.elf_object.Answers.{kind_at, piece_count, same_kind}
+use Rattle.elf_descriptor.specs.elf_object.Joined.{piece_blocks, pieces_end}
+use Rattle.elf_descriptor.specs.elf_object.Strings.{piece_over, readable, string_answer}
+use Rattle.elf_descriptor.proofs.elf_object.RunningEnds.{first_place}
+use Rattle.elf_descriptor.proofs.elf_object.AnswerLaws.{answered_value}
 use Rattle.elf_descriptor.specs.State.{State}
 use Rattle.elf_descriptor.specs.Tables.{IsHeldTable}
-use Rattle.section_data.specs.Nuls.{IsEndedFront}
+use Rattle.elf_descriptor.specs.section_data.Nuls.{IsEndedFront}
 use Rattle.gelf_view.specs.Records.{string_front}
 use Rattle.gelf_view.specs.Strings.{bytes_in, no_strings, home_missing, IsOver, Begins}
 use Rattle.gelf_view.proofs.PieceBytes.{clean_file}

@@ -12,12 +12,12 @@ use Rattle.elf_types.specs.declared.errors.ElfError.{ElfError}
 use Rattle.elf_types.specs.declared.errors.ElfError.TheVariants.{BadChain}
 use Rattle.elf_types.specs.Answers.{answered, first_refusal, ◌>>=◌}
 use Rattle.elf_types.specs.declared.records.Order.{Order}
-use Rattle.elf_object.specs.Words.{Refusals, result_map}
-use Rattle.elf_object.specs.Object.{Object, Section, section_at, piece_at}
-use Rattle.elf_object.specs.Answers.{no_section, no_data, wrong_kind, bytes_of, items_at, count_at, lend_refusal}
-use Rattle.elf_object.specs.Due.{is_loaded}
-use Rattle.elf_object.specs.Calls.{Call, reader}
-use Rattle.elf_object.specs.SymbolSections as sections
+use Rattle.elf_descriptor.specs.elf_object.Words.{Refusals, result_map}
+use Rattle.elf_descriptor.specs.elf_object.Object.{Object, Section, section_at, piece_at}
+use Rattle.elf_descriptor.specs.elf_object.Answers.{no_section, no_data, wrong_kind, bytes_of, items_at, count_at, lend_refusal}
+use Rattle.elf_descriptor.specs.elf_object.Due.{is_loaded}
+use Rattle.elf_descriptor.specs.elf_object.Calls.{Call, reader}
+use Rattle.elf_descriptor.specs.elf_object.SymbolSections as sections
 use Rattle.gelf_view.specs.declared.notes.NoteAt.{NoteAt}
 use Rattle.gelf_view.specs.declared.versions.Verdef.{Verdef}
 use Rattle.gelf_view.specs.declared.versions.Verdaux.{Verdaux}

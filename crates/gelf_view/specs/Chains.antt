@@ -3,9 +3,9 @@
 use Rattle.std.specs.Prelude.{◌≡◌, ℕ, zero, suc, ◌+◌, ◌-◌, ◌<◌, ◌==◌, Bool, true, false, List, [], ◌∷◌, Option, Some, None, if◌then◌else◌, Result, Ok, Err}
 use Rattle.elf_types.specs.declared.errors.ElfError.{ElfError}
 use Rattle.elf_types.specs.declared.errors.ElfError.TheVariants.{Memory, Read, BadChain}
-use Rattle.elf_object.specs.Words.{result_map}
-use Rattle.elf_object.specs.Object.{Object}
-use Rattle.elf_object.specs.Answers.{count_at}
+use Rattle.elf_descriptor.specs.elf_object.Words.{result_map}
+use Rattle.elf_descriptor.specs.elf_object.Object.{Object}
+use Rattle.elf_descriptor.specs.elf_object.Answers.{count_at}
 use Rattle.gelf_view.specs.declared.notes.NoteAt.{NoteAt}
 use Rattle.gelf_view.specs.declared.versions.Verdef.{Verdef}
 use Rattle.gelf_view.specs.declared.versions.Verdaux.{Verdaux}

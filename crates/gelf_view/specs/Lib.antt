@@ -1,3 +1,11 @@
+pub use Rattle.elf_descriptor.specs as elf_descriptor
+pub use Rattle.elf_descriptor.specs.elf_ident
+pub use Rattle.elf_descriptor.specs.elf_layout
+pub use Rattle.elf_descriptor.specs.elf_object
+pub use Rattle.elf_descriptor.specs.elf_xlate
+pub use Rattle.elf_descriptor.specs.object_laws
+pub use Rattle.elf_descriptor.specs.section_data
+pub use Rattle.elf_descriptor.specs.strtab_build
 pub mod Records
 pub mod Versions
 pub mod Notes
@@ -6,3 +14,4 @@ pub mod Calls
 pub mod Chains
 pub mod SectionNames
 pub mod Constants
+pub mod Passed

@@ -6,9 +6,9 @@ use Rattle.elf_types.specs.declared.records.Order.{Order}
 use Rattle.elf_types.specs.declared.errors.ElfError.{ElfError}
 use Rattle.elf_types.specs.declared.errors.ElfError.TheVariants.{BadChain}
 use Rattle.elf_types.specs.Answers.{refused_if, answered, ◌>>=◌}
-use Rattle.elf_xlate.specs.Numbers.{number_at}
-use Rattle.elf_layout.specs.Layout.{rounded_up}
-use Rattle.elf_object.specs.Words.{result_map}
+use Rattle.elf_descriptor.specs.elf_xlate.Numbers.{number_at}
+use Rattle.elf_descriptor.specs.elf_layout.Layout.{rounded_up}
+use Rattle.elf_descriptor.specs.elf_object.Words.{result_map}
 use Rattle.gelf_view.specs.declared.notes.NoteAt.{NoteAt}
 use Rattle.gelf_view.specs.declared.notes.TheConstants.{NOTE_HEADER_SIZE}
 use Rattle.gelf_view.specs.Records.{record_at}

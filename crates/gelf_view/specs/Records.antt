@@ -5,7 +5,7 @@ use Rattle.std.specs.Option.{option_map}
 use Rattle.elf_types.specs.declared.errors.ElfError.{ElfError}
 use Rattle.elf_types.specs.declared.errors.ElfError.TheVariants.{BadChain}
 use Rattle.elf_types.specs.Answers.{refused_if, answered}
-use Rattle.elf_object.specs.Strings.{has_nul}
+use Rattle.elf_descriptor.specs.elf_object.Strings.{has_nul}
 
 -- the bytes of a record of that size at a place, or that it does not lie in the bytes
 unfoldable pub record_at : ℕ → List ℕ → ℕ → Result (List ℕ) ElfError

@@ -5,10 +5,10 @@ use Rattle.std.specs.Option.{option_copied}
 use Rattle.std.specs.Borrow.{Bor}
 use Rattle.elf_types.specs.declared.errors.ElfError.{ElfError}
 use Rattle.elf_types.specs.declared.errors.ElfError.TheVariants.{Memory, Read, Write}
-use Rattle.elf_object.specs.Words.{result_map}
-use Rattle.elf_object.specs.Object.{Object, section_at}
-use Rattle.elf_object.specs.Calls.{Call}
-use Rattle.elf_object.specs.Strings as strings
+use Rattle.elf_descriptor.specs.elf_object.Words.{result_map}
+use Rattle.elf_descriptor.specs.elf_object.Object.{Object, section_at}
+use Rattle.elf_descriptor.specs.elf_object.Calls.{Call}
+use Rattle.elf_descriptor.specs.elf_object.Strings as strings
 use Rattle.gelf_view.specs.Records.{front_of}
 
 -- the errors that a definition states

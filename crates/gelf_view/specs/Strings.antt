@@ -5,11 +5,11 @@ use Rattle.elf_types.specs.declared.records.Kind.TheVariants as kinds
 use Rattle.elf_types.specs.declared.errors.ElfError.{ElfError}
 use Rattle.elf_types.specs.declared.errors.ElfError.TheVariants.{NotStrings, OutOfFile}
 use Rattle.elf_types.specs.Answers.{refused_if, first_refusal}
-use Rattle.elf_layout.specs.Layout.{rounded_up}
-use Rattle.elf_object.specs.Object.{Object, section_at, piece_at, home_is_clean}
-use Rattle.elf_object.specs.Answers.{no_section, piece_count, lend_refusal}
-use Rattle.elf_object.specs.Joined.{piece_bytes}
-use Rattle.elf_object.specs.Strings.{holds_strings, piece_over, string_refusal_unread}
+use Rattle.elf_descriptor.specs.elf_layout.Layout.{rounded_up}
+use Rattle.elf_descriptor.specs.elf_object.Object.{Object, section_at, piece_at, home_is_clean}
+use Rattle.elf_descriptor.specs.elf_object.Answers.{no_section, piece_count, lend_refusal}
+use Rattle.elf_descriptor.specs.elf_object.Joined.{piece_bytes}
+use Rattle.elf_descriptor.specs.elf_object.Strings.{holds_strings, piece_over, string_refusal_unread}
 use Rattle.gelf_view.specs.declared.string_places.Stand.{Stand}
 use Rattle.gelf_view.specs.declared.string_places.Stand.TheVariants.{Covers, Ends, Before}
 

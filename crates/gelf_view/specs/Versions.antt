@@ -4,8 +4,8 @@
 use Rattle.std.specs.Prelude.{ℕ, List, Result}
 use Rattle.elf_types.specs.declared.records.Order.{Order}
 use Rattle.elf_types.specs.declared.errors.ElfError.{ElfError}
-use Rattle.elf_xlate.specs.Numbers.{number_at}
-use Rattle.elf_object.specs.Words.{result_map}
+use Rattle.elf_descriptor.specs.elf_xlate.Numbers.{number_at}
+use Rattle.elf_descriptor.specs.elf_object.Words.{result_map}
 use Rattle.gelf_view.specs.declared.versions.Verdef.{Verdef}
 use Rattle.gelf_view.specs.declared.versions.Verdaux.{Verdaux}
 use Rattle.gelf_view.specs.declared.versions.Verneed.{Verneed}

@@ -1,7 +1,7 @@
 //! The auxiliary records of an entry of a version section, read one after another.
 
 ghost use Rattle.std.specs.Prelude.{◌≡◌, [], ℕ, IsTrue};
-ghost use Rattle.elf_object.specs.Words.{Answers};
+ghost use Rattle.elf_descriptor.specs.elf_object.Words.{Answers};
 ghost use Rattle.elf_descriptor.specs.Reads.{Queries, wanted};
 ghost use Rattle.gelf_view.specs.Calls as calls;
 ghost use Rattle.gelf_view.specs.Calls.{record_call, verdaux_answer, vernaux_answer};
@@ -12,7 +12,7 @@ use crate::records::Record;
 use crate::version_calls::read_record;
 use crate::versions::{Verdaux, Vernaux};
 use elf_descriptor::Elf;
-use elf_outside::Source;
+use elf_descriptor::prelude::Source;
 use elf_types::{DataId, ElfError};
 
 /// A record that tells how far the next one of its list is.

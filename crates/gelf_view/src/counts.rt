@@ -2,18 +2,17 @@
 
 ghost use Rattle.std.specs.Prelude.{◌≡◌, ◌/◌, IfErr, None, Ok};
 ghost use Rattle.elf_types.specs.Answers.{answered, IsRefusal};
-ghost use Rattle.elf_xlate.specs.Translation.{items_count};
-ghost use Rattle.elf_object.specs.Words.{result_map};
-ghost use Rattle.elf_object.specs.Object.{section_at};
-ghost use Rattle.elf_object.specs.Answers.{content, count_at, kind_at, lend_refusal, no_content, no_section, piece_refusal};
-ghost use Rattle.elf_object.specs.Calls.{piece_kind_answer};
+ghost use Rattle.elf_descriptor.specs.elf_xlate.Translation.{items_count};
+ghost use Rattle.elf_descriptor.specs.elf_object.Words.{result_map};
+ghost use Rattle.elf_descriptor.specs.elf_object.Object.{section_at};
+ghost use Rattle.elf_descriptor.specs.elf_object.Answers.{content, count_at, kind_at, lend_refusal, no_content, no_section, piece_refusal};
+ghost use Rattle.elf_descriptor.specs.elf_object.Calls.{piece_kind_answer};
 
 use crate::fetching::class;
 use crate::string_calls::{home_len, is_out};
+use elf_descriptor::prelude::{Item, Source};
 use elf_descriptor::{Elf, Held};
-use elf_outside::Source;
 use elf_types::{DataId, ElfError, Kind, ScnId};
-use section_data::Item;
 
 /// The number of items of a home that is of the items' kind; else `OutOfFile`, then `Ragged`.
 fn home_count<S: Source, T: Item>(elf: &Elf<S>, s: ScnId) -> Result<u64, ElfError>

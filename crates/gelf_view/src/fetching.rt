@@ -3,21 +3,20 @@
 ghost use Rattle.std.specs.Prelude.{◌≡◌, ◌||◌, true, IsTrue, IfErr, OnOk, [], None, is_some, length, Ok};
 ghost use Rattle.elf_types.specs.Answers.{answered, IsRefusal};
 ghost use Rattle.elf_types.specs.declared.records.Kind.TheVariants as kinds;
-ghost use Rattle.elf_xlate.specs.Translation.{items_kind};
-ghost use Rattle.elf_object.specs.Words.{Answers};
-ghost use Rattle.elf_object.specs.Object.{piece_at};
-ghost use Rattle.elf_object.specs.Answers.{bytes_of, count_at, items_at, lend_refusal, piece_refusal, raw_refusal};
-ghost use Rattle.elf_object.specs.Due.{is_loaded};
-ghost use Rattle.elf_object.specs.Calls as calls;
-ghost use Rattle.elf_object.specs.Calls.{piece_kind_answer};
+ghost use Rattle.elf_descriptor.specs.elf_xlate.Translation.{items_kind};
+ghost use Rattle.elf_descriptor.specs.elf_object.Words.{Answers};
+ghost use Rattle.elf_descriptor.specs.elf_object.Object.{piece_at};
+ghost use Rattle.elf_descriptor.specs.elf_object.Answers.{bytes_of, count_at, items_at, lend_refusal, piece_refusal, raw_refusal};
+ghost use Rattle.elf_descriptor.specs.elf_object.Due.{is_loaded};
+ghost use Rattle.elf_descriptor.specs.elf_object.Calls as calls;
+ghost use Rattle.elf_descriptor.specs.elf_object.Calls.{piece_kind_answer};
 ghost use Rattle.elf_descriptor.specs.Reads.{Queries, wanted};
 ghost use Rattle.elf_descriptor.specs.Rests.{GivesRaw};
 ghost use Rattle.gelf_view.specs.Calls.{bytes, kind_refusal};
 
+use elf_descriptor::prelude::{Items, Source};
 use elf_descriptor::{Elf, Held};
-use elf_outside::Source;
 use elf_types::{Class, DataId, ElfError, Kind, Order, ScnId};
-use elf_xlate::Items;
 
 /// Reads a section's home where its bytes are not held. It refuses in this order: `NoSection`,
 /// `OutOfFile`, then `Memory` or `Read`.
@@ -131,7 +130,7 @@ fn own_bytes(items: &Items) -> &[u8]
 }
 
 /// The byte order of an object.
-#[tactic(auto, unfolding(elf_object::specs::Object::header_of))]
+#[tactic(auto, unfolding(elf_descriptor::specs::Passed::header_of))]
 pub fn order<S: Source>(elf: &Elf<S>) -> Order
     ensures { result ≡ elf.now.o.header.order }
 {
@@ -139,7 +138,7 @@ pub fn order<S: Source>(elf: &Elf<S>) -> Order
 }
 
 /// The class of an object.
-#[tactic(auto, unfolding(elf_object::specs::Object::header_of))]
+#[tactic(auto, unfolding(elf_descriptor::specs::Passed::header_of))]
 pub fn class<S: Source>(elf: &Elf<S>) -> Class
     ensures { result ≡ elf.now.o.header.class }
 {

@@ -1,11 +1,11 @@
 //! The items of a section's data, one by one.
 
-ghost use Rattle.elf_object.specs.Words.{Answers};
-ghost use Rattle.elf_object.specs.Calls as calls;
+ghost use Rattle.elf_descriptor.specs.elf_object.Words.{Answers};
+ghost use Rattle.elf_descriptor.specs.elf_object.Calls as calls;
 ghost use Rattle.elf_descriptor.specs.Reads.{Looks, wanted};
 
 use elf_descriptor::Elf;
-use elf_outside::Source;
+use elf_descriptor::prelude::Source;
 use elf_types::{DataId, Dyn, ElfError, Rel, Rela, Sym};
 
 /// The symbol at an index of a piece. It refuses as a lend of symbols, in this order: `NoSection`,
@@ -13,7 +13,7 @@ use elf_types::{DataId, Dyn, ElfError, Rel, Rela, Sym};
 /// `Read` where its home is not loaded, and `NoEntry`. It marks nothing dirty.
 ///
 /// Source: gABI chapter 4, "Symbol Table"; gelf_getsym of gelf(3E).
-#[tactic(auto, unfolding(elf_object::specs::Calls::sym_answer))]
+#[tactic(auto, unfolding(elf_descriptor::specs::Passed::sym_answer))]
 pub fn sym<S: Source>(elf: &mut Elf<S>, d: DataId, i: u64) -> Result<Sym, ElfError>
     ensures answer { Answers elf.old.told (wanted (calls.sym d.section d.piece i) elf.old) result
         ((calls.sym d.section d.piece i).answer elf.old.o) }
@@ -27,7 +27,7 @@ pub fn sym<S: Source>(elf: &mut Elf<S>, d: DataId, i: u64) -> Result<Sym, ElfErr
 /// `Memory` or `Read` where its home is not loaded, and `NoEntry`. It marks nothing dirty.
 ///
 /// Source: gABI chapter 4, "Relocation"; gelf_getrel of gelf(3E).
-#[tactic(auto, unfolding(elf_object::specs::Calls::rel_answer))]
+#[tactic(auto, unfolding(elf_descriptor::specs::Passed::rel_answer))]
 pub fn rel<S: Source>(elf: &mut Elf<S>, d: DataId, i: u64) -> Result<Rel, ElfError>
     ensures answer { Answers elf.old.told (wanted (calls.rel d.section d.piece i) elf.old) result
         ((calls.rel d.section d.piece i).answer elf.old.o) }
@@ -42,7 +42,7 @@ pub fn rel<S: Source>(elf: &mut Elf<S>, d: DataId, i: u64) -> Result<Rel, ElfErr
 /// dirty.
 ///
 /// Source: gABI chapter 4, "Relocation"; gelf_getrela of gelf(3E).
-#[tactic(auto, unfolding(elf_object::specs::Calls::rela_answer))]
+#[tactic(auto, unfolding(elf_descriptor::specs::Passed::rela_answer))]
 pub fn rela<S: Source>(elf: &mut Elf<S>, d: DataId, i: u64) -> Result<Rela, ElfError>
     ensures answer { Answers elf.old.told (wanted (calls.rela d.section d.piece i) elf.old) result
         ((calls.rela d.section d.piece i).answer elf.old.o) }
@@ -57,7 +57,7 @@ pub fn rela<S: Source>(elf: &mut Elf<S>, d: DataId, i: u64) -> Result<Rela, ElfE
 /// dirty.
 ///
 /// Source: gABI chapter 5, "Dynamic Section"; gelf_getdyn of gelf(3E).
-#[tactic(auto, unfolding(elf_object::specs::Calls::dyn_answer))]
+#[tactic(auto, unfolding(elf_descriptor::specs::Passed::dyn_answer))]
 pub fn dynent<S: Source>(elf: &mut Elf<S>, d: DataId, i: u64) -> Result<Dyn, ElfError>
     ensures answer { Answers elf.old.told (wanted (calls.dynent d.section d.piece i) elf.old) result
         ((calls.dynent d.section d.piece i).answer elf.old.o) }
@@ -72,7 +72,7 @@ pub fn dynent<S: Source>(elf: &mut Elf<S>, d: DataId, i: u64) -> Result<Dyn, Elf
 /// dirty.
 ///
 /// Source: gABI chapter 4, "Data Representation".
-#[tactic(auto, unfolding(elf_object::specs::Calls::word_answer))]
+#[tactic(auto, unfolding(elf_descriptor::specs::Passed::word_answer))]
 pub fn word<S: Source>(elf: &mut Elf<S>, d: DataId, i: u64) -> Result<u32, ElfError>
     ensures answer { Answers elf.old.told (wanted (calls.word d.section d.piece i) elf.old) result
         ((calls.word d.section d.piece i).answer elf.old.o) }
@@ -87,7 +87,7 @@ pub fn word<S: Source>(elf: &mut Elf<S>, d: DataId, i: u64) -> Result<u32, ElfEr
 /// dirty.
 ///
 /// Source: gABI chapter 4, "Data Representation".
-#[tactic(auto, unfolding(elf_object::specs::Calls::half_answer))]
+#[tactic(auto, unfolding(elf_descriptor::specs::Passed::half_answer))]
 pub fn half<S: Source>(elf: &mut Elf<S>, d: DataId, i: u64) -> Result<u16, ElfError>
     ensures answer { Answers elf.old.told (wanted (calls.half d.section d.piece i) elf.old) result
         ((calls.half d.section d.piece i).answer elf.old.o) }
@@ -101,7 +101,7 @@ pub fn half<S: Source>(elf: &mut Elf<S>, d: DataId, i: u64) -> Result<u16, ElfEr
 /// `Memory` or `Read` where its home is not loaded, and `NoEntry`. It marks nothing dirty.
 ///
 /// Source: gABI chapter 4, "Data Representation".
-#[tactic(auto, unfolding(elf_object::specs::Calls::addr_answer))]
+#[tactic(auto, unfolding(elf_descriptor::specs::Passed::addr_answer))]
 pub fn addr<S: Source>(elf: &mut Elf<S>, d: DataId, i: u64) -> Result<u64, ElfError>
     ensures answer { Answers elf.old.told (wanted (calls.addr d.section d.piece i) elf.old) result
         ((calls.addr d.section d.piece i).answer elf.old.o) }

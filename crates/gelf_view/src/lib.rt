@@ -13,6 +13,7 @@ mod items;
 mod note_calls;
 mod notes;
 mod piece_bytes;
+pub mod prelude;
 mod records;
 mod section_names;
 mod string_calls;

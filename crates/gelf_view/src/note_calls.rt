@@ -1,9 +1,9 @@
 //! The notes of a section's data.
 
 ghost use Rattle.std.specs.Prelude.{◌≡◌, ◌==◌, [], None, IsTrue, IfOk, IfSome, is_none};
-ghost use Rattle.elf_object.specs.Words.{AnswersRead};
-ghost use Rattle.elf_object.specs.Object.{section_at};
-ghost use Rattle.elf_object.specs.Answers.{count_at, no_section};
+ghost use Rattle.elf_descriptor.specs.elf_object.Words.{AnswersRead};
+ghost use Rattle.elf_descriptor.specs.elf_object.Object.{section_at};
+ghost use Rattle.elf_descriptor.specs.elf_object.Answers.{count_at, no_section};
 ghost use Rattle.elf_descriptor.specs.Reads.{Queries, wanted};
 ghost use Rattle.gelf_view.specs.Calls as calls;
 ghost use Rattle.gelf_view.specs.Calls.{note_refusals};
@@ -13,11 +13,11 @@ ghost use Rattle.gelf_view.specs.Notes.{note_align as stated_align, IsNoteWithin
 use crate::fetching::{bytes_there, fetch_bytes, order};
 use crate::notes::{NoteAt, note_align, note_in};
 use elf_descriptor::Elf;
-use elf_outside::Source;
+use elf_descriptor::prelude::Source;
 use elf_types::{DataId, ElfError, ScnId};
 
 /// The alignment of the notes of a section that is there.
-#[tactic(auto, unfolding(elf_object::specs::Calls::shdr_answer))]
+#[tactic(auto, unfolding(elf_descriptor::specs::Passed::shdr_answer))]
 fn alignment<S: Source>(elf: &Elf<S>, s: u32) -> u64
     requires { no_section elf.now.o s ≡ None }
     ensures { result ≡ stated_align (section_at elf.now.o s).header.addralign }

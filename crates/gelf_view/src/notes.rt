@@ -1,11 +1,11 @@
 //! Notes.
 
 ghost use Rattle.std.specs.Prelude.{◌≡◌, ◌==◌, is_none, ◌+◌, ◌≤◌, length, min, IfOk, IfSome};
-ghost use Rattle.elf_layout.specs.Layout.{rounded_up};
+ghost use Rattle.elf_descriptor.specs.elf_layout.Layout.{rounded_up};
 ghost use Rattle.gelf_view.specs.Notes.{note_align as stated_align, note_at, note_with as stated_note, IsNoteWithin};
 
 use crate::records::{record_in, word_at};
-use elf_layout::rounded_within;
+use elf_descriptor::prelude::rounded_within;
 use elf_types::{ElfError, Order};
 
 /// The number of bytes of a note's header.

@@ -2,14 +2,14 @@
 
 ghost use Rattle.std.specs.Prelude.{[]};
 ghost use Rattle.std.specs.Borrow.{sem};
-ghost use Rattle.elf_object.specs.Words.{AlikeBytes, Answers, IsLike, seen};
+ghost use Rattle.elf_descriptor.specs.elf_object.Words.{AlikeBytes, Answers, IsLike, seen};
 ghost use Rattle.elf_descriptor.specs.Reads.{Queries, wanted};
 ghost use Rattle.elf_descriptor.specs.Rests.{Rests};
 ghost use Rattle.gelf_view.specs.Calls as calls;
 
 use crate::fetching::{bytes_there, fetch_bytes};
 use elf_descriptor::Elf;
-use elf_outside::Source;
+use elf_descriptor::prelude::Source;
 use elf_types::{DataId, ElfError};
 
 /// The bytes of a piece of bytes: its own, or for the clean home piece the home's. It refuses as a

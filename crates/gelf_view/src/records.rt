@@ -2,14 +2,14 @@
 
 ghost use Rattle.std.specs.Prelude.{ℕ, List, ◌≡◌, ◌+◌, ◌≤◌, length, true, IfOk, OnOk};
 ghost use Rattle.elf_types.specs.Constants.{are_numbers};
-ghost use Rattle.elf_xlate.specs.Numbers.{number_at};
+ghost use Rattle.elf_descriptor.specs.elf_xlate.Numbers.{number_at};
 ghost use Rattle.elf_types.specs.declared.records.Order.{Order as TheOrder};
-ghost use Rattle.elf_object.specs.Words.{result_map, seen};
+ghost use Rattle.elf_descriptor.specs.elf_object.Words.{result_map, seen};
 ghost use Rattle.gelf_view.specs.Records.{record_at};
 ghost use Rattle.gelf_view.specs.Constants.{record_sizes};
 
+use elf_descriptor::prelude::{get_half, get_word};
 use elf_types::{Class, ElfError, Order};
-use elf_xlate::{get_half, get_word};
 
 /// The bytes of the record of `size` bytes that stands at a place. It refuses `BadChain { at }`
 /// exactly where the record does not lie in the bytes, and takes no memory.

@@ -3,9 +3,9 @@
 ghost use Rattle.std.specs.Prelude.{◌≡◌, ◌<◌, ◌+◌, length, [], true, IsTrue};
 ghost use Rattle.std.specs.Borrow.{sem};
 ghost use Rattle.std.specs.Option.{option_copied};
-ghost use Rattle.elf_object.specs.Object.{section_at};
-ghost use Rattle.elf_object.specs.Words.{Answers};
-ghost use Rattle.elf_object.specs.Strings.{is_name, readable, string_answer};
+ghost use Rattle.elf_descriptor.specs.elf_object.Object.{section_at};
+ghost use Rattle.elf_descriptor.specs.elf_object.Words.{Answers};
+ghost use Rattle.elf_descriptor.specs.elf_object.Strings.{is_name, readable, string_answer};
 ghost use Rattle.elf_descriptor.specs.Reads.{Queries, wanted};
 ghost use Rattle.elf_descriptor.specs.Rests.{Rests};
 ghost use Rattle.elf_descriptor.specs.Tables.{IsHeldTable};
@@ -15,7 +15,7 @@ ghost use Rattle.gelf_view.specs.SectionNames.{is_refusal, seen_name, readable_s
 use crate::string_calls::strptr;
 use crate::strings::{front_of_found, front_of_string_at, is_string_at};
 use elf_descriptor::Elf;
-use elf_outside::Source;
+use elf_descriptor::prelude::Source;
 use elf_types::{ElfError, ScnId};
 
 /// Whether an error is a refusal that a definition states.
@@ -44,7 +44,7 @@ fn readable_string<S: Source>(
 }
 
 /// The name field of the present header of a section that is there.
-#[tactic(auto, unfolding(elf_object::specs::Calls::shdr_answer))]
+#[tactic(auto, unfolding(elf_descriptor::specs::Passed::shdr_answer))]
 fn name_field<S: Source>(elf: &Elf<S>, s: ScnId) -> u32
     requires { s.0 < length elf.now.o.sections }
     ensures { result ≡ (section_at elf.now.o s.0).header.name }

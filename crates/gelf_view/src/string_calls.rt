@@ -6,13 +6,13 @@ ghost use Rattle.std.specs.List.{list_all};
 ghost use Rattle.elf_types.specs.Answers.{answered, or_refused, IsRefusal};
 ghost use Rattle.elf_types.specs.declared.errors.ElfError.TheVariants.{Unended};
 ghost use Rattle.elf_types.specs.declared.records.Kind.TheVariants as kinds;
-ghost use Rattle.elf_object.specs.Words.{Answers, AnswersRead, seen};
-ghost use Rattle.elf_object.specs.Object.{section_at, piece_at};
-ghost use Rattle.elf_object.specs.Valid.{IsObject, OthersOwn};
-ghost use Rattle.elf_object.specs.Answers.{kind_at, lend_refusal, no_section, piece_count, piece_refusal, same_kind};
-ghost use Rattle.elf_object.specs.Due.{is_loaded};
-ghost use Rattle.elf_object.specs.Strings as strings;
-ghost use Rattle.elf_object.specs.Strings.{kind_of_piece, string_refusal_unread, strptr_refusals};
+ghost use Rattle.elf_descriptor.specs.elf_object.Words.{Answers, AnswersRead, seen};
+ghost use Rattle.elf_descriptor.specs.elf_object.Object.{section_at, piece_at};
+ghost use Rattle.elf_descriptor.specs.elf_object.Valid.{IsObject, OthersOwn};
+ghost use Rattle.elf_descriptor.specs.elf_object.Answers.{kind_at, lend_refusal, no_section, piece_count, piece_refusal, same_kind};
+ghost use Rattle.elf_descriptor.specs.elf_object.Due.{is_loaded};
+ghost use Rattle.elf_descriptor.specs.elf_object.Strings as strings;
+ghost use Rattle.elf_descriptor.specs.elf_object.Strings.{kind_of_piece, string_refusal_unread, strptr_refusals};
 ghost use Rattle.elf_descriptor.specs.Reads.{Queries, wanted};
 ghost use Rattle.elf_descriptor.specs.Rests.{Rests};
 ghost use Rattle.gelf_view.specs.Calls.{bytes};
@@ -23,12 +23,12 @@ use crate::fetching::{bytes_there, fetch_bytes, is_edited};
 use crate::string_places::{Start, find_start};
 use crate::strings::{string_from, string_in};
 use elf_descriptor::Elf;
-use elf_outside::Source;
+use elf_descriptor::prelude::Source;
 use elf_types::constants::SHT_STRTAB;
 use elf_types::{DataId, ElfError, Kind, ScnId, bytes_are_ranged};
 
 /// Whether a piece that is there holds bytes.
-#[tactic(auto, unfolding(elf_object::specs::Calls::piece_kind_answer))]
+#[tactic(auto, unfolding(elf_descriptor::specs::Passed::piece_kind_answer))]
 fn is_of_bytes<S: Source>(elf: &Elf<S>, d: DataId) -> bool
     requires { piece_refusal elf.now.o d.section d.piece ≡ None }
     ensures { result ≡ same_kind (kind_at elf.now.o d.section d.piece) kinds.Bytes }
@@ -63,7 +63,7 @@ fn are_of_bytes<S: Source>(elf: &Elf<S>, s: ScnId, count: u32) -> bool
 }
 
 /// The number of pieces of a section that is there.
-#[tactic(auto, unfolding(elf_object::specs::Calls::pieces_answer))]
+#[tactic(auto, unfolding(elf_descriptor::specs::Passed::pieces_answer))]
 fn count_of_pieces<S: Source>(elf: &Elf<S>, s: ScnId) -> u32
     requires { no_section elf.now.o s.0 ≡ None }
     ensures { result ≡ piece_count elf.now.o s.0 }
@@ -89,7 +89,7 @@ fn check_strings<S: Source>(elf: &Elf<S>, s: ScnId) -> Result<u32, ElfError>
 }
 
 /// The length of the home of a section that is there.
-#[tactic(auto, unfolding(elf_object::specs::Calls::home_answer))]
+#[tactic(auto, unfolding(elf_descriptor::specs::Passed::home_answer))]
 pub(crate) fn home_len<S: Source>(elf: &Elf<S>, s: ScnId) -> u64
     requires { no_section elf.now.o s.0 ≡ None }
     ensures { result ≡ (section_at elf.now.o s.0).home.len }

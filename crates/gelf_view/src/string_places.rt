@@ -3,15 +3,14 @@
 ghost use Rattle.std.specs.Prelude.{◌≡◌, ◌<◌, ◌-◌, ◌^◌, min, None, Some, length, IfOk, IfErr, IsTrue};
 ghost use Rattle.std.specs.List.{list_all};
 ghost use Rattle.elf_types.specs.declared.records.Kind.TheVariants as kinds;
-ghost use Rattle.elf_object.specs.Object.{section_at, piece_at};
-ghost use Rattle.elf_object.specs.Answers.{kind_at, no_section, piece_count, piece_refusal, same_kind};
-ghost use Rattle.elf_object.specs.Joined.{pieces_end};
-ghost use Rattle.elf_object.specs.Strings.{kind_of_piece, no_string};
+ghost use Rattle.elf_descriptor.specs.elf_object.Object.{section_at, piece_at};
+ghost use Rattle.elf_descriptor.specs.elf_object.Answers.{kind_at, no_section, piece_count, piece_refusal, same_kind};
+ghost use Rattle.elf_descriptor.specs.elf_object.Joined.{pieces_end};
+ghost use Rattle.elf_descriptor.specs.elf_object.Strings.{kind_of_piece, no_string};
 ghost use Rattle.gelf_view.specs.Strings.{bytes_in, IsOver, Stands};
 
+use elf_descriptor::prelude::{Source, rounded_within};
 use elf_descriptor::{Elf, Held};
-use elf_layout::rounded_within;
-use elf_outside::Source;
 use elf_types::{DataId, ElfError, ScnId};
 
 /// Where an offset of a section stands to a piece.
@@ -48,7 +47,7 @@ fn stand_of(end: u64, align: u64, len: u64, offset: u64) -> Stand
 }
 
 /// The alignment of a piece that is there.
-#[tactic(auto, unfolding(elf_object::specs::Calls::piece_align_answer))]
+#[tactic(auto, unfolding(elf_descriptor::specs::Passed::piece_align_answer))]
 fn alignment<S: Source>(elf: &Elf<S>, d: DataId) -> u64
     requires { piece_refusal elf.now.o d.section d.piece ≡ None }
     ensures { result ≡ (piece_at elf.now.o d.section d.piece).align }

@@ -2,7 +2,7 @@
 
 ghost use Rattle.std.specs.Prelude.{◌≡◌, ◌==◌, ◌+◌, ◌-◌, drop, false, length, slice_get, take, true, Some};
 ghost use Rattle.std.specs.Option.{option_copied, option_map_or};
-ghost use Rattle.elf_object.specs.Strings.{has_nul, is_name};
+ghost use Rattle.elf_descriptor.specs.elf_object.Strings.{has_nul, is_name};
 ghost use Rattle.gelf_view.specs.Records.{front_of, shorter_than, string_front};
 
 use memchr::memchr;

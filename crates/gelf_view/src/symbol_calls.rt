@@ -1,10 +1,10 @@
 //! The section of a symbol of a section's data.
 
 ghost use Rattle.std.specs.Prelude.{◌≡◌, None};
-ghost use Rattle.elf_object.specs.Words.{Answers, AnswersRead};
-ghost use Rattle.elf_object.specs.Object.{section_at};
-ghost use Rattle.elf_object.specs.Answers.{no_section};
-ghost use Rattle.elf_object.specs.SymbolSections.{symshndx_refusals};
+ghost use Rattle.elf_descriptor.specs.elf_object.Words.{Answers, AnswersRead};
+ghost use Rattle.elf_descriptor.specs.elf_object.Object.{section_at};
+ghost use Rattle.elf_descriptor.specs.elf_object.Answers.{no_section};
+ghost use Rattle.elf_descriptor.specs.elf_object.SymbolSections.{symshndx_refusals};
 ghost use Rattle.elf_descriptor.specs.Reads.{Looks, wanted};
 ghost use Rattle.gelf_view.specs.Calls as calls;
 ghost use Rattle.gelf_view.specs.Calls.{extended, is_index_table, symbol_place, IsTable};
@@ -12,12 +12,12 @@ ghost use Rattle.gelf_view.specs.Calls.{extended, is_index_table, symbol_place, 
 use crate::items::{sym, word};
 use crate::symbols::SymPlace;
 use elf_descriptor::Elf;
-use elf_outside::Source;
+use elf_descriptor::prelude::Source;
 use elf_types::constants::{SHN_LORESERVE, SHN_XINDEX, SHT_SYMTAB_SHNDX};
 use elf_types::{DataId, ElfError, ScnId, Sym};
 
 /// Whether a section that is there is a table of extended indexes of the symbols of another.
-#[tactic(auto, unfolding(elf_object::specs::Calls::shdr_answer))]
+#[tactic(auto, unfolding(elf_descriptor::specs::Passed::shdr_answer))]
 fn is_table_of<S: Source>(elf: &Elf<S>, table: u32, s: ScnId) -> bool
     requires { no_section elf.now.o table ≡ None }
     ensures { result ≡ is_index_table s.0 (section_at elf.now.o table) }

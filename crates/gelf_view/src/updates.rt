@@ -1,13 +1,13 @@
 //! The items of a section's data, stored one by one.
 
 ghost use Rattle.std.specs.Prelude.{true, [], OnOk, OnErr};
-ghost use Rattle.elf_object.specs.Words.{Answers};
-ghost use Rattle.elf_object.specs.Calls as calls;
+ghost use Rattle.elf_descriptor.specs.elf_object.Words.{Answers};
+ghost use Rattle.elf_descriptor.specs.elf_object.Calls as calls;
 ghost use Rattle.elf_descriptor.specs.Reads.{Queries, wanted};
 ghost use Rattle.elf_descriptor.specs.Stores.{EditsItems};
 
 use elf_descriptor::Elf;
-use elf_outside::Source;
+use elf_descriptor::prelude::Source;
 use elf_types::{DataId, Dyn, ElfError, Rel, Rela, Sym};
 
 /// Gives the symbol at an index of a piece that value. The piece becomes own and marked. It refuses

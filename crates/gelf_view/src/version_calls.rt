@@ -1,20 +1,20 @@
 //! The version records of a section's data.
 
 ghost use Rattle.std.specs.Prelude.{◌≡◌, [], true, IsTrue, OnOk, length};
-ghost use Rattle.elf_object.specs.Words.{Answers};
+ghost use Rattle.elf_descriptor.specs.elf_object.Words.{Answers};
 ghost use Rattle.elf_descriptor.specs.Reads.{Queries, wanted};
 ghost use Rattle.gelf_view.specs.Calls as calls;
 ghost use Rattle.gelf_view.specs.Calls.{first_place, record_call};
 ghost use Rattle.gelf_view.specs.Chains.{behind_verdef, behind_verneed, verdefs, verneeds, IsLedBy};
 ghost use Rattle.gelf_view.specs.Records.{LiesAt};
 ghost use Rattle.gelf_view.specs.declared.versions.TheConstants.{VERDEF_SIZE, VERNEED_SIZE};
-ghost use Rattle.elf_object.specs.Answers.{count_at};
+ghost use Rattle.elf_descriptor.specs.elf_object.Answers.{count_at};
 
 use crate::fetching::{bytes_there, fetch_bytes, order};
 use crate::records::Record;
 use crate::versions::{Verdaux, Verdef, Vernaux, Verneed};
 use elf_descriptor::Elf;
-use elf_outside::Source;
+use elf_descriptor::prelude::Source;
 use elf_types::{DataId, ElfError};
 
 /// The place of the first entry in bytes.

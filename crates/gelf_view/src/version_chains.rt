@@ -4,8 +4,8 @@
 
 ghost use Rattle.std.specs.Prelude.{◌≡◌, ◌<◌, ◌^◌, [], ℕ, Result as TheResult, IsTrue, IfOk, IfSome, OnOk};
 ghost use Rattle.elf_types.specs.declared.errors.ElfError.{ElfError as TheElfError};
-ghost use Rattle.elf_object.specs.Object.{Object};
-ghost use Rattle.elf_object.specs.Answers.{count_at};
+ghost use Rattle.elf_descriptor.specs.elf_object.Object.{Object};
+ghost use Rattle.elf_descriptor.specs.elf_object.Answers.{count_at};
 ghost use Rattle.elf_descriptor.specs.Reads.{Queries};
 ghost use Rattle.gelf_view.specs.declared.aux.AuxPlace.{AuxPlace as TheAuxPlace};
 ghost use Rattle.gelf_view.specs.Calls.{bytes_reader, verdaux_answer, verdef_answer, vernaux_answer, verneed_answer};
@@ -16,7 +16,7 @@ use crate::aux_calls::{next_verdaux, next_vernaux};
 use crate::version_calls::{verdef, verneed};
 use crate::versions::{Verdaux, Verdef, Vernaux, Verneed};
 use elf_descriptor::Elf;
-use elf_outside::Source;
+use elf_descriptor::prelude::Source;
 use elf_types::{DataId, ElfError};
 
 /// A name in the list of an entry: `Verdaux` of a definition, `Vernaux` of needs.

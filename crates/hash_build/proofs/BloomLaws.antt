@@ -15,8 +15,8 @@ use Rattle.elf_xlate.specs.declared.content.Items.TheVariants.{Addr}
 use Rattle.elf_xlate.specs.Fields.{fits}
 use Rattle.elf_xlate.specs.Translation.{first_unfit}
 use Rattle.elf_xlate.proofs.Broad.{none_unfit}
-use Rattle.hash_model.specs.HashSections.{bloom_bits}
-use Rattle.hash_model.specs.BuiltHashes.{bloom_word, sets_bit}
+use Rattle.symbol_lookup.specs.hash_model.HashSections.{bloom_bits}
+use Rattle.symbol_lookup.specs.hash_model.BuiltHashes.{bloom_word, sets_bit}
 use Rattle.hash_build.specs.declared.shape.GnuShape.{GnuShape}
 use Rattle.hash_build.specs.Calls.{stated}
 use Rattle.hash_build.specs.Hashed.{zeros_of}

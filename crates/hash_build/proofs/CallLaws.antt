@@ -9,19 +9,19 @@ use Rattle.elf_types.specs.declared.records.Kind.TheVariants as kinds
 use Rattle.elf_types.specs.Answers.{Follows, IsRefusal, answered, first_refusal, refused_if}
 use Rattle.elf_outside.specs.declared.sources.Source.{Ghosts}
 use Rattle.elf_outside.proofs.AskLemmas.{read_rose_refused}
-use Rattle.elf_object.specs.Words.{Answers, AnswersRead}
-use Rattle.elf_object.specs.Object.{Object}
-use Rattle.elf_object.specs.Answers.{count_at, items_at, lend_refusal}
-use Rattle.elf_object.specs.Due.{homes_due, unless_refused}
-use Rattle.elf_object.specs.Calls.{Call, due}
-use Rattle.elf_object.proofs.AnswerLaws.{lend_kind}
-use Rattle.elf_object.proofs.ItemCounts.{syms_counted}
-use Rattle.elf_object.proofs.PassedLaws.{none_first}
-use Rattle.elf_descriptor.specs.State.{State}
-use Rattle.elf_descriptor.specs.Reads.{Reads, Looks, wanted}
-use Rattle.elf_descriptor.proofs.ReadsLaws.{reads_nothing}
-use Rattle.hash_model.specs.BuiltHashes.{hash_refusal}
-use Rattle.hash_model.specs.Listed.{listed_names}
+use Rattle.symbol_lookup.specs.elf_object.Words.{Answers, AnswersRead}
+use Rattle.symbol_lookup.specs.elf_object.Object.{Object}
+use Rattle.symbol_lookup.specs.elf_object.Answers.{count_at, items_at, lend_refusal}
+use Rattle.symbol_lookup.specs.elf_object.Due.{homes_due, unless_refused}
+use Rattle.symbol_lookup.specs.elf_object.Calls.{Call, due}
+use Rattle.symbol_lookup.proofs.elf_object.AnswerLaws.{lend_kind}
+use Rattle.symbol_lookup.proofs.elf_object.ItemCounts.{syms_counted}
+use Rattle.symbol_lookup.proofs.elf_object.PassedLaws.{none_first}
+use Rattle.symbol_lookup.specs.elf_descriptor.State.{State}
+use Rattle.symbol_lookup.specs.elf_descriptor.Reads.{Reads, Looks, wanted}
+use Rattle.symbol_lookup.proofs.elf_descriptor.ReadsLaws.{reads_nothing}
+use Rattle.symbol_lookup.specs.hash_model.BuiltHashes.{hash_refusal}
+use Rattle.symbol_lookup.specs.hash_model.Listed.{listed_names}
 use Rattle.symbol_lookup.specs.Lookups.{table_homes}
 use Rattle.hash_build.specs.Calls.{hash_call, order_refusals}
 use Rattle.hash_build.specs.Tables.{MayStop, MayStopUnsorted, ReadsTable, ReadsInOrder}

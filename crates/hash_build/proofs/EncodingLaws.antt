@@ -13,7 +13,7 @@ use Rattle.elf_xlate.specs.Items.{word_bytes, word_fields, addr_bytes, addr_fiel
 use Rattle.elf_xlate.specs.Numbers.{octets}
 use Rattle.elf_xlate.specs.Translation.{encoded, first_unfit}
 use Rattle.elf_xlate.proofs.Digits.{length_octets}
-use Rattle.hash_model.specs.HashSections.{bloom_bytes, numbers_as}
+use Rattle.symbol_lookup.specs.hash_model.HashSections.{bloom_bytes, numbers_as}
 
 numbers_by : (f g : ℕ → List ℕ) (l : List ℕ) → ((n : ℕ) → f n ≡ g n) → flat_map f l ≡ flat_map g l
 numbers_by f g [] same = refl

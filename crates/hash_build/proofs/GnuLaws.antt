@@ -14,12 +14,12 @@ use Rattle.elf_types.specs.declared.records.Order.{Order}
 use Rattle.elf_types.specs.declared.errors.ElfError.{ElfError}
 use Rattle.elf_types.specs.declared.errors.ElfError.TheVariants.{Memory, Unsorted}
 use Rattle.elf_xlate.specs.Numbers.{octets}
-use Rattle.elf_object.specs.Object.{Object}
-use Rattle.hash_model.specs.Hashes.{gnu_hash}
-use Rattle.hash_model.specs.HashSections.{GnuHash, gnu_bytes, bloom_bytes, numbers_as}
-use Rattle.hash_model.specs.Listed.{listed_names}
-use Rattle.elf_object.specs.Sections.{first_of, number_or_0}
-use Rattle.hash_model.specs.BuiltHashes.{bloom_word, build_gnu_answer, buckets_of, chain_word, ends_chain, first_in, first_listed, first_unsorted, gnu_built, hash_refusal, hashes_of, is_in, is_unsorted_after, unsorted}
+use Rattle.symbol_lookup.specs.elf_object.Object.{Object}
+use Rattle.symbol_lookup.specs.hash_model.Hashes.{gnu_hash}
+use Rattle.symbol_lookup.specs.hash_model.HashSections.{GnuHash, gnu_bytes, bloom_bytes, numbers_as}
+use Rattle.symbol_lookup.specs.hash_model.Listed.{listed_names}
+use Rattle.symbol_lookup.specs.elf_object.Sections.{first_of, number_or_0}
+use Rattle.symbol_lookup.specs.hash_model.BuiltHashes.{bloom_word, build_gnu_answer, buckets_of, chain_word, ends_chain, first_in, first_listed, first_unsorted, gnu_built, hash_refusal, hashes_of, is_in, is_unsorted_after, unsorted}
 use Rattle.hash_build.specs.declared.shape.GnuShape.{GnuShape}
 use Rattle.hash_build.specs.declared.hashing.Hashing.TheVariants.{Gnu}
 use Rattle.hash_build.specs.Calls.{stated, IsWantOrUnsorted}

@@ -11,14 +11,14 @@ use Rattle.elf_types.specs.declared.errors.ElfError.TheVariants.{Memory, Read, N
 use Rattle.elf_types.specs.declared.records.Kind.TheVariants as kinds
 use Rattle.elf_types.specs.declared.records.Sym.{Sym}
 use Rattle.elf_types.specs.Answers.{Follows}
-use Rattle.elf_object.specs.Words.{Wants, Answers, AnswersRead, Refusals}
-use Rattle.elf_object.specs.Object.{Object}
-use Rattle.elf_object.specs.Answers.{items_at, syms_of, lend_refusal, entry_answer}
-use Rattle.elf_object.specs.Calls.{sym_answer}
-use Rattle.elf_object.specs.Strings.{readable, string_answer, symbol_name}
-use Rattle.elf_object.proofs.AnswerLaws.{sym_value}
-use Rattle.elf_descriptor.specs.State.{State}
-use Rattle.hash_model.specs.Listed.{is_defined_global, listed_name, listed_names, not_empty}
+use Rattle.symbol_lookup.specs.elf_object.Words.{Wants, Answers, AnswersRead, Refusals}
+use Rattle.symbol_lookup.specs.elf_object.Object.{Object}
+use Rattle.symbol_lookup.specs.elf_object.Answers.{items_at, syms_of, lend_refusal, entry_answer}
+use Rattle.symbol_lookup.specs.elf_object.Calls.{sym_answer}
+use Rattle.symbol_lookup.specs.elf_object.Strings.{readable, string_answer, symbol_name}
+use Rattle.symbol_lookup.proofs.elf_object.AnswerLaws.{sym_value}
+use Rattle.symbol_lookup.specs.elf_descriptor.State.{State}
+use Rattle.symbol_lookup.specs.hash_model.Listed.{is_defined_global, listed_name, listed_names, not_empty}
 use Rattle.symbol_lookup.specs.Lookups.{link_of}
 use Rattle.hash_build.specs.declared.hashing.Hashing.{Hashing}
 use Rattle.hash_build.specs.Hashed.{hash_with, listed_hashes}

@@ -21,9 +21,9 @@ use Rattle.elf_layout.specs.Meeting.{inserted_by, sorted_by}
 use Rattle.elf_layout.proofs.Unique.{Rises, Rises-from_sorted, unique}
 use Rattle.elf_types.specs.Answers.{answered}
 use Rattle.elf_types.specs.declared.errors.ElfError.{ElfError}
-use Rattle.elf_object.specs.Object.{Object}
-use Rattle.hash_model.specs.BuiltHashes.{buckets_of, order_key, gnu_order_of, gnu_order_answer, hash_refusal}
-use Rattle.hash_model.specs.Listed.{listed_names}
+use Rattle.symbol_lookup.specs.elf_object.Object.{Object}
+use Rattle.symbol_lookup.specs.hash_model.BuiltHashes.{buckets_of, order_key, gnu_order_of, gnu_order_answer, hash_refusal}
+use Rattle.symbol_lookup.specs.hash_model.Listed.{listed_names}
 use Rattle.hash_build.specs.declared.hashing.Hashing.TheVariants.{Gnu}
 use Rattle.hash_build.specs.declared.order.Row.{Row}
 use Rattle.hash_build.specs.Hashed.{hash_with, listed_hashes, buckets_by}

@@ -7,8 +7,8 @@ use Rattle.std.specs.List.{range_with_len}
 use Rattle.std.proofs.lemmas.Bool.{le-leb, lt-leb, cases_lt, cases_eq, eq-eqb, ne_eqb}
 use Rattle.std.proofs.lemmas.List.{length-map, length-replicate, length-set, get_or-replicate, get_or-set_same, get_or-set_other}
 use Rattle.std.proofs.lemmas.List.FromFn.{fill_by_all}
-use Rattle.elf_object.specs.Sections.{first_of, number_or_0}
-use Rattle.hash_model.specs.BuiltHashes.{in_bucket, is_in, first_in, next_in}
+use Rattle.symbol_lookup.specs.elf_object.Sections.{first_of, number_or_0}
+use Rattle.symbol_lookup.specs.hash_model.BuiltHashes.{in_bucket, is_in, first_in, next_in}
 use Rattle.hash_build.specs.Hashed.{buckets_by, zeros_of, first_set, next_set}
 use Rattle.hash_build.proofs.ListedLaws.{option_at}
 

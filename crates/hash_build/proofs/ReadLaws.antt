@@ -9,15 +9,15 @@ use Rattle.elf_types.specs.Answers.{IsRefusal, err_of}
 use Rattle.elf_outside.specs.declared.sources.Source.{Ghosts}
 use Rattle.elf_outside.specs.Asks.{ReadRose}
 use Rattle.elf_outside.proofs.AskLemmas.{read_rose_on}
-use Rattle.elf_object.specs.Words.{Answers, AnswersRead, Refusals}
-use Rattle.elf_object.specs.Object.{Object, section_at, piece_at, home_is_clean}
-use Rattle.elf_object.specs.Due.{is_loaded, homes_due, is_refused_unread, when_clean, when_piece_clean, with_others}
-use Rattle.elf_object.specs.Calls.{Call, sym_answer}
-use Rattle.elf_object.specs.Calls as calls
-use Rattle.elf_object.specs.Strings.{string_answer, strptr}
-use Rattle.elf_descriptor.specs.State.{State}
-use Rattle.elf_descriptor.specs.Reads.{Reads, Queries, Looks, wanted}
-use Rattle.elf_descriptor.proofs.ReadsLaws.{reads_then, reads_nothing, dues_stay, reads_among}
+use Rattle.symbol_lookup.specs.elf_object.Words.{Answers, AnswersRead, Refusals}
+use Rattle.symbol_lookup.specs.elf_object.Object.{Object, section_at, piece_at, home_is_clean}
+use Rattle.symbol_lookup.specs.elf_object.Due.{is_loaded, homes_due, is_refused_unread, when_clean, when_piece_clean, with_others}
+use Rattle.symbol_lookup.specs.elf_object.Calls.{Call, sym_answer}
+use Rattle.symbol_lookup.specs.elf_object.Calls as calls
+use Rattle.symbol_lookup.specs.elf_object.Strings.{string_answer, strptr}
+use Rattle.symbol_lookup.specs.elf_descriptor.State.{State}
+use Rattle.symbol_lookup.specs.elf_descriptor.Reads.{Reads, Queries, Looks, wanted}
+use Rattle.symbol_lookup.proofs.elf_descriptor.ReadsLaws.{reads_then, reads_nothing, dues_stay, reads_among}
 use Rattle.symbol_lookup.specs.Lookups.{link_of, table_homes}
 use Rattle.symbol_lookup.proofs.SearchLaws.{IsFew, reads_few, few_due}
 use Rattle.hash_build.specs.Calls.{IsWantOrUnsorted}

@@ -7,10 +7,10 @@ use Rattle.std.proofs.lemmas.List.{length-map, length-append}
 use Rattle.std.proofs.lemmas.List.FromFn.{length-map-range_with_len}
 use Rattle.elf_types.specs.Answers.{answered}
 use Rattle.elf_types.specs.declared.errors.ElfError.{ElfError}
-use Rattle.elf_object.specs.Object.{Object}
-use Rattle.hash_model.specs.HashSections.{SysvHash, sysv_words}
-use Rattle.hash_model.specs.BuiltHashes.{buckets_of, first_in, next_in, sysv_built, build_sysv_answer, hash_refusal}
-use Rattle.hash_model.specs.Listed.{listed_names}
+use Rattle.symbol_lookup.specs.elf_object.Object.{Object}
+use Rattle.symbol_lookup.specs.hash_model.HashSections.{SysvHash, sysv_words}
+use Rattle.symbol_lookup.specs.hash_model.BuiltHashes.{buckets_of, first_in, next_in, sysv_built, build_sysv_answer, hash_refusal}
+use Rattle.symbol_lookup.specs.hash_model.Listed.{listed_names}
 use Rattle.hash_build.specs.declared.hashing.Hashing.TheVariants.{Sysv}
 use Rattle.hash_build.specs.Hashed.{hash_with, listed_hashes, buckets_by, sysv_of, zeros_of, first_set, next_set}
 use Rattle.hash_build.proofs.RangeLaws.{bucket_at, buckets_long, AreFirsts, AreNexts, firsts_none, firsts_more, firsts_all, nexts_none, nexts_more, nexts_all}

@@ -3,12 +3,12 @@
 use Rattle.std.specs.Prelude.{ℕ, List, Option, Result}
 use Rattle.elf_types.specs.declared.errors.ElfError.{ElfError}
 use Rattle.elf_types.specs.declared.errors.ElfError.TheVariants.{Memory, Unsorted}
-use Rattle.elf_object.specs.Words.{Refusals}
-use Rattle.elf_object.specs.Object.{Object}
-use Rattle.elf_object.specs.Due.{unless_refused}
-use Rattle.elf_object.specs.Calls.{Call, some_memory}
-use Rattle.hash_model.specs.BuiltHashes as rules
-use Rattle.hash_model.specs.BuiltHashes.{hash_refusal, build_sysv_answer, gnu_order_answer, build_gnu_answer}
+use Rattle.symbol_lookup.specs.elf_object.Words.{Refusals}
+use Rattle.symbol_lookup.specs.elf_object.Object.{Object}
+use Rattle.symbol_lookup.specs.elf_object.Due.{unless_refused}
+use Rattle.symbol_lookup.specs.elf_object.Calls.{Call, some_memory}
+use Rattle.symbol_lookup.specs.hash_model.BuiltHashes as rules
+use Rattle.symbol_lookup.specs.hash_model.BuiltHashes.{hash_refusal, build_sysv_answer, gnu_order_answer, build_gnu_answer}
 use Rattle.symbol_lookup.specs.Lookups.{table_homes}
 use Rattle.hash_build.specs.declared.shape.GnuShape.{GnuShape}
 

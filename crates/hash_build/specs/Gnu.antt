@@ -8,9 +8,9 @@ use Rattle.elf_types.specs.declared.records.Class.{Class}
 use Rattle.elf_types.specs.declared.records.Order.{Order}
 use Rattle.elf_types.specs.declared.errors.ElfError.{ElfError}
 use Rattle.elf_types.specs.declared.errors.ElfError.TheVariants.{Unsorted}
-use Rattle.hash_model.specs.HashSections.{GnuHash, gnu_bytes}
-use Rattle.hash_model.specs.BuiltHashes as rules
-use Rattle.hash_model.specs.BuiltHashes.{bloom_word, chain_word, first_in, first_unsorted, sets_bit}
+use Rattle.symbol_lookup.specs.hash_model.HashSections.{GnuHash, gnu_bytes}
+use Rattle.symbol_lookup.specs.hash_model.BuiltHashes as rules
+use Rattle.symbol_lookup.specs.hash_model.BuiltHashes.{bloom_word, chain_word, first_in, first_unsorted, sets_bit}
 use Rattle.hash_build.specs.declared.shape.GnuShape.{GnuShape}
 use Rattle.hash_build.specs.Hashed.{buckets_by}
 use Rattle.hash_build.specs.Calls.{stated}

@@ -4,11 +4,11 @@ use Rattle.std.specs.Prelude.{ℕ, ◌%◌, List, length, map, slice_set, slice_
 use Rattle.std.specs.Option.{option_map}
 use Rattle.std.specs.List.{range_with_len}
 use Rattle.std.proofs.Math.ListN.{replicate}
-use Rattle.elf_object.specs.Object.{Object}
-use Rattle.hash_model.specs.Hashes.{elf_hash, gnu_hash}
-use Rattle.hash_model.specs.Listed.{listed_names}
-use Rattle.hash_model.specs.HashSections.{SysvHash}
-use Rattle.hash_model.specs.BuiltHashes.{first_in, next_in}
+use Rattle.symbol_lookup.specs.elf_object.Object.{Object}
+use Rattle.symbol_lookup.specs.hash_model.Hashes.{elf_hash, gnu_hash}
+use Rattle.symbol_lookup.specs.hash_model.Listed.{listed_names}
+use Rattle.symbol_lookup.specs.hash_model.HashSections.{SysvHash}
+use Rattle.symbol_lookup.specs.hash_model.BuiltHashes.{first_in, next_in}
 use Rattle.hash_build.specs.declared.hashing.Hashing.{Hashing}
 use Rattle.hash_build.specs.declared.hashing.Hashing.TheVariants.{Sysv, Gnu}
 

@@ -2,7 +2,7 @@
 use Rattle.std.specs.Prelude.{◌≡◌, ℕ, ◌<◌, nat_eq, List, length, map, slice_index_or, Option, None}
 use Rattle.std.specs.List.{range_with_len, count_by}
 use Rattle.elf_layout.specs.Meeting.{sorted_by}
-use Rattle.hash_model.specs.BuiltHashes.{order_key}
+use Rattle.symbol_lookup.specs.hash_model.BuiltHashes.{order_key}
 use Rattle.hash_build.specs.declared.order.Row.{Row}
 
 -- a symbol by its bucket and its index

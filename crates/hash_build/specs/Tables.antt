@@ -4,12 +4,12 @@ use Rattle.std.specs.Prelude.{◌≡◌, ℕ, ◌<◌, ◌^◌, length, None, Re
 use Rattle.elf_types.specs.declared.errors.ElfError.{ElfError}
 use Rattle.elf_types.specs.declared.errors.ElfError.TheVariants.{Memory, Read, Unsorted}
 use Rattle.elf_outside.specs.declared.sources.Source.{Ghosts}
-use Rattle.elf_object.specs.Object.{Object}
-use Rattle.elf_object.specs.Due.{homes_due}
-use Rattle.elf_descriptor.specs.State.{State}
-use Rattle.elf_descriptor.specs.Reads.{Reads}
-use Rattle.hash_model.specs.Listed.{listed_names}
-use Rattle.hash_model.specs.BuiltHashes.{hash_refusal}
+use Rattle.symbol_lookup.specs.elf_object.Object.{Object}
+use Rattle.symbol_lookup.specs.elf_object.Due.{homes_due}
+use Rattle.symbol_lookup.specs.elf_descriptor.State.{State}
+use Rattle.symbol_lookup.specs.elf_descriptor.Reads.{Reads}
+use Rattle.symbol_lookup.specs.hash_model.Listed.{listed_names}
+use Rattle.symbol_lookup.specs.hash_model.BuiltHashes.{hash_refusal}
 use Rattle.symbol_lookup.specs.Lookups.{link_of, table_homes}
 use Rattle.hash_build.specs.declared.tables.SymbolTable.{SymbolTable}
 

@@ -11,7 +11,7 @@ use crate::shape::GnuShape;
 use crate::words::hash_at;
 use elf_types::{Addrs, Class, ElfError, List};
 use std::alloc::Global;
-use symbol_hashes::{bloom_bits, shifted};
+use symbol_lookup::prelude::{bloom_bits, shifted};
 
 /// A word with a bit set.
 fn with_bit(word: u64, bit: u32) -> u64

@@ -1,7 +1,7 @@
 //! The buckets of GNU's hash section, and the order of the symbols in which they are chains.
 
 ghost use Rattle.std.specs.Prelude.{◌≡◌, ◌<◌, ◌≤◌, ◌-◌, ◌^◌, length, not, is_none, slice_index_or, IfSome, None};
-ghost use Rattle.hash_model.specs.BuiltHashes as rules;
+ghost use Rattle.symbol_lookup.specs.hash_model.BuiltHashes as rules;
 ghost use Rattle.hash_build.specs.Hashed.{buckets_by, first_set, zeros_of};
 ghost use Rattle.hash_build.specs.Gnu.{first_hashed, firsts_of};
 

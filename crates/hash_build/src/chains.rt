@@ -2,8 +2,8 @@
 
 ghost use Rattle.std.specs.Prelude.{◌≡◌, ◌<◌, ◌≤◌, ◌++◌, ◌^◌, length, OnOk, IfOk, IfErr};
 ghost use Rattle.elf_types.specs.declared.errors.ElfError.TheVariants.{Memory};
-ghost use Rattle.hash_model.specs.BuiltHashes as rules;
-ghost use Rattle.elf_object.specs.Sections.{number_or_0};
+ghost use Rattle.symbol_lookup.specs.hash_model.BuiltHashes as rules;
+ghost use Rattle.symbol_lookup.specs.elf_object.Sections.{number_or_0};
 ghost use Rattle.hash_build.specs.Hashed.{buckets_by, zeros_of};
 ghost use Rattle.hash_build.specs.Gnu.{chains_from, ends_before, firsts_of};
 

@@ -4,7 +4,7 @@ ghost use Rattle.std.specs.Prelude.{◌≡◌, ◌++◌, OnOk, IfErr, None};
 ghost use Rattle.elf_types.specs.declared.errors.ElfError.TheVariants.{Memory};
 ghost use Rattle.elf_xlate.specs.declared.content.Items.TheVariants as items;
 ghost use Rattle.elf_xlate.specs.Translation.{encoded, first_unfit};
-ghost use Rattle.hash_model.specs.HashSections.{bloom_bytes, numbers_as};
+ghost use Rattle.symbol_lookup.specs.hash_model.HashSections.{bloom_bytes, numbers_as};
 
 use elf_types::{Addrs, Class, ElfError, Octets, Order, Words};
 use elf_xlate::{Items, to_file};

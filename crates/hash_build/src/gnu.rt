@@ -3,10 +3,10 @@
 ghost use Rattle.std.specs.Prelude.{◌≡◌, ◌<◌, ◌++◌, ◌∷◌, ◌^◌, [], length, IsTrue, IfOk, IfErr, OnOk};
 ghost use Rattle.elf_types.specs.Answers.{Follows};
 ghost use Rattle.elf_types.specs.declared.errors.ElfError.TheVariants.{Memory};
-ghost use Rattle.elf_object.specs.Words.{AnswersRead};
-ghost use Rattle.elf_descriptor.specs.Reads.{Looks, wanted};
-ghost use Rattle.hash_model.specs.HashSections.{gnu_bytes};
-ghost use Rattle.hash_model.specs.BuiltHashes.{hash_refusal};
+ghost use Rattle.symbol_lookup.specs.elf_object.Words.{AnswersRead};
+ghost use Rattle.symbol_lookup.specs.elf_descriptor.Reads.{Looks, wanted};
+ghost use Rattle.symbol_lookup.specs.hash_model.HashSections.{gnu_bytes};
+ghost use Rattle.symbol_lookup.specs.hash_model.BuiltHashes.{hash_refusal};
 ghost use Rattle.hash_build.specs.declared.hashing.Hashing.TheVariants as kinds;
 ghost use Rattle.hash_build.specs.Calls as calls;
 ghost use Rattle.hash_build.specs.Calls.{order_refusals, IsWantOrUnsorted};
@@ -22,10 +22,10 @@ use crate::hashing::Hashing;
 use crate::listed::read_hashes;
 use crate::shape::GnuShape;
 use crate::tables::{SymbolTable, form_of, table_of};
-use elf_descriptor::Elf;
 use elf_outside::Source;
 use elf_types::{Class, ElfError, List, Octets, Order, ScnId, Words};
 use std::alloc::Global;
+use symbol_lookup::prelude::Elf;
 
 /// The four numbers with which a section begins. It refuses `Memory` alone.
 fn head_words(alloc: Global, shape: GnuShape, from: u32) -> Result<Words, ElfError>

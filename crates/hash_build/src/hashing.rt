@@ -2,10 +2,10 @@
 
 ghost use Rattle.std.specs.Prelude.{◌≡◌, Some};
 ghost use Rattle.std.specs.Option.{option_map};
-ghost use Rattle.hash_model.specs.Listed.{not_empty};
+ghost use Rattle.symbol_lookup.specs.hash_model.Listed.{not_empty};
 ghost use Rattle.hash_build.specs.Hashed.{hash_with};
 
-use symbol_hashes::{elf_hash, gnu_hash};
+use symbol_lookup::prelude::{elf_hash, gnu_hash};
 
 /// How a name is hashed.
 #[derive(Clone, Copy)]

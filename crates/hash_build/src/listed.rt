@@ -3,19 +3,18 @@
 ghost use Rattle.std.specs.Prelude.{◌≡◌, ◌+◌, ◌++◌, ◌∷◌, ◌==◌, ◌&&◌, not, [], length, slice_index_or, if◌then◌else◌, IsTrue, IfOk, OnOk, Ok, None};
 ghost use Rattle.std.specs.Option.{option_map};
 ghost use Rattle.elf_types.specs.Answers.{Follows};
-ghost use Rattle.elf_object.specs.Strings.{readable, string_answer};
-ghost use Rattle.hash_model.specs.Listed.{is_defined_global, not_empty};
+ghost use Rattle.symbol_lookup.specs.elf_object.Strings.{readable, string_answer};
+ghost use Rattle.symbol_lookup.specs.hash_model.Listed.{is_defined_global, not_empty};
 ghost use Rattle.hash_build.specs.Hashed.{hash_with, listed_hashes};
 ghost use Rattle.hash_build.specs.Reading.{no_hash};
 ghost use Rattle.hash_build.specs.Tables.{IsSymbolTable, ReadsTable};
 
 use crate::hashing::{Hashing, hash_unless_empty};
 use crate::tables::SymbolTable;
-use elf_descriptor::Elf;
 use elf_outside::Source;
 use elf_types::constants::{SHN_UNDEF, STB_LOCAL};
 use elf_types::{DataId, ElfError, List, Sym, bind};
-use gelf_view::{strptr, sym};
+use symbol_lookup::prelude::{Elf, strptr, sym};
 
 /// What a symbol, or a name, that is refused tells: that it has no hash, unless it was for want of
 /// memory or a failed read.

@@ -2,10 +2,10 @@
 
 ghost use Rattle.std.specs.Prelude.{◌≡◌, ◌<◌, ◌^◌, length, map, IsTrue, IfOk, IfErr, IfSome};
 ghost use Rattle.elf_types.specs.declared.errors.ElfError.TheVariants.{Memory};
-ghost use Rattle.elf_object.specs.Words.{Answers};
-ghost use Rattle.elf_descriptor.specs.Reads.{Looks, wanted};
-ghost use Rattle.hash_model.specs.BuiltHashes.{gnu_order_of, order_key};
-ghost use Rattle.hash_model.specs.Listed.{listed_names};
+ghost use Rattle.symbol_lookup.specs.elf_object.Words.{Answers};
+ghost use Rattle.symbol_lookup.specs.elf_descriptor.Reads.{Looks, wanted};
+ghost use Rattle.symbol_lookup.specs.hash_model.BuiltHashes.{gnu_order_of, order_key};
+ghost use Rattle.symbol_lookup.specs.hash_model.Listed.{listed_names};
 ghost use Rattle.hash_build.specs.Calls as calls;
 ghost use Rattle.hash_build.specs.Hashed.{buckets_by};
 ghost use Rattle.hash_build.specs.Rows.{order_by, rows_of, sorted_rows, IsOrder};
@@ -15,10 +15,10 @@ use crate::hashing::Hashing;
 use crate::listed::read_hashes;
 use crate::tables::{SymbolTable, table_of};
 use crate::words::{bucket_of, hash_at};
-use elf_descriptor::Elf;
 use elf_outside::Source;
 use elf_types::{ElfError, List, ScnId, Words};
 use std::alloc::Global;
+use symbol_lookup::prelude::Elf;
 
 /// A symbol as it is sorted: by its bucket, then by its index.
 #[derive(Clone, Copy, PartialEq, Eq, PartialOrd, Ord)]

@@ -3,11 +3,11 @@
 ghost use Rattle.std.specs.Prelude.{◌≡◌, ◌<◌, ◌+◌, ◌^◌, length, map, slice_index_or, slice_set, IsTrue, IfOk, IfErr, IfSome};
 ghost use Rattle.std.specs.List.{range_with_len};
 ghost use Rattle.elf_types.specs.declared.errors.ElfError.TheVariants.{Memory};
-ghost use Rattle.elf_object.specs.Words.{Answers};
-ghost use Rattle.elf_descriptor.specs.Reads.{Looks, wanted};
-ghost use Rattle.hash_model.specs.HashSections.{sysv_words};
-ghost use Rattle.hash_model.specs.BuiltHashes.{first_in, next_in, sysv_built};
-ghost use Rattle.hash_model.specs.Listed.{listed_names};
+ghost use Rattle.symbol_lookup.specs.elf_object.Words.{Answers};
+ghost use Rattle.symbol_lookup.specs.elf_descriptor.Reads.{Looks, wanted};
+ghost use Rattle.symbol_lookup.specs.hash_model.HashSections.{sysv_words};
+ghost use Rattle.symbol_lookup.specs.hash_model.BuiltHashes.{first_in, next_in, sysv_built};
+ghost use Rattle.symbol_lookup.specs.hash_model.Listed.{listed_names};
 ghost use Rattle.hash_build.specs.Calls as calls;
 ghost use Rattle.hash_build.specs.Hashed.{buckets_by, first_set, next_set, sysv_of, zeros_of};
 ghost use Rattle.hash_build.specs.Tables.{IsSymbolTable, ReadsTable};
@@ -16,10 +16,10 @@ use crate::hashing::Hashing;
 use crate::listed::read_hashes;
 use crate::tables::{SymbolTable, table_of};
 use crate::words::{bucket_of, hash_at, set_word, word_at, zeros};
-use elf_descriptor::Elf;
 use elf_outside::Source;
 use elf_types::{ElfError, List, ScnId, Words};
 use std::alloc::Global;
+use symbol_lookup::prelude::Elf;
 
 /// Puts symbol `i` before those of its bucket that stand behind it.
 fn link_in(buckets: &mut Words, chains: &mut Words, bucket: u64, i: u64)
@@ -70,7 +70,7 @@ fn link_symbols(hashes: &List<Option<u32>>, nbucket: u32, buckets: &mut Words, c
 }
 
 /// The words of a section: the two counts, the buckets, the chain words. It refuses `Memory` alone.
-#[tactic(auto, unfolding(hash_model::specs::HashSections::sysv_words))]
+#[tactic(auto, unfolding(symbol_lookup::specs::Passed::sysv_words))]
 fn join_words(alloc: Global, buckets: &Words, chains: &Words) -> Result<Words, ElfError>
     requires buckets { length buckets.now < 2 ^ 32 }
     requires chains { length chains.now < 2 ^ 32 }

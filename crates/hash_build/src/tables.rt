@@ -3,14 +3,13 @@
 ghost use Rattle.std.specs.Prelude.{◌≡◌, IfOk, IfErr, None, Some};
 ghost use Rattle.elf_types.specs.Answers.{IsRefusal};
 ghost use Rattle.elf_types.specs.declared.records.Kind.TheVariants as kinds;
-ghost use Rattle.elf_object.specs.Answers.{count_at, lend_refusal};
-ghost use Rattle.hash_model.specs.BuiltHashes.{hash_refusal};
+ghost use Rattle.symbol_lookup.specs.elf_object.Answers.{count_at, lend_refusal};
+ghost use Rattle.symbol_lookup.specs.hash_model.BuiltHashes.{hash_refusal};
 ghost use Rattle.hash_build.specs.Tables.{IsSymbolTable};
 
-use elf_descriptor::Elf;
 use elf_outside::Source;
 use elf_types::{Class, DataId, ElfError, Order, ScnId, Sym};
-use gelf_view::item_count;
+use symbol_lookup::prelude::{Elf, item_count};
 
 /// The number of symbols that a hash section can not tell: its words have 32 bits.
 const TOO_MANY: u64 = 0x1_0000_0000;
@@ -65,7 +64,7 @@ pub fn table_of<S: Source>(elf: &Elf<S>, s: ScnId) -> Result<SymbolTable, ElfErr
 }
 
 /// The class and the byte order of an object.
-#[tactic(auto, unfolding(elf_object::specs::Object::header_of))]
+#[tactic(auto, unfolding(symbol_lookup::specs::Passed::header_of))]
 pub fn form_of<S: Source>(elf: &Elf<S>) -> (Class, Order)
     ensures class { result.0 ≡ elf.now.o.header.class }
     ensures order { result.1 ≡ elf.now.o.header.order }

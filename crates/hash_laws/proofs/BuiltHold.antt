@@ -3,14 +3,14 @@ use Rattle.std.proofs.Common.{◌≡◌, ◌<◌, ℕ, true, List, [], ◌∷◌
 use Rattle.std.specs.Option.{option_map}
 use Rattle.elf_types.specs.Answers.{first_refusal}
 use Rattle.elf_types.specs.declared.errors.ElfError.TheVariants.{Unsorted}
-use Rattle.elf_object.specs.Object.{Object}
-use Rattle.elf_object.specs.Answers.{bytes_of, words_of, items_at}
-use Rattle.elf_object.proofs.AnswerLaws.{answered_value}
-use Rattle.elf_object.proofs.PassedLaws.{none_first, none_rest}
-use Rattle.hash_model.specs.Hashes.{gnu_hash}
-use Rattle.hash_model.specs.HashSections.{sysv_words, gnu_bytes, is_whole_sysv, is_whole_gnu}
-use Rattle.hash_model.specs.Listed.{listed_names, find_linear_answer}
-use Rattle.hash_model.specs.BuiltHashes.{GnuShape, buckets_of, sysv_built, gnu_built, first_unsorted, hash_refusal, unsorted, build_sysv_answer, build_gnu_answer}
+use Rattle.command_objects.specs.elf_object.Object.{Object}
+use Rattle.command_objects.specs.elf_object.Answers.{bytes_of, words_of, items_at}
+use Rattle.command_objects.proofs.elf_object.AnswerLaws.{answered_value}
+use Rattle.command_objects.proofs.elf_object.PassedLaws.{none_first, none_rest}
+use Rattle.command_objects.specs.hash_model.Hashes.{gnu_hash}
+use Rattle.command_objects.specs.hash_model.HashSections.{sysv_words, gnu_bytes, is_whole_sysv, is_whole_gnu}
+use Rattle.command_objects.specs.hash_model.Listed.{listed_names, find_linear_answer}
+use Rattle.command_objects.specs.hash_model.BuiltHashes.{GnuShape, buckets_of, sysv_built, gnu_built, first_unsorted, hash_refusal, unsorted, build_sysv_answer, build_gnu_answer}
 use Rattle.command_objects.specs.Laws.{IsShape, BuiltHashesAreWhole}
 use Rattle.symbol_lookup.specs.Lookups.{link_of, find_sysv_answer, find_gnu_answer}
 use Rattle.symbol_lookup.proofs.ReachLaws.{hash_reach}

@@ -4,13 +4,13 @@ use Rattle.std.specs.Prelude.{nat_le}
 use Rattle.std.proofs.lemmas.Bool.{leb-false}
 use Rattle.elf_types.specs.declared.records.Kind.TheVariants as kinds
 use Rattle.elf_types.specs.declared.errors.ElfError.TheVariants.{TooMany}
-use Rattle.elf_object.specs.Object.{Object}
-use Rattle.elf_object.specs.Answers.{items_at, count_at, syms_of, lend_refusal}
-use Rattle.elf_object.proofs.AnswerLaws.{lend_kind}
-use Rattle.elf_object.proofs.ItemCounts.{syms_counted}
-use Rattle.elf_object.proofs.PassedLaws.{none_first, none_rest, not_refused}
-use Rattle.hash_model.specs.Listed.{listed_names}
-use Rattle.hash_model.specs.BuiltHashes.{hash_refusal}
+use Rattle.command_objects.specs.elf_object.Object.{Object}
+use Rattle.command_objects.specs.elf_object.Answers.{items_at, count_at, syms_of, lend_refusal}
+use Rattle.command_objects.proofs.elf_object.AnswerLaws.{lend_kind}
+use Rattle.command_objects.proofs.elf_object.ItemCounts.{syms_counted}
+use Rattle.command_objects.proofs.elf_object.PassedLaws.{none_first, none_rest, not_refused}
+use Rattle.command_objects.specs.hash_model.Listed.{listed_names}
+use Rattle.command_objects.specs.hash_model.BuiltHashes.{hash_refusal}
 use Rattle.hash_build.proofs.ListedLaws.{names_long}
 
 module _ (o : Object) (s : ℕ) (passed : hash_refusal o s ≡ None) where

@@ -7,8 +7,8 @@ use Rattle.std.proofs.lemmas.List.Folds.{list_any_at}
 use Rattle.std.proofs.lemmas.List.FromFn.{length-map-range_with_len, get_or-map-range_with_len}
 use Rattle.elf_types.specs.declared.records.Class.{Class}
 use Rattle.elf_types.specs.declared.records.Class.TheVariants.{C32, C64}
-use Rattle.hash_model.specs.HashSections.{bloom_bits, bloom_bytes, has_bit, passes}
-use Rattle.hash_model.specs.BuiltHashes.{GnuShape, bloom_word, sets_bit}
+use Rattle.command_objects.specs.hash_model.HashSections.{bloom_bits, bloom_bytes, has_bit, passes}
+use Rattle.command_objects.specs.hash_model.BuiltHashes.{GnuShape, bloom_word, sets_bit}
 use Rattle.hash_build.proofs.BloomLaws.{bits_to, bits_low, bit_in, bits_some}
 
 word_width : (class : Class) → 2 ^ bloom_bits class ≡ 256 ^ bloom_bytes class

@@ -12,11 +12,11 @@ use Rattle.std.proofs.lemmas.List.Quantifiers.{position-Some}
 use Rattle.std.proofs.lemmas.Option.{slice_get-get_or}
 use Rattle.elf_types.specs.declared.records.Class.{Class}
 use Rattle.elf_types.specs.declared.records.Order.{Order}
-use Rattle.symbol_hashes.proofs.HashLemmas.{gnu_step, gnu_is}
-use Rattle.hash_model.specs.Hashes.{gnu_hash}
-use Rattle.elf_object.specs.Sections.{number_or_0}
-use Rattle.hash_model.specs.HashSections.{GnuHash, gnu_bytes, gnu_word, gnu_chain, gnu_chain_from, is_end, is_on_with, is_found_gnu, is_whole_gnu, ends}
-use Rattle.hash_model.specs.BuiltHashes.{GnuShape, buckets_of, hashes_of, in_bucket, is_in, first_in, order_key, first_unsorted, ends_chain, chain_word, bloom_word, first_listed, gnu_built}
+use Rattle.symbol_lookup.proofs.symbol_hashes.HashLemmas.{gnu_step, gnu_is}
+use Rattle.command_objects.specs.hash_model.Hashes.{gnu_hash}
+use Rattle.command_objects.specs.elf_object.Sections.{number_or_0}
+use Rattle.command_objects.specs.hash_model.HashSections.{GnuHash, gnu_bytes, gnu_word, gnu_chain, gnu_chain_from, is_end, is_on_with, is_found_gnu, is_whole_gnu, ends}
+use Rattle.command_objects.specs.hash_model.BuiltHashes.{GnuShape, buckets_of, hashes_of, in_bucket, is_in, first_in, order_key, first_unsorted, ends_chain, chain_word, bloom_word, first_listed, gnu_built}
 use Rattle.command_objects.specs.Laws.{IsShape}
 use Rattle.command_laws.proofs.SortedLemmas.{key_of, ascends}
 use Rattle.symbol_lookup.proofs.LeastLaws.{position_none}

@@ -9,7 +9,7 @@ use Rattle.elf_types.specs.declared.records.Class.{Class}
 use Rattle.elf_types.specs.declared.records.Order.{Order}
 use Rattle.elf_xlate.specs.Numbers.{number_of, number_at, octets}
 use Rattle.elf_xlate.proofs.Digits.{length_octets, number_of_octets}
-use Rattle.hash_model.specs.HashSections.{GnuHash, bloom_bytes, numbers_as, numbers_at, gnu_bytes, gnu_head, gnu_chains_at, gnu_in, gnu_chain_from, is_found_gnu, is_whole_gnu, ends, each_listed}
+use Rattle.command_objects.specs.hash_model.HashSections.{GnuHash, bloom_bytes, numbers_as, numbers_at, gnu_bytes, gnu_head, gnu_chains_at, gnu_in, gnu_chain_from, is_found_gnu, is_whole_gnu, ends, each_listed}
 use Rattle.hash_laws.proofs.NameLaws.{six}
 
 -- ---- Numbers of a width in a row

@@ -4,12 +4,12 @@ use Rattle.std.specs.Prelude.{filter, nat_eq}
 use Rattle.std.specs.List.{range_with_len, enumerate_from, list_all}
 use Rattle.std.proofs.lemmas.Bool.{and_from, or_left, or_right, cases_eq, eq-eqb, eqb-true}
 use Rattle.elf_types.specs.declared.records.Sym.{Sym}
-use Rattle.elf_object.specs.Object.{Object}
-use Rattle.elf_object.specs.Answers.{items_at, syms_of}
-use Rattle.elf_object.specs.Sections.{is_among}
-use Rattle.hash_model.specs.HashSections.{each_listed}
-use Rattle.hash_model.specs.Listed.{listed_name, listed_names}
-use Rattle.hash_model.specs.BuiltHashes.{is_in}
+use Rattle.command_objects.specs.elf_object.Object.{Object}
+use Rattle.command_objects.specs.elf_object.Answers.{items_at, syms_of}
+use Rattle.command_objects.specs.elf_object.Sections.{is_among}
+use Rattle.command_objects.specs.hash_model.HashSections.{each_listed}
+use Rattle.command_objects.specs.hash_model.Listed.{listed_name, listed_names}
+use Rattle.command_objects.specs.hash_model.BuiltHashes.{is_in}
 
 -- ---- Each listed name
 

@@ -12,10 +12,10 @@ use Rattle.elf_types.specs.declared.records.Order.{Order}
 use Rattle.elf_types.specs.Lists.{AreBytes}
 use Rattle.elf_xlate.specs.Numbers.{octets}
 use Rattle.elf_xlate.proofs.ByteRanges.{octets_are, each_are}
-use Rattle.elf_object.specs.Sections.{number_or_0}
-use Rattle.hash_model.specs.Hashes.{elf_hash}
-use Rattle.hash_model.specs.HashSections.{GnuHash, bloom_bytes, numbers_as, gnu_bytes, sysv_words}
-use Rattle.hash_model.specs.BuiltHashes.{buckets_of, in_bucket, is_in, first_in, next_in, sysv_built}
+use Rattle.command_objects.specs.elf_object.Sections.{number_or_0}
+use Rattle.command_objects.specs.hash_model.Hashes.{elf_hash}
+use Rattle.command_objects.specs.hash_model.HashSections.{GnuHash, bloom_bytes, numbers_as, gnu_bytes, sysv_words}
+use Rattle.command_objects.specs.hash_model.BuiltHashes.{buckets_of, in_bucket, is_in, first_in, next_in, sysv_built}
 use Rattle.strip_laws.proofs.KeptLaws.{IsInRange, range_within}
 
 -- ---- Bytes

@@ -17,15 +17,15 @@ use Rattle.elf_types.specs.declared.records.Sym.{Sym}
 use Rattle.elf_xlate.specs.declared.content.Items.{Items}
 use Rattle.elf_xlate.specs.declared.content.Items.TheVariants as items
 use Rattle.elf_layout.specs.Meeting.{inserted_by, sorted_by}
-use Rattle.elf_object.specs.Object.{Object}
-use Rattle.elf_object.specs.Answers.{items_at, syms_of, rels_of, relas_of}
-use Rattle.elf_object.specs.Strings.{is_name, symbol_name}
-use Rattle.hash_model.specs.Hashes.{gnu_hash}
-use Rattle.elf_object.specs.Sections.{header_at}
-use Rattle.hash_model.specs.Listed.{not_empty, is_defined_global, listed_name, listed_names}
+use Rattle.command_objects.specs.elf_object.Object.{Object}
+use Rattle.command_objects.specs.elf_object.Answers.{items_at, syms_of, rels_of, relas_of}
+use Rattle.command_objects.specs.elf_object.Strings.{is_name, symbol_name}
+use Rattle.command_objects.specs.hash_model.Hashes.{gnu_hash}
+use Rattle.command_objects.specs.elf_object.Sections.{header_at}
+use Rattle.command_objects.specs.hash_model.Listed.{not_empty, is_defined_global, listed_name, listed_names}
 use Rattle.command_objects.specs.Laws.{rel_symbol, rela_symbol}
-use Rattle.hash_model.specs.BuiltHashes.{buckets_of, order_key, gnu_order_of}
-use Rattle.hash_model.specs.Reordered.{in_order, new_index, with_rel, with_rela, items_by_symbols, reordered, reorder_refusal}
+use Rattle.command_objects.specs.hash_model.BuiltHashes.{buckets_of, order_key, gnu_order_of}
+use Rattle.command_objects.specs.hash_model.Reordered.{in_order, new_index, with_rel, with_rela, items_by_symbols, reordered, reorder_refusal}
 use Rattle.command_laws.proofs.SortedLemmas.{sorted_from}
 use Rattle.symbol_lookup.proofs.LeastLaws.{named}
 use Rattle.hash_build.specs.Rows.{IsOrder}

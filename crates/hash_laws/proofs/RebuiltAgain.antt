@@ -11,15 +11,15 @@ use Rattle.elf_types.specs.declared.records.Shdr.{Shdr}
 use Rattle.elf_xlate.specs.declared.content.Items.{Items}
 use Rattle.elf_xlate.specs.declared.content.Items.TheVariants as items
 use Rattle.elf_xlate.specs.Translation.{AreItems, items_kind}
-use Rattle.elf_object.specs.Object.{Object}
-use Rattle.elf_object.specs.Answers.{bytes_of, words_of, items_at, same_kind, no_content}
-use Rattle.elf_object.specs.Sections.{header_at}
-use Rattle.elf_object.specs.Settled.{settle}
-use Rattle.elf_object.specs.Valid.{as_opened}
-use Rattle.elf_object.proofs.AnswerLaws.{items_kind_at}
-use Rattle.object_laws.specs.Laws.{ReopenLaw, SettlingKeepsItems}
-use Rattle.hash_model.specs.Listed.{listed_names}
-use Rattle.hash_model.specs.BuiltHashes.{gnu_built, build_sysv_answer, build_gnu_answer}
+use Rattle.command_objects.specs.elf_object.Object.{Object}
+use Rattle.command_objects.specs.elf_object.Answers.{bytes_of, words_of, items_at, same_kind, no_content}
+use Rattle.command_objects.specs.elf_object.Sections.{header_at}
+use Rattle.command_objects.specs.elf_object.Settled.{settle}
+use Rattle.command_objects.specs.elf_object.Valid.{as_opened}
+use Rattle.command_objects.proofs.elf_object.AnswerLaws.{items_kind_at}
+use Rattle.strip_laws.specs.object_laws.Laws.{ReopenLaw, SettlingKeepsItems}
+use Rattle.command_objects.specs.hash_model.Listed.{listed_names}
+use Rattle.command_objects.specs.hash_model.BuiltHashes.{gnu_built, build_sysv_answer, build_gnu_answer}
 use Rattle.command_objects.specs.Rehashed.{gnu_section, sysv_section}
 use Rattle.hash_laws.specs.Rehash.{HasStringsApart, HoldsRebuiltGnu, HoldsRebuiltSysv, RebuiltStand, RehashRebuilds}
 use Rattle.hash_laws.proofs.CountLaws.{few_names}

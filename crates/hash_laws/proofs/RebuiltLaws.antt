@@ -14,16 +14,16 @@ use Rattle.elf_types.specs.declared.records.Kind.TheVariants as kinds
 use Rattle.elf_xlate.specs.declared.content.Items.{Items}
 use Rattle.elf_xlate.specs.declared.content.Items.TheVariants as items
 use Rattle.elf_xlate.specs.Translation.{items_count}
-use Rattle.elf_object.specs.Object.{Object, Section, section_at, piece_at, home_piece}
-use Rattle.elf_object.specs.Answers.{content, items_at, count_at, no_content, lend_refusal}
-use Rattle.elf_object.specs.Steps.{with_own, with_layout}
-use Rattle.elf_object.specs.Sections.{header_at, is_program}
+use Rattle.command_objects.specs.elf_object.Object.{Object, Section, section_at, piece_at, home_piece}
+use Rattle.command_objects.specs.elf_object.Answers.{content, items_at, count_at, no_content, lend_refusal}
+use Rattle.command_objects.specs.elf_object.Steps.{with_own, with_layout}
+use Rattle.command_objects.specs.elf_object.Sections.{header_at, is_program}
 use Rattle.elf_ident.proofs.Refusals.{bind_ok}
-use Rattle.hash_model.specs.Hashes.{gnu_hash}
-use Rattle.hash_model.specs.HashSections.{sysv_words, gnu_bytes}
-use Rattle.hash_model.specs.Listed.{listed_names}
-use Rattle.hash_model.specs.BuiltHashes.{GnuShape, buckets_of, sysv_built, gnu_built, first_unsorted, gnu_order_of, hash_refusal, unsorted, build_sysv_answer, build_gnu_answer}
-use Rattle.hash_model.specs.Reordered.{reordered}
+use Rattle.command_objects.specs.hash_model.Hashes.{gnu_hash}
+use Rattle.command_objects.specs.hash_model.HashSections.{sysv_words, gnu_bytes}
+use Rattle.command_objects.specs.hash_model.Listed.{listed_names}
+use Rattle.command_objects.specs.hash_model.BuiltHashes.{GnuShape, buckets_of, sysv_built, gnu_built, first_unsorted, gnu_order_of, hash_refusal, unsorted, build_sysv_answer, build_gnu_answer}
+use Rattle.command_objects.specs.hash_model.Reordered.{reordered}
 use Rattle.command_objects.specs.Laws.{IsShape}
 use Rattle.command_objects.specs.Rehashed.{dynamic_symbols, gnu_section, sysv_section, with_gnu, with_sysv, where_there, laid_out, rehashed_at, rehashed}
 use Rattle.command_objects.specs.Rehashed.RehashFault.{NoDynamicHash}

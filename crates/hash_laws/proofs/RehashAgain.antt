@@ -11,19 +11,19 @@ use Rattle.elf_types.specs.declared.records.Phdr.{Phdr}
 use Rattle.elf_xlate.specs.declared.content.Items.{Items}
 use Rattle.elf_xlate.specs.Headers.{IsPhdr}
 use Rattle.elf_xlate.specs.Translation.{items_kind}
-use Rattle.elf_object.specs.Object.{Object, Piece, section_at, piece_at, occupies_file, home_piece}
-use Rattle.elf_object.specs.Answers.{content, items_at, syms_of, kind_at, no_content, lend_refusal}
-use Rattle.elf_object.specs.Refusal.{refusal}
-use Rattle.elf_object.specs.Settled.{settle}
-use Rattle.elf_object.specs.Strings.{readable, string_answer, is_name}
-use Rattle.elf_object.specs.Valid.{IsObject, as_opened}
-use Rattle.elf_object.proofs.AnswerLaws.{lend_passed}
-use Rattle.object_laws.specs.Laws.{ReopenLaw, SettlingKeepsItems}
-use Rattle.object_laws.proofs.LawsHold.{beginnings_are}
+use Rattle.command_objects.specs.elf_object.Object.{Object, Piece, section_at, piece_at, occupies_file, home_piece}
+use Rattle.command_objects.specs.elf_object.Answers.{content, items_at, syms_of, kind_at, no_content, lend_refusal}
+use Rattle.command_objects.specs.elf_object.Refusal.{refusal}
+use Rattle.command_objects.specs.elf_object.Settled.{settle}
+use Rattle.command_objects.specs.elf_object.Strings.{readable, string_answer, is_name}
+use Rattle.command_objects.specs.elf_object.Valid.{IsObject, as_opened}
+use Rattle.command_objects.proofs.elf_object.AnswerLaws.{lend_passed}
+use Rattle.strip_laws.specs.object_laws.Laws.{ReopenLaw, SettlingKeepsItems}
+use Rattle.strip_laws.proofs.object_laws.LawsHold.{beginnings_are}
 use Rattle.strip_laws.proofs.RehashLaws.{rehashed_is_object}
 use Rattle.strip_laws.proofs.WrittenLaws.{written_known, settled_again}
-use Rattle.elf_object.specs.Sections.{header_at}
-use Rattle.hash_model.specs.Listed.{listed_names}
+use Rattle.command_objects.specs.elf_object.Sections.{header_at}
+use Rattle.command_objects.specs.hash_model.Listed.{listed_names}
 use Rattle.command_objects.specs.Laws.{IsRehashed, symbol_at, rel_symbol, rela_symbol, RehashLaw}
 use Rattle.hash_laws.specs.Rehash.{HasStringsApart, WrittenKeepsLookup, RehashWrites}
 use Rattle.hash_laws.proofs.SameLaws.{no_string_at, StringsAlike, names_alike}

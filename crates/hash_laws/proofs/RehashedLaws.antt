@@ -12,18 +12,18 @@ use Rattle.elf_types.specs.declared.errors.ElfError.TheVariants.{NoSection, NoDa
 use Rattle.elf_types.specs.declared.records.Kind.TheVariants as kinds
 use Rattle.elf_xlate.specs.declared.content.Items.{Items}
 use Rattle.elf_xlate.specs.declared.content.Items.TheVariants as items
-use Rattle.elf_object.specs.Object.{Object, Section, section_at, absent_section, is_dirty, some_section_marked}
-use Rattle.elf_object.specs.Answers.{bytes_of, words_of, piece_count, same_kind, no_section, no_data, no_content, reserved, data_refusal, lend_refusal}
-use Rattle.elf_object.specs.Steps.{with_own, with_layout}
-use Rattle.elf_object.specs.Calls.{data_answer, replace, replace_refusal}
-use Rattle.elf_object.proofs.AnswerLaws.{answered_value, data_value}
-use Rattle.elf_object.proofs.PassedLaws.{none_first, none_rest, not_refused}
-use Rattle.elf_object.proofs.StepLaws.{dirty-with_own}
-use Rattle.elf_object.specs.Sections.{header_at, is_of, is_program, edited}
-use Rattle.hash_model.specs.HashSections.{sysv_words}
-use Rattle.hash_model.specs.Listed.{listed_names}
-use Rattle.hash_model.specs.BuiltHashes.{GnuShape, gnu_order_of, gnu_order_answer, build_gnu_answer, build_sysv_answer, hash_refusal, sysv_built}
-use Rattle.hash_model.specs.Reordered.{new_index, reordered, reorder_refusal}
+use Rattle.command_objects.specs.elf_object.Object.{Object, Section, section_at, absent_section, is_dirty, some_section_marked}
+use Rattle.command_objects.specs.elf_object.Answers.{bytes_of, words_of, piece_count, same_kind, no_section, no_data, no_content, reserved, data_refusal, lend_refusal}
+use Rattle.command_objects.specs.elf_object.Steps.{with_own, with_layout}
+use Rattle.command_objects.specs.elf_object.Calls.{data_answer, replace, replace_refusal}
+use Rattle.command_objects.proofs.elf_object.AnswerLaws.{answered_value, data_value}
+use Rattle.command_objects.proofs.elf_object.PassedLaws.{none_first, none_rest, not_refused}
+use Rattle.command_objects.proofs.elf_object.StepLaws.{dirty-with_own}
+use Rattle.command_objects.specs.elf_object.Sections.{header_at, is_of, is_program, edited}
+use Rattle.command_objects.specs.hash_model.HashSections.{sysv_words}
+use Rattle.command_objects.specs.hash_model.Listed.{listed_names}
+use Rattle.command_objects.specs.hash_model.BuiltHashes.{GnuShape, gnu_order_of, gnu_order_answer, build_gnu_answer, build_sysv_answer, hash_refusal, sysv_built}
+use Rattle.command_objects.specs.hash_model.Reordered.{new_index, reordered, reorder_refusal}
 use Rattle.command_objects.specs.Laws.{IsShape}
 use Rattle.command_objects.specs.Rehashed.{dynamic_symbols, gnu_section, sysv_section, shape_of, nbucket_of, with_gnu, with_sysv, where_there, laid_out, or_fault, rehashed_at, rehashed}
 use Rattle.command_objects.specs.Rehashed.RehashFault.{NoDynamicHash}

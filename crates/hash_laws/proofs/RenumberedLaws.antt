@@ -9,11 +9,11 @@ use Rattle.elf_types.specs.declared.constants.TheConstants.{SHT_REL, SHT_RELA}
 use Rattle.elf_types.specs.declared.errors.ElfError.{ElfError}
 use Rattle.elf_types.specs.declared.records.Kind.TheVariants as kinds
 use Rattle.elf_xlate.specs.declared.content.Items.{Items}
-use Rattle.elf_object.specs.Object.{Object, section_at}
-use Rattle.elf_object.specs.Answers.{items_at, syms_of, rels_of, relas_of, lend_refusal}
-use Rattle.elf_object.specs.Strings.{is_name}
-use Rattle.elf_object.specs.Sections.{header_at}
-use Rattle.hash_model.specs.Listed.{listed_names, find_linear_answer}
+use Rattle.command_objects.specs.elf_object.Object.{Object, section_at}
+use Rattle.command_objects.specs.elf_object.Answers.{items_at, syms_of, rels_of, relas_of, lend_refusal}
+use Rattle.command_objects.specs.elf_object.Strings.{is_name}
+use Rattle.command_objects.specs.elf_object.Sections.{header_at}
+use Rattle.command_objects.specs.hash_model.Listed.{listed_names, find_linear_answer}
 use Rattle.command_objects.specs.Laws.{symbol_at, FoundAlike, LooksUpAlike, NamesAlike, rel_symbol, rela_symbol, RehashKeepsLookup}
 use Rattle.hash_build.proofs.ListedLaws.{names_long}
 use Rattle.hash_order.proofs.StoreLaws.{IsSameAt, same_items, same_lend}

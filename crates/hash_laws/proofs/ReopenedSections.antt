@@ -14,26 +14,26 @@ use Rattle.elf_types.specs.declared.records.Order.{Order}
 use Rattle.elf_types.specs.declared.records.Kind.{Kind}
 use Rattle.elf_types.specs.declared.records.Kind.TheVariants as kinds
 use Rattle.elf_types.specs.declared.records.Shdr.{Shdr}
-use Rattle.elf_object.specs.Blocks.{Block, stacked, last_end, spread}
-use Rattle.elf_object.specs.Object.{Object, Section, Piece, absent_section, section_at, piece_at, header_of, has_file_bytes, occupies_file, is_null, is_dirty, home_piece, home_is_clean}
-use Rattle.elf_object.specs.Open.{home_len, home_of, home_bytes}
-use Rattle.elf_object.specs.Answers.{content, or_empty, items_at, same_kind}
-use Rattle.elf_object.specs.Joined.{piece_bytes, aligned_pieces, piece_blocks, pieces_end, file_bytes}
-use Rattle.elf_object.specs.Derived.{derived_header, numbered_shdr}
-use Rattle.elf_object.specs.Image.{image}
-use Rattle.elf_object.specs.Layout.{places_of, section_place, size_in_file, placed_header, placed_shdr, placed_by}
-use Rattle.elf_object.specs.Refusal.{missing_in_section, missing_home, refusal}
-use Rattle.elf_object.specs.Settled.{settled_section, settled_over, settle}
-use Rattle.elf_object.specs.Strings.{holds_strings, kind_of_piece, readable, string_answer}
-use Rattle.elf_object.specs.Valid.{IsObject, as_opened}
-use Rattle.elf_object.proofs.PassedLaws.{not_refused}
-use Rattle.elf_object.proofs.SettledSections.{section_at-settled}
-use Rattle.object_laws.proofs.ImageLaws.{section_at-placed, placed-dirty}
-use Rattle.object_laws.proofs.ItemLaws.{alone_spread, row_none}
-use Rattle.object_laws.proofs.PlacedLaws.{update_passes}
-use Rattle.object_laws.proofs.StandLaws.{section_count-placed, joined-placed}
-use Rattle.object_laws.proofs.AgainLaws.{placed_section_header}
-use Rattle.object_laws.proofs.SettledLaws.{unrefused, section_raw, section_extent, settle-dirty}
+use Rattle.command_objects.specs.elf_object.Blocks.{Block, stacked, last_end, spread}
+use Rattle.command_objects.specs.elf_object.Object.{Object, Section, Piece, absent_section, section_at, piece_at, header_of, has_file_bytes, occupies_file, is_null, is_dirty, home_piece, home_is_clean}
+use Rattle.command_objects.specs.elf_object.Open.{home_len, home_of, home_bytes}
+use Rattle.command_objects.specs.elf_object.Answers.{content, or_empty, items_at, same_kind}
+use Rattle.command_objects.specs.elf_object.Joined.{piece_bytes, aligned_pieces, piece_blocks, pieces_end, file_bytes}
+use Rattle.command_objects.specs.elf_object.Derived.{derived_header, numbered_shdr}
+use Rattle.command_objects.specs.elf_object.Image.{image}
+use Rattle.command_objects.specs.elf_object.Layout.{places_of, section_place, size_in_file, placed_header, placed_shdr, placed_by}
+use Rattle.command_objects.specs.elf_object.Refusal.{missing_in_section, missing_home, refusal}
+use Rattle.command_objects.specs.elf_object.Settled.{settled_section, settled_over, settle}
+use Rattle.command_objects.specs.elf_object.Strings.{holds_strings, kind_of_piece, readable, string_answer}
+use Rattle.command_objects.specs.elf_object.Valid.{IsObject, as_opened}
+use Rattle.command_objects.proofs.elf_object.PassedLaws.{not_refused}
+use Rattle.command_objects.proofs.elf_object.SettledSections.{section_at-settled}
+use Rattle.strip_laws.proofs.object_laws.ImageLaws.{section_at-placed, placed-dirty}
+use Rattle.strip_laws.proofs.object_laws.ItemLaws.{alone_spread, row_none}
+use Rattle.strip_laws.proofs.object_laws.PlacedLaws.{update_passes}
+use Rattle.strip_laws.proofs.object_laws.StandLaws.{section_count-placed, joined-placed}
+use Rattle.strip_laws.proofs.object_laws.AgainLaws.{placed_section_header}
+use Rattle.strip_laws.proofs.object_laws.SettledLaws.{unrefused, section_raw, section_extent, settle-dirty}
 use Rattle.hash_laws.proofs.SameLaws.{content_by, content_as, blocks_of, is_missing, string_of, string_by}
 
 -- ---- A piece alone

@@ -13,11 +13,11 @@ use Rattle.elf_xlate.specs.declared.content.Items.{Items}
 use Rattle.elf_xlate.specs.declared.content.Items.TheVariants as items
 use Rattle.elf_xlate.specs.Items.{IsSym, IsRel, IsRela}
 use Rattle.elf_xlate.specs.Translation.{AreItems, items_kind}
-use Rattle.elf_object.specs.Object.{Object, section_at}
-use Rattle.elf_object.specs.Answers.{items_at, syms_of, no_content}
-use Rattle.elf_object.proofs.AnswerLaws.{lend_kind, lend_passed}
-use Rattle.elf_object.specs.Sections.{header_at}
-use Rattle.hash_model.specs.Reordered.{in_order, with_rel, with_rela, kind_by_symbols, items_by_symbols, reordered, reorder_refusal}
+use Rattle.command_objects.specs.elf_object.Object.{Object, section_at}
+use Rattle.command_objects.specs.elf_object.Answers.{items_at, syms_of, no_content}
+use Rattle.command_objects.proofs.elf_object.AnswerLaws.{lend_kind, lend_passed}
+use Rattle.command_objects.specs.elf_object.Sections.{header_at}
+use Rattle.command_objects.specs.hash_model.Reordered.{in_order, with_rel, with_rela, kind_by_symbols, items_by_symbols, reordered, reorder_refusal}
 use Rattle.strip_laws.proofs.OrderLaws.{new_index_small}
 use Rattle.hash_laws.proofs.ReorderedLaws.{owned, symbols_lent, item_lent, reordered_table, reordered_section_is}
 

@@ -12,14 +12,14 @@ use Rattle.elf_types.specs.declared.records.Kind.TheVariants as kinds
 use Rattle.elf_types.specs.declared.records.Shdr.{Shdr}
 use Rattle.elf_xlate.specs.declared.content.Items.{Items}
 use Rattle.elf_xlate.specs.declared.content.Items.TheVariants as items
-use Rattle.elf_object.specs.Object.{Object, Section, Piece, section_at, piece_at, home_piece}
-use Rattle.elf_object.specs.Answers.{content, items_at, count_at, syms_of, kind_at, piece_count, no_section, no_data, wrong_kind, no_content, lend_refusal}
-use Rattle.elf_object.specs.Steps.{own_piece, with_own, with_piece_at, with_section, with_shdr}
-use Rattle.elf_object.specs.Due.{all_sections}
-use Rattle.elf_object.proofs.PassedLaws.{none_first, none_rest}
-use Rattle.elf_object.proofs.StepLaws.{same_kind-same, section_at-with_own, section_at-with_own_other, section_count-with_own, piece_count-with_own, piece_at-with_own, items_at-with_own, kind_at-with_own, section_count-with_section, section_at-with_shdr, section_at-with_shdr_other}
-use Rattle.elf_object.specs.Sections.{header_at}
-use Rattle.hash_model.specs.Reordered.{in_order, new_index, kind_by_symbols, items_by_symbols, with_signature, reordered_section, reordered, too_few_items, reorder_refusal_of, reorder_refusal}
+use Rattle.command_objects.specs.elf_object.Object.{Object, Section, Piece, section_at, piece_at, home_piece}
+use Rattle.command_objects.specs.elf_object.Answers.{content, items_at, count_at, syms_of, kind_at, piece_count, no_section, no_data, wrong_kind, no_content, lend_refusal}
+use Rattle.command_objects.specs.elf_object.Steps.{own_piece, with_own, with_piece_at, with_section, with_shdr}
+use Rattle.command_objects.specs.elf_object.Due.{all_sections}
+use Rattle.command_objects.proofs.elf_object.PassedLaws.{none_first, none_rest}
+use Rattle.command_objects.proofs.elf_object.StepLaws.{same_kind-same, section_at-with_own, section_at-with_own_other, section_count-with_own, piece_count-with_own, piece_at-with_own, items_at-with_own, kind_at-with_own, section_count-with_section, section_at-with_shdr, section_at-with_shdr_other}
+use Rattle.command_objects.specs.elf_object.Sections.{header_at}
+use Rattle.command_objects.specs.hash_model.Reordered.{in_order, new_index, kind_by_symbols, items_by_symbols, with_signature, reordered_section, reordered, too_few_items, reorder_refusal_of, reorder_refusal}
 use Rattle.hash_laws.proofs.TypeLaws.{apart_types, there_by_type, lent_there, lent_piece}
 use Rattle.hash_order.proofs.StoreLaws.{IsSameAt, same_items, same_lend}
 use Rattle.hash_laws.proofs.SameLaws.{SameStrings, strings_stay, strings_both}

@@ -15,13 +15,13 @@ use Rattle.elf_types.specs.declared.errors.ElfError.TheVariants.{NoSection, OutO
 use Rattle.elf_xlate.specs.declared.content.Items.{Items}
 use Rattle.elf_xlate.specs.Translation.{decoded}
 use Rattle.strtab_build.specs.Table.{string_at}
-use Rattle.elf_object.specs.Blocks.{Block, block_covers, stacked, last_end}
-use Rattle.elf_object.specs.Joined.{aligned_pieces, piece_blocks, pieces_end}
-use Rattle.elf_object.specs.Object.{Object, Section, section_at, home_is_clean}
-use Rattle.elf_object.specs.Answers.{content, items_at, syms_of}
-use Rattle.elf_object.specs.Strings.{holds_strings, has_nul, bytes_from, piece_over, string_refusal_unread, string_refusal, string_answer, readable, symbol_name}
-use Rattle.elf_object.specs.Sections.{header_at}
-use Rattle.hash_model.specs.Listed.{not_empty, is_defined_global, listed_name, listed_names}
+use Rattle.command_objects.specs.elf_object.Blocks.{Block, block_covers, stacked, last_end}
+use Rattle.command_objects.specs.elf_object.Joined.{aligned_pieces, piece_blocks, pieces_end}
+use Rattle.command_objects.specs.elf_object.Object.{Object, Section, section_at, home_is_clean}
+use Rattle.command_objects.specs.elf_object.Answers.{content, items_at, syms_of}
+use Rattle.command_objects.specs.elf_object.Strings.{holds_strings, has_nul, bytes_from, piece_over, string_refusal_unread, string_refusal, string_answer, readable, symbol_name}
+use Rattle.command_objects.specs.elf_object.Sections.{header_at}
+use Rattle.command_objects.specs.hash_model.Listed.{not_empty, is_defined_global, listed_name, listed_names}
 
 -- ---- Content
 

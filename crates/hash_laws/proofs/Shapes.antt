@@ -5,7 +5,7 @@ use Rattle.std.proofs.lemmas.Bool.{and_parts, cond_both, leb-true, ltb-true}
 use Rattle.elf_types.specs.declared.records.Class.{Class}
 use Rattle.elf_types.specs.declared.records.Class.TheVariants.{C32, C64}
 use Rattle.elf_types.specs.declared.records.Order.{Order}
-use Rattle.hash_model.specs.BuiltHashes.{GnuShape}
+use Rattle.command_objects.specs.hash_model.BuiltHashes.{GnuShape}
 use Rattle.command_objects.specs.Laws.{IsShape}
 use Rattle.command_objects.specs.Rehashed.{is_moderate, smallest_shape, shape_at, is_usable, shape_of, nbucket_of}
 

@@ -11,7 +11,7 @@ use Rattle.std.proofs.lemmas.List.FromFn.{length-range_with_len, get_or-range_wi
 use Rattle.std.proofs.lemmas.List.Sums.{position_or_len_is, fails_before_first, passes_at_first}
 use Rattle.std.proofs.lemmas.Option.{slice_get-get_or, slice_get_past, slice_get_within, get_or_from_slice_get}
 use Rattle.elf_layout.specs.Meeting.{inserted_by, sorted_by}
-use Rattle.hash_model.specs.Reordered.{new_index}
+use Rattle.command_objects.specs.hash_model.Reordered.{new_index}
 
 -- ---- What passes stays in its order
 

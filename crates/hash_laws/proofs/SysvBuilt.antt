@@ -9,9 +9,9 @@ use Rattle.std.proofs.lemmas.List.{length-map, length-append, take_at, drop_at}
 use Rattle.std.proofs.lemmas.List.Folds.{list_all-map}
 use Rattle.std.proofs.lemmas.List.FromFn.{length-map-range_with_len, get_or-map-range_with_len}
 use Rattle.std.proofs.lemmas.Option.{slice_get-get_or}
-use Rattle.hash_model.specs.Hashes.{elf_hash}
-use Rattle.hash_model.specs.HashSections.{SysvHash, sysv_words, sysv_in, sysv_chain, sysv_chain_of, is_on, is_whole_sysv, ends, each_listed}
-use Rattle.hash_model.specs.BuiltHashes.{buckets_of, in_bucket, is_in, first_in, next_in, sysv_built}
+use Rattle.command_objects.specs.hash_model.Hashes.{elf_hash}
+use Rattle.command_objects.specs.hash_model.HashSections.{SysvHash, sysv_words, sysv_in, sysv_chain, sysv_chain_of, is_on, is_whole_sysv, ends, each_listed}
+use Rattle.command_objects.specs.hash_model.BuiltHashes.{buckets_of, in_bucket, is_in, first_in, next_in, sysv_built}
 use Rattle.hash_build.proofs.ListedLaws.{option_at}
 use Rattle.hash_build.proofs.RangeLaws.{is_here, first_at, first_none, first_step, first_all, next_some}
 use Rattle.hash_laws.proofs.NameLaws.{each_is, each_passes, six, among, in_some, in_its}

@@ -6,11 +6,11 @@ use Rattle.std.proofs.lemmas.List.{get_or_past}
 use Rattle.elf_types.specs.declared.errors.ElfError.TheVariants.{NoSection, NoData}
 use Rattle.elf_types.specs.declared.records.Kind.{Kind}
 use Rattle.elf_ident.specs.Front.{zero_shdr}
-use Rattle.elf_object.specs.Object.{Object, Section, section_at, absent_section}
-use Rattle.elf_object.specs.Answers.{piece_count, lend_refusal}
-use Rattle.elf_object.proofs.AnswerLaws.{lend_passed}
-use Rattle.elf_object.proofs.PassedLaws.{not_refused}
-use Rattle.elf_object.specs.Sections.{header_at}
+use Rattle.command_objects.specs.elf_object.Object.{Object, Section, section_at, absent_section}
+use Rattle.command_objects.specs.elf_object.Answers.{piece_count, lend_refusal}
+use Rattle.command_objects.proofs.elf_object.AnswerLaws.{lend_passed}
+use Rattle.command_objects.proofs.elf_object.PassedLaws.{not_refused}
+use Rattle.command_objects.specs.elf_object.Sections.{header_at}
 
 -- ---- Section types
 

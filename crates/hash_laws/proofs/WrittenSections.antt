@@ -16,24 +16,24 @@ use Rattle.elf_xlate.specs.Translation.{AreItems, decoded, items_kind}
 use Rattle.elf_xlate.proofs.Narrow.{decoded_ranged}
 use Rattle.elf_ident.specs.declared.fronts.Front.{Front}
 use Rattle.elf_ident.specs.Front.{front, zero_shdr}
-use Rattle.elf_object.specs.Object.{Object, Section, Piece, absent_section, section_at, piece_at, occupies_file, home_piece, is_dirty}
-use Rattle.elf_object.specs.Open.{home_of, opened_section, begun, begun_or_refused, opened}
-use Rattle.elf_object.specs.Answers.{content, or_empty, items_at, kind_at, piece_count, no_section, no_data, wrong_kind, no_content, lend_refusal}
-use Rattle.elf_object.specs.Image.{image}
-use Rattle.elf_object.specs.Joined.{file_bytes}
-use Rattle.elf_object.specs.Layout.{places_of, placed_by}
-use Rattle.elf_object.specs.Refusal.{refusal}
-use Rattle.elf_object.specs.Settled.{settled_section, settle}
-use Rattle.elf_object.specs.Steps.{own_piece}
-use Rattle.elf_object.specs.Strings.{readable, string_answer}
-use Rattle.elf_object.specs.Valid.{IsObject, as_opened}
-use Rattle.elf_object.proofs.AnswerLaws.{items_kind_at}
-use Rattle.elf_object.proofs.SettledSections.{section_at-settled}
-use Rattle.elf_object.proofs.StepLaws.{same_kind-same}
-use Rattle.object_laws.specs.Laws.{SettlingKeepsItems}
-use Rattle.object_laws.proofs.AgainLaws.{stype-placed}
-use Rattle.object_laws.proofs.KeepLaws.{section_at_is}
-use Rattle.object_laws.proofs.StandLaws.{section_count-placed}
+use Rattle.command_objects.specs.elf_object.Object.{Object, Section, Piece, absent_section, section_at, piece_at, occupies_file, home_piece, is_dirty}
+use Rattle.command_objects.specs.elf_object.Open.{home_of, opened_section, begun, begun_or_refused, opened}
+use Rattle.command_objects.specs.elf_object.Answers.{content, or_empty, items_at, kind_at, piece_count, no_section, no_data, wrong_kind, no_content, lend_refusal}
+use Rattle.command_objects.specs.elf_object.Image.{image}
+use Rattle.command_objects.specs.elf_object.Joined.{file_bytes}
+use Rattle.command_objects.specs.elf_object.Layout.{places_of, placed_by}
+use Rattle.command_objects.specs.elf_object.Refusal.{refusal}
+use Rattle.command_objects.specs.elf_object.Settled.{settled_section, settle}
+use Rattle.command_objects.specs.elf_object.Steps.{own_piece}
+use Rattle.command_objects.specs.elf_object.Strings.{readable, string_answer}
+use Rattle.command_objects.specs.elf_object.Valid.{IsObject, as_opened}
+use Rattle.command_objects.proofs.elf_object.AnswerLaws.{items_kind_at}
+use Rattle.command_objects.proofs.elf_object.SettledSections.{section_at-settled}
+use Rattle.command_objects.proofs.elf_object.StepLaws.{same_kind-same}
+use Rattle.strip_laws.specs.object_laws.Laws.{SettlingKeepsItems}
+use Rattle.strip_laws.proofs.object_laws.AgainLaws.{stype-placed}
+use Rattle.strip_laws.proofs.object_laws.KeepLaws.{section_at_is}
+use Rattle.strip_laws.proofs.object_laws.StandLaws.{section_count-placed}
 use Rattle.hash_laws.proofs.ReorderedLaws.{four_none}
 use Rattle.hash_laws.proofs.ReorderedItems.{HasOwn, IsOwnOrSame}
 use Rattle.hash_laws.proofs.ReopenedSections.{IsHomeAlone, settled, home_items, again_count, again_clean, again_kind, again_link, clean_again, clean_content, string_again}

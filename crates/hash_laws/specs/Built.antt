@@ -2,10 +2,10 @@
 -- Table"; GNU's hash section).
 use Rattle.std.specs.Prelude.{◌≡◌, ℕ, ◌<◌, ◌^◌, List, None, Ok}
 use Rattle.elf_types.specs.declared.records.Kind.TheVariants as kinds
-use Rattle.elf_object.specs.Object.{Object}
-use Rattle.elf_object.specs.Answers.{bytes_of, words_of, items_at, lend_refusal}
-use Rattle.hash_model.specs.Listed.{find_linear_answer}
-use Rattle.hash_model.specs.BuiltHashes.{GnuShape, build_sysv_answer, build_gnu_answer}
+use Rattle.command_objects.specs.elf_object.Object.{Object}
+use Rattle.command_objects.specs.elf_object.Answers.{bytes_of, words_of, items_at, lend_refusal}
+use Rattle.command_objects.specs.hash_model.Listed.{find_linear_answer}
+use Rattle.command_objects.specs.hash_model.BuiltHashes.{GnuShape, build_sysv_answer, build_gnu_answer}
 use Rattle.command_objects.specs.Laws.{IsShape}
 use Rattle.symbol_lookup.specs.Lookups.{link_of, find_sysv_answer, find_gnu_answer}
 

@@ -2,9 +2,9 @@
 -- hold in the image that it writes.
 use Rattle.std.specs.Prelude.{◌≡◌, ◌≢◌, ℕ, ◌<◌, List, Some, Ok}
 use Rattle.elf_types.specs.declared.constants.TheConstants.{SHT_REL, SHT_RELA, SHT_STRTAB}
-use Rattle.elf_object.specs.Object.{Object}
-use Rattle.elf_object.specs.Sections.{header_at}
-use Rattle.hash_model.specs.BuiltHashes.{GnuShape}
+use Rattle.command_objects.specs.elf_object.Object.{Object}
+use Rattle.command_objects.specs.elf_object.Sections.{header_at}
+use Rattle.command_objects.specs.hash_model.BuiltHashes.{GnuShape}
 use Rattle.command_objects.specs.Laws.{IsRehashed, LooksUpAlike, NamesAlike, rel_symbol, rela_symbol, RehashKeepsLookup}
 use Rattle.command_objects.specs.Rehashed.{dynamic_symbols, gnu_section, sysv_section, rehashed}
 use Rattle.hash_laws.specs.Built.{HoldsSysv, HoldsGnu}

@@ -5,7 +5,7 @@ ghost use Rattle.hash_laws.specs.Built.{BuiltAreFound};
 ghost use Rattle.hash_laws.specs.Rehash.{RehashedKeepsLookup, RehashRebuilds, RehashWrites};
 ghost use Rattle.command_objects.specs.Laws.{BuiltHashesAreWhole, RehashLaw};
 
-use object_laws::laws::{reopen_law, settling_keeps_items};
+use strip_laws::prelude::{reopen_law, settling_keeps_items};
 
 /// The hash sections that are built for a symbol table are whole: each listed symbol is on the
 /// chain of its bucket, and every chain ends.

@@ -8,7 +8,7 @@ use Rattle.elf_types.specs.declared.records.Class.{Class}
 use Rattle.elf_types.specs.declared.records.Kind.TheVariants as kinds
 use Rattle.elf_types.specs.declared.errors.ElfError.{ElfError}
 use Rattle.elf_types.specs.declared.errors.ElfError.TheVariants.{TooMany, Unsorted}
-use Rattle.elf_layout.specs.Meeting.{sorted_by}
+use Rattle.elf_object.specs.elf_layout.Meeting.{sorted_by}
 use Rattle.elf_object.specs.Object.{Object}
 use Rattle.elf_object.specs.Answers.{lend_refusal, count_at}
 use Rattle.hash_model.specs.Hashes.{elf_hash, gnu_hash}

@@ -7,7 +7,7 @@ use Rattle.std.specs.Option.{option_map}
 use Rattle.elf_types.specs.declared.records.Class.{Class}
 use Rattle.elf_types.specs.declared.records.Class.TheVariants.{C32, C64}
 use Rattle.elf_types.specs.declared.records.Order.{Order}
-use Rattle.elf_xlate.specs.Numbers.{number_at, octets}
+use Rattle.elf_object.specs.elf_xlate.Numbers.{number_at, octets}
 use Rattle.hash_model.specs.Hashes.{elf_hash, gnu_hash}
 use Rattle.elf_object.specs.Sections.{is_among}
 

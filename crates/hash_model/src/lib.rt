@@ -2,3 +2,5 @@
 //! type HASH and GNU_HASH hold, how they are built, and a symbol table in another order (gABI
 //! chapter 5, "Hash Table"). They stand in `specs/`.
 #![tactic(auto)]
+
+pub mod prelude;

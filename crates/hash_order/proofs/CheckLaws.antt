@@ -4,11 +4,11 @@ use Rattle.std.specs.List.{range_with_len}
 use Rattle.elf_types.specs.declared.errors.ElfError.{ElfError}
 use Rattle.elf_types.specs.Answers.{answered, first_refusal}
 use Rattle.elf_types.specs.declared.records.Kind.TheVariants as kinds
-use Rattle.elf_object.specs.Object.{Object}
-use Rattle.elf_object.specs.Answers.{lend_refusal}
-use Rattle.elf_object.specs.Due.{all_sections}
-use Rattle.elf_object.proofs.AnswerLaws.{answered_value, answered_refusal}
-use Rattle.hash_model.specs.Reordered.{reorder_refusal, reorder_refusal_of}
+use Rattle.symbol_lookup.specs.elf_object.Object.{Object}
+use Rattle.symbol_lookup.specs.elf_object.Answers.{lend_refusal}
+use Rattle.symbol_lookup.specs.elf_object.Due.{all_sections}
+use Rattle.symbol_lookup.proofs.elf_object.AnswerLaws.{answered_value, answered_refusal}
+use Rattle.symbol_lookup.specs.hash_model.Reordered.{reorder_refusal, reorder_refusal_of}
 
 module _ (f : ℕ → Option ElfError) (n : ℕ) where
   -- what is left to check

@@ -9,16 +9,16 @@ use Rattle.elf_xlate.specs.declared.content.Items.{Items}
 use Rattle.elf_outside.specs.declared.sources.Source.{Ghosts}
 use Rattle.elf_outside.specs.Asks.{ReadRose}
 use Rattle.elf_outside.proofs.AskLemmas.{read_rose_on}
-use Rattle.elf_object.specs.Words.{Answers, AlikeItems, IsLike}
-use Rattle.elf_object.specs.Object.{Object, piece_at}
-use Rattle.elf_object.specs.Answers.{lend_refusal, data_refusal, no_data, no_content, items_at}
-use Rattle.elf_object.specs.Due.{is_loaded, holds_items}
-use Rattle.elf_object.specs.Calls.{data_answer}
-use Rattle.elf_object.specs.Calls as calls
-use Rattle.elf_object.proofs.AnswerLaws.{data_value, lend_passed}
-use Rattle.elf_descriptor.specs.State.{State}
-use Rattle.elf_descriptor.specs.Reads.{wanted}
-use Rattle.elf_descriptor.specs.Rests.{GivesItems}
+use Rattle.symbol_lookup.specs.elf_object.Words.{Answers, AlikeItems, IsLike}
+use Rattle.symbol_lookup.specs.elf_object.Object.{Object, piece_at}
+use Rattle.symbol_lookup.specs.elf_object.Answers.{lend_refusal, data_refusal, no_data, no_content, items_at}
+use Rattle.symbol_lookup.specs.elf_object.Due.{is_loaded, holds_items}
+use Rattle.symbol_lookup.specs.elf_object.Calls.{data_answer}
+use Rattle.symbol_lookup.specs.elf_object.Calls as calls
+use Rattle.symbol_lookup.proofs.elf_object.AnswerLaws.{data_value, lend_passed}
+use Rattle.symbol_lookup.specs.elf_descriptor.State.{State}
+use Rattle.symbol_lookup.specs.elf_descriptor.Reads.{wanted}
+use Rattle.symbol_lookup.specs.elf_descriptor.Rests.{GivesItems}
 use Rattle.symbol_lookup.proofs.SearchLaws.{IsFew}
 use Rattle.hash_order.specs.Plans.{IsAtHand}
 use Rattle.hash_order.specs.Reading.{ReadsHomes}

@@ -15,17 +15,17 @@ use Rattle.elf_xlate.specs.Translation.{decoded}
 use Rattle.elf_outside.specs.declared.sources.Source.{Ghosts}
 use Rattle.elf_outside.specs.Asks.{Asks, ReadRose}
 use Rattle.elf_outside.proofs.AskLemmas.{asks_both, asks_fewer}
-use Rattle.elf_object.specs.Words.{Answers}
-use Rattle.elf_object.specs.Object.{Object, section_at, piece_at}
-use Rattle.elf_object.specs.Answers.{items_at, syms_of, count_at, content, no_section, no_data, wrong_kind, no_content, lend_refusal}
-use Rattle.elf_object.specs.Due.{homes_due, unless_refused, all_sections}
-use Rattle.elf_object.specs.Steps.{with_own}
-use Rattle.elf_object.proofs.AnswerLaws.{answered_refusal, answers_refused}
-use Rattle.elf_object.proofs.RefusalLaws.{Refuses, test_refuses, first_refuses}
-use Rattle.elf_descriptor.specs.State.{State}
-use Rattle.elf_descriptor.proofs.LendLaws.{lend_there}
-use Rattle.elf_object.specs.Sections.{header_at}
-use Rattle.hash_model.specs.Reordered.{kind_by_symbols, in_order, reorder_refusal, reorder_refusal_of, too_few_items}
+use Rattle.symbol_lookup.specs.elf_object.Words.{Answers}
+use Rattle.symbol_lookup.specs.elf_object.Object.{Object, section_at, piece_at}
+use Rattle.symbol_lookup.specs.elf_object.Answers.{items_at, syms_of, count_at, content, no_section, no_data, wrong_kind, no_content, lend_refusal}
+use Rattle.symbol_lookup.specs.elf_object.Due.{homes_due, unless_refused, all_sections}
+use Rattle.symbol_lookup.specs.elf_object.Steps.{with_own}
+use Rattle.symbol_lookup.proofs.elf_object.AnswerLaws.{answered_refusal, answers_refused}
+use Rattle.symbol_lookup.proofs.elf_object.RefusalLaws.{Refuses, test_refuses, first_refuses}
+use Rattle.symbol_lookup.specs.elf_descriptor.State.{State}
+use Rattle.symbol_lookup.proofs.elf_descriptor.LendLaws.{lend_there}
+use Rattle.symbol_lookup.specs.elf_object.Sections.{header_at}
+use Rattle.symbol_lookup.specs.hash_model.Reordered.{kind_by_symbols, in_order, reorder_refusal, reorder_refusal_of, too_few_items}
 use Rattle.hash_order.specs.declared.nexts.Next.{Next}
 use Rattle.hash_order.specs.Plans.{given_by, stored, IsNoItems, IsPlan, BecomesOrdered}
 use Rattle.hash_order.specs.Reading.{MayStop, ReadsHomes, Stores}

@@ -13,16 +13,16 @@ use Rattle.elf_types.specs.declared.records.Part.TheVariants as part
 use Rattle.elf_types.specs.declared.constants.TheConstants.{SHT_GROUP}
 use Rattle.elf_types.specs.Answers.{refused_if, first_refusal, answered}
 use Rattle.elf_xlate.specs.Headers.{shdr_fits}
-use Rattle.elf_object.specs.Object.{Object, piece_at}
-use Rattle.elf_object.specs.Answers.{count_at, items_at, lend_refusal, reserved}
-use Rattle.elf_object.specs.Due.{all_sections}
-use Rattle.elf_object.specs.Calls.{update_shdr_refusal}
-use Rattle.elf_object.specs.Valid.{IsObject}
-use Rattle.elf_object.proofs.AnswerLaws.{lend_passed}
-use Rattle.elf_object.proofs.PassedLaws.{none_first, none_rest}
-use Rattle.object_laws.proofs.KeepLaws.{section_at_is}
-use Rattle.elf_object.specs.Sections.{header_at}
-use Rattle.hash_model.specs.Reordered.{kind_by_symbols, items_by_symbols, new_index, too_few_items, reorder_refusal, reorder_refusal_of}
+use Rattle.symbol_lookup.specs.elf_object.Object.{Object, piece_at}
+use Rattle.symbol_lookup.specs.elf_object.Answers.{count_at, items_at, lend_refusal, reserved}
+use Rattle.symbol_lookup.specs.elf_object.Due.{all_sections}
+use Rattle.symbol_lookup.specs.elf_object.Calls.{update_shdr_refusal}
+use Rattle.symbol_lookup.specs.elf_object.Valid.{IsObject}
+use Rattle.symbol_lookup.proofs.elf_object.AnswerLaws.{lend_passed}
+use Rattle.symbol_lookup.proofs.elf_object.PassedLaws.{none_first, none_rest}
+use Rattle.symbol_lookup.proofs.object_laws.KeepLaws.{section_at_is}
+use Rattle.symbol_lookup.specs.elf_object.Sections.{header_at}
+use Rattle.symbol_lookup.specs.hash_model.Reordered.{kind_by_symbols, items_by_symbols, new_index, too_few_items, reorder_refusal, reorder_refusal_of}
 use Rattle.hash_order.specs.declared.nexts.Next.{Next}
 use Rattle.hash_order.specs.declared.nexts.Next.TheVariants as nexts
 use Rattle.hash_order.specs.Kinds.{IsByIndex, CanFollow}

@@ -7,7 +7,7 @@ use Rattle.std.proofs.lemmas.List.{drop_more, drop_all, map-id, map_push, length
 use Rattle.std.proofs.lemmas.List.FromFn.{length-range_with_len, get_or-range_with_len, map-range_with_len_more}
 use Rattle.std.proofs.lemmas.List.Sums.{position_or_len_is}
 use Rattle.std.proofs.lemmas.Option.{slice_get_cases, get_or_from_slice_get}
-use Rattle.hash_model.specs.Reordered.{new_index}
+use Rattle.symbol_lookup.specs.hash_model.Reordered.{new_index}
 use Rattle.hash_order.specs.Indexes.{AreBelow, AreNewIndexes}
 
 -- ---- The first place in a list

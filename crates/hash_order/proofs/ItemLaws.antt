@@ -12,13 +12,13 @@ use Rattle.elf_types.specs.declared.records.Sym.{Sym}
 use Rattle.elf_xlate.specs.declared.content.Items.{Items}
 use Rattle.elf_xlate.specs.declared.content.Items.TheVariants as items
 use Rattle.elf_xlate.specs.Translation.{items_kind, items_count}
-use Rattle.elf_object.specs.Words.{AlikeItems, result_map}
-use Rattle.elf_object.specs.Object.{Object}
-use Rattle.elf_object.specs.Answers.{items_at, count_at, syms_of, lend_refusal}
-use Rattle.elf_object.proofs.AnswerLaws.{lend_kind}
-use Rattle.elf_object.proofs.ItemCounts.{syms_counted}
-use Rattle.elf_descriptor.specs.State.{State}
-use Rattle.hash_model.specs.Reordered.{in_order, moved_along, with_rel, with_rela, items_by_symbols}
+use Rattle.symbol_lookup.specs.elf_object.Words.{AlikeItems, result_map}
+use Rattle.symbol_lookup.specs.elf_object.Object.{Object}
+use Rattle.symbol_lookup.specs.elf_object.Answers.{items_at, count_at, syms_of, lend_refusal}
+use Rattle.symbol_lookup.proofs.elf_object.AnswerLaws.{lend_kind}
+use Rattle.symbol_lookup.proofs.elf_object.ItemCounts.{syms_counted}
+use Rattle.symbol_lookup.specs.elf_descriptor.State.{State}
+use Rattle.symbol_lookup.specs.hash_model.Reordered.{in_order, moved_along, with_rel, with_rela, items_by_symbols}
 use Rattle.hash_order.specs.declared.nexts.Next.TheVariants as nexts
 use Rattle.hash_order.specs.Indexes.{AreBelow, item_or_none}
 use Rattle.hash_order.specs.Kinds.{IsByIndex, CanFollow, MovesBy}

@@ -6,7 +6,7 @@ use Rattle.std.proofs.lemmas.List.{take_more, take_all}
 use Rattle.std.proofs.lemmas.List.Edits.{map_over_more}
 use Rattle.std.proofs.lemmas.List.Concat.{flat_map-append}
 use Rattle.elf_types.specs.declared.errors.ElfError.{ElfError}
-use Rattle.hash_model.specs.Reordered.{in_order}
+use Rattle.symbol_lookup.specs.hash_model.Reordered.{in_order}
 use Rattle.hash_order.specs.Indexes.{item_or_none}
 
 -- what is appended is a list that is known

@@ -8,11 +8,11 @@ use Rattle.elf_types.specs.declared.records.Sym.{Sym}
 use Rattle.elf_types.specs.declared.constants.TheConstants.{SHT_GROUP}
 use Rattle.elf_xlate.specs.declared.content.Items.{Items}
 use Rattle.elf_xlate.specs.declared.content.Items.TheVariants as items
-use Rattle.elf_object.specs.Object.{Object, Section, section_at}
-use Rattle.elf_object.specs.Answers.{items_at, syms_of}
-use Rattle.elf_object.specs.Steps.{with_own, with_shdr}
-use Rattle.elf_object.specs.Sections.{header_at}
-use Rattle.hash_model.specs.Reordered.{kind_by_symbols, items_by_symbols, in_order, new_index, reordered, reordered_section, reorder_refusal}
+use Rattle.symbol_lookup.specs.elf_object.Object.{Object, Section, section_at}
+use Rattle.symbol_lookup.specs.elf_object.Answers.{items_at, syms_of}
+use Rattle.symbol_lookup.specs.elf_object.Steps.{with_own, with_shdr}
+use Rattle.symbol_lookup.specs.elf_object.Sections.{header_at}
+use Rattle.symbol_lookup.specs.hash_model.Reordered.{kind_by_symbols, items_by_symbols, in_order, new_index, reordered, reordered_section, reorder_refusal}
 use Rattle.hash_order.specs.declared.nexts.Next.{Next}
 use Rattle.hash_order.specs.declared.nexts.Next.TheVariants as nexts
 use Rattle.hash_order.specs.Plans.{planned, gets, stored, given_by, IsNext, IsNoItems, IsPlan, BecomesOrdered}

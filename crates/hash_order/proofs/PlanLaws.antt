@@ -7,12 +7,12 @@ use Rattle.elf_types.specs.declared.errors.ElfError.{ElfError}
 use Rattle.elf_types.specs.declared.records.Kind.{Kind}
 use Rattle.elf_xlate.specs.Translation.{items_kind}
 use Rattle.elf_outside.specs.declared.sources.Source.{Ghosts}
-use Rattle.elf_object.specs.Object.{Object, piece_at}
-use Rattle.elf_object.specs.Answers.{lend_refusal}
-use Rattle.elf_object.specs.Calls.{update_shdr_refusal}
-use Rattle.elf_object.specs.Valid.{IsObject}
-use Rattle.elf_descriptor.specs.State.{State}
-use Rattle.hash_model.specs.Reordered.{new_index}
+use Rattle.symbol_lookup.specs.elf_object.Object.{Object, piece_at}
+use Rattle.symbol_lookup.specs.elf_object.Answers.{lend_refusal}
+use Rattle.symbol_lookup.specs.elf_object.Calls.{update_shdr_refusal}
+use Rattle.symbol_lookup.specs.elf_object.Valid.{IsObject}
+use Rattle.symbol_lookup.specs.elf_descriptor.State.{State}
+use Rattle.symbol_lookup.specs.hash_model.Reordered.{new_index}
 use Rattle.hash_build.specs.Rows.{IsOrder}
 use Rattle.hash_order.specs.Indexes.{AreBelow}
 use Rattle.hash_order.specs.declared.nexts.Next.{Next}

@@ -8,12 +8,12 @@ use Rattle.elf_types.specs.Answers.{IsRefusal}
 use Rattle.elf_outside.specs.declared.sources.Source.{Ghosts}
 use Rattle.elf_outside.specs.Asks.{ReadRose}
 use Rattle.elf_outside.proofs.AskLemmas.{read_rose_on}
-use Rattle.elf_object.specs.Object.{Object, piece_at}
-use Rattle.elf_object.specs.Due.{is_loaded, homes_due, is_refused_unread, unless_refused, when_piece_clean}
-use Rattle.elf_object.specs.Calls.{Call}
-use Rattle.elf_descriptor.specs.State.{State}
-use Rattle.elf_descriptor.specs.Reads.{Reads, Queries}
-use Rattle.elf_descriptor.proofs.ReadsLaws.{reads_then, reads_nothing, dues_stay, reads_among}
+use Rattle.symbol_lookup.specs.elf_object.Object.{Object, piece_at}
+use Rattle.symbol_lookup.specs.elf_object.Due.{is_loaded, homes_due, is_refused_unread, unless_refused, when_piece_clean}
+use Rattle.symbol_lookup.specs.elf_object.Calls.{Call}
+use Rattle.symbol_lookup.specs.elf_descriptor.State.{State}
+use Rattle.symbol_lookup.specs.elf_descriptor.Reads.{Reads, Queries}
+use Rattle.symbol_lookup.proofs.elf_descriptor.ReadsLaws.{reads_then, reads_nothing, dues_stay, reads_among}
 use Rattle.symbol_lookup.proofs.SearchLaws.{IsFew, reads_few, few_due}
 use Rattle.hash_order.specs.Reading.{MayStop, ReadsHomes}
 

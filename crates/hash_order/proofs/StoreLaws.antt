@@ -18,21 +18,21 @@ use Rattle.elf_xlate.specs.Translation.{decoded, items_kind}
 use Rattle.elf_outside.specs.declared.sources.Source.{Ghosts}
 use Rattle.elf_outside.specs.Asks.{Asks}
 use Rattle.elf_outside.proofs.AskLemmas.{asks_both, asks_then, asks_fewer}
-use Rattle.elf_object.specs.Words.{Answers}
-use Rattle.elf_object.specs.Object.{Object, Section, Piece, section_at, piece_at, home_piece}
-use Rattle.elf_object.specs.Answers.{content, or_empty, items_at, kind_at, piece_count, same_kind, no_content, lend_refusal, no_section}
-use Rattle.elf_object.specs.Due.{is_loaded, holds_items, home_due, homes_due, is_refused_unread, unless_refused, when_piece_clean}
-use Rattle.elf_object.specs.Steps.{with_own, with_piece_at, with_section, with_shdr}
-use Rattle.elf_object.specs.Calls.{due, update_shdr_refusal}
-use Rattle.elf_object.specs.Calls as calls
-use Rattle.elf_object.proofs.PassedLaws.{none_first, not_refused}
-use Rattle.elf_object.proofs.StepLaws.{section_count-with_own, section_count-with_section, section_at-with_own, section_at-with_own_other, section_at-with_shdr, section_at-with_shdr_other}
-use Rattle.elf_descriptor.specs.State.{State}
-use Rattle.elf_descriptor.specs.Reads.{wanted}
-use Rattle.elf_descriptor.specs.Lends.{IsLent}
-use Rattle.elf_descriptor.specs.Edits.{stepped}
-use Rattle.elf_descriptor.proofs.LendLaws.{lend_there}
-use Rattle.elf_object.specs.Sections.{header_at}
+use Rattle.symbol_lookup.specs.elf_object.Words.{Answers}
+use Rattle.symbol_lookup.specs.elf_object.Object.{Object, Section, Piece, section_at, piece_at, home_piece}
+use Rattle.symbol_lookup.specs.elf_object.Answers.{content, or_empty, items_at, kind_at, piece_count, same_kind, no_content, lend_refusal, no_section}
+use Rattle.symbol_lookup.specs.elf_object.Due.{is_loaded, holds_items, home_due, homes_due, is_refused_unread, unless_refused, when_piece_clean}
+use Rattle.symbol_lookup.specs.elf_object.Steps.{with_own, with_piece_at, with_section, with_shdr}
+use Rattle.symbol_lookup.specs.elf_object.Calls.{due, update_shdr_refusal}
+use Rattle.symbol_lookup.specs.elf_object.Calls as calls
+use Rattle.symbol_lookup.proofs.elf_object.PassedLaws.{none_first, not_refused}
+use Rattle.symbol_lookup.proofs.elf_object.StepLaws.{section_count-with_own, section_count-with_section, section_at-with_own, section_at-with_own_other, section_at-with_shdr, section_at-with_shdr_other}
+use Rattle.symbol_lookup.specs.elf_descriptor.State.{State}
+use Rattle.symbol_lookup.specs.elf_descriptor.Reads.{wanted}
+use Rattle.symbol_lookup.specs.elf_descriptor.Lends.{IsLent}
+use Rattle.symbol_lookup.specs.elf_descriptor.Edits.{stepped}
+use Rattle.symbol_lookup.proofs.elf_descriptor.LendLaws.{lend_there}
+use Rattle.symbol_lookup.specs.elf_object.Sections.{header_at}
 use Rattle.hash_order.specs.declared.nexts.Next.{Next}
 use Rattle.hash_order.specs.declared.nexts.Next.TheVariants as nexts
 use Rattle.hash_order.specs.Plans.{signed, gets, stored, IsAtHand, IsReady, IsNoItems}

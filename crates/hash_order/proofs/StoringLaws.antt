@@ -6,11 +6,11 @@ use Rattle.elf_types.specs.declared.records.Kind.TheVariants as kinds
 use Rattle.elf_types.specs.declared.records.Sym.{Sym}
 use Rattle.elf_xlate.specs.declared.content.Items.TheVariants as items
 use Rattle.elf_outside.specs.declared.sources.Source.{Ghosts}
-use Rattle.elf_object.specs.Object.{Object}
-use Rattle.elf_object.specs.Steps.{with_own}
-use Rattle.elf_object.proofs.StepLaws.{section_count-with_own}
-use Rattle.elf_descriptor.specs.State.{State}
-use Rattle.elf_descriptor.proofs.LendLaws.{lend_there}
+use Rattle.symbol_lookup.specs.elf_object.Object.{Object}
+use Rattle.symbol_lookup.specs.elf_object.Steps.{with_own}
+use Rattle.symbol_lookup.proofs.elf_object.StepLaws.{section_count-with_own}
+use Rattle.symbol_lookup.specs.elf_descriptor.State.{State}
+use Rattle.symbol_lookup.proofs.elf_descriptor.LendLaws.{lend_there}
 use Rattle.hash_order.specs.declared.nexts.Next.{Next}
 use Rattle.hash_order.specs.declared.nexts.Next.TheVariants as nexts
 use Rattle.hash_order.specs.Plans.{gets, stored, given_by, IsAtHand, IsReady, AreReady, IsNoItems}

@@ -3,12 +3,12 @@ use Rattle.std.specs.Prelude.{◌≡◌, ℕ, Bool, ◌==◌, not, ◌&&◌, ◌
 use Rattle.elf_types.specs.declared.errors.ElfError.{ElfError}
 use Rattle.elf_outside.specs.declared.sources.Source.{Ghosts}
 use Rattle.elf_outside.specs.Asks.{Asks}
-use Rattle.elf_object.specs.Words.{Wants}
-use Rattle.elf_object.specs.Object.{Object, piece_at}
-use Rattle.elf_object.specs.Due.{is_loaded, all_sections, homes_due, unless_refused}
-use Rattle.elf_descriptor.specs.State.{State}
-use Rattle.elf_object.specs.Sections.{header_at}
-use Rattle.hash_model.specs.Reordered.{kind_by_symbols, reorder_refusal}
+use Rattle.symbol_lookup.specs.elf_object.Words.{Wants}
+use Rattle.symbol_lookup.specs.elf_object.Object.{Object, piece_at}
+use Rattle.symbol_lookup.specs.elf_object.Due.{is_loaded, all_sections, homes_due, unless_refused}
+use Rattle.symbol_lookup.specs.elf_descriptor.State.{State}
+use Rattle.symbol_lookup.specs.elf_object.Sections.{header_at}
+use Rattle.symbol_lookup.specs.hash_model.Reordered.{kind_by_symbols, reorder_refusal}
 use Rattle.hash_order.specs.Plans.{BecomesOrdered}
 
 -- the items of section n go by the symbols of section s

@@ -1,6 +1,6 @@
 -- Indexes of symbols that are put in another order.
 use Rattle.std.specs.Prelude.{◌≡◌, ℕ, ◌<◌, List, [], ◌∷◌, length, slice_get, slice_index_or, Some, None}
-use Rattle.hash_model.specs.Reordered.{new_index}
+use Rattle.symbol_lookup.specs.hash_model.Reordered.{new_index}
 
 -- each is below their number
 abbrev pub AreBelow : List ℕ → Type 0

@@ -8,15 +8,15 @@ use Rattle.elf_types.specs.declared.records.Sym.{Sym}
 use Rattle.elf_xlate.specs.declared.content.Items.{Items}
 use Rattle.elf_xlate.specs.declared.content.Items.TheVariants as items
 use Rattle.elf_xlate.specs.Translation.{items_kind}
-use Rattle.elf_object.specs.Words.{AlikeItems}
-use Rattle.elf_object.specs.Object.{Object, piece_at}
-use Rattle.elf_object.specs.Answers.{items_at, lend_refusal}
-use Rattle.elf_object.specs.Steps.{with_own, with_shdr}
-use Rattle.elf_object.specs.Calls.{update_shdr_refusal}
-use Rattle.elf_object.specs.Due.{is_loaded, holds_items}
-use Rattle.elf_descriptor.specs.State.{State}
-use Rattle.elf_object.specs.Sections.{header_at}
-use Rattle.hash_model.specs.Reordered.{kind_by_symbols, items_by_symbols, new_index, reordered}
+use Rattle.symbol_lookup.specs.elf_object.Words.{AlikeItems}
+use Rattle.symbol_lookup.specs.elf_object.Object.{Object, piece_at}
+use Rattle.symbol_lookup.specs.elf_object.Answers.{items_at, lend_refusal}
+use Rattle.symbol_lookup.specs.elf_object.Steps.{with_own, with_shdr}
+use Rattle.symbol_lookup.specs.elf_object.Calls.{update_shdr_refusal}
+use Rattle.symbol_lookup.specs.elf_object.Due.{is_loaded, holds_items}
+use Rattle.symbol_lookup.specs.elf_descriptor.State.{State}
+use Rattle.symbol_lookup.specs.elf_object.Sections.{header_at}
+use Rattle.symbol_lookup.specs.hash_model.Reordered.{kind_by_symbols, items_by_symbols, new_index, reordered}
 use Rattle.hash_order.specs.declared.nexts.Next.{Next}
 use Rattle.hash_order.specs.declared.nexts.Next.TheVariants as nexts
 use Rattle.hash_order.specs.Kinds.{IsByIndex}

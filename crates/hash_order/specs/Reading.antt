@@ -4,11 +4,11 @@ use Rattle.elf_types.specs.declared.errors.ElfError.{ElfError}
 use Rattle.elf_types.specs.declared.errors.ElfError.TheVariants.{Memory, Read}
 use Rattle.elf_outside.specs.declared.sources.Source.{Ghosts}
 use Rattle.elf_outside.specs.Asks.{Asks}
-use Rattle.elf_object.specs.Object.{Object}
-use Rattle.elf_object.specs.Answers.{piece_count}
-use Rattle.elf_object.specs.Due.{is_loaded, holds_items, homes_due}
-use Rattle.elf_descriptor.specs.State.{State}
-use Rattle.elf_descriptor.specs.Reads.{Reads}
+use Rattle.symbol_lookup.specs.elf_object.Object.{Object}
+use Rattle.symbol_lookup.specs.elf_object.Answers.{piece_count}
+use Rattle.symbol_lookup.specs.elf_object.Due.{is_loaded, holds_items, homes_due}
+use Rattle.symbol_lookup.specs.elf_descriptor.State.{State}
+use Rattle.symbol_lookup.specs.elf_descriptor.Reads.{Reads}
 
 -- how a step may end: for want of memory, and by a failed read where a home is not loaded
 abbrev pub MayStop : {S : Type 0} → State S → List ℕ → ElfError → Type 0

@@ -3,16 +3,15 @@
 ghost use Rattle.std.specs.Prelude.{◌≡◌, ◌<◌, ◌∷◌, [], length, map, None};
 ghost use Rattle.elf_types.specs.Answers.{answered, first_refusal};
 ghost use Rattle.elf_types.specs.declared.records.Kind.TheVariants as kinds;
-ghost use Rattle.elf_object.specs.Answers.{count_at, lend_refusal};
-ghost use Rattle.elf_object.specs.Due.{all_sections};
-ghost use Rattle.hash_model.specs.Reordered.{too_few_items, reorder_refusal, reorder_refusal_of};
+ghost use Rattle.symbol_lookup.specs.elf_object.Answers.{count_at, lend_refusal};
+ghost use Rattle.symbol_lookup.specs.elf_object.Due.{all_sections};
+ghost use Rattle.symbol_lookup.specs.hash_model.Reordered.{too_few_items, reorder_refusal, reorder_refusal_of};
 ghost use Rattle.hash_order.specs.Kinds.{IsByIndex};
 
 use crate::kinds::{has_item_each, kind_by_symbols};
-use elf_descriptor::Elf;
 use elf_outside::Source;
 use elf_types::{DataId, ElfError, Kind, Rel, Rela, ScnId, Sym};
-use gelf_view::item_count;
+use symbol_lookup::prelude::{Elf, item_count};
 
 /// The number of items of a kind by which a section may go by symbols. It refuses as a lend of
 /// them.

@@ -3,7 +3,7 @@
 ghost use Rattle.std.specs.Prelude.{◌≡◌, ◌<◌, ◌≤◌, ◌^◌, length, slice_index_or, slice_set, IfOk, IfErr};
 ghost use Rattle.std.specs.List.{range_with_len};
 ghost use Rattle.elf_types.specs.declared.errors.ElfError.TheVariants.{Memory};
-ghost use Rattle.hash_model.specs.Reordered.{new_index};
+ghost use Rattle.symbol_lookup.specs.hash_model.Reordered.{new_index};
 ghost use Rattle.hash_order.specs.Indexes.{AreBelow, AreNewIndexes};
 
 use elf_types::{ElfError, Words};

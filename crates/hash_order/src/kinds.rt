@@ -1,7 +1,7 @@
 //! Sections that go by the symbols of a table.
 
 ghost use Rattle.std.specs.Prelude.{◌≡◌, ◌==◌, ◌||◌};
-ghost use Rattle.hash_model.specs.Reordered.{has_item_each, kind_by_symbols};
+ghost use Rattle.symbol_lookup.specs.hash_model.Reordered.{has_item_each, kind_by_symbols};
 
 use elf_types::Kind;
 use elf_types::constants::{SHT_GNU_VERSYM, SHT_REL, SHT_RELA, SHT_SYMTAB_SHNDX};

@@ -2,7 +2,7 @@
 
 ghost use Rattle.std.specs.Prelude.{◌≡◌, ◌<◌, ◌≤◌, ◌++◌, length, slice_get, slice_index_or, OnOk, IfOk, IfErr};
 ghost use Rattle.elf_types.specs.declared.errors.ElfError.TheVariants.{Memory};
-ghost use Rattle.hash_model.specs.Reordered.{in_order, moved_along};
+ghost use Rattle.symbol_lookup.specs.hash_model.Reordered.{in_order, moved_along};
 ghost use Rattle.hash_order.specs.Indexes.{item_or_none};
 
 use crate::indexes::number_at;

@@ -5,10 +5,10 @@ ghost use Rattle.elf_types.specs.declared.errors.ElfError.TheVariants.{Memory};
 ghost use Rattle.elf_types.specs.declared.constants.TheConstants as constants;
 ghost use Rattle.elf_types.specs.declared.records.Kind.TheVariants as kinds;
 ghost use Rattle.elf_xlate.specs.Translation.{items_kind};
-ghost use Rattle.elf_object.specs.Object.{piece_at};
-ghost use Rattle.elf_object.specs.Answers.{items_at, count_at, syms_of, lend_refusal};
-ghost use Rattle.elf_object.specs.Words.{result_map};
-ghost use Rattle.hash_model.specs.Reordered.{in_order, items_by_symbols, reorder_refusal};
+ghost use Rattle.symbol_lookup.specs.elf_object.Object.{piece_at};
+ghost use Rattle.symbol_lookup.specs.elf_object.Answers.{items_at, count_at, syms_of, lend_refusal};
+ghost use Rattle.symbol_lookup.specs.elf_object.Words.{result_map};
+ghost use Rattle.symbol_lookup.specs.hash_model.Reordered.{in_order, items_by_symbols, reorder_refusal};
 ghost use Rattle.hash_build.specs.Rows.{IsOrder};
 ghost use Rattle.hash_order.specs.Indexes.{AreBelow, AreNewIndexes};
 ghost use Rattle.hash_order.specs.Kinds.{IsByIndex, CanFollow, MovesBy};
@@ -22,12 +22,12 @@ use crate::kinds::kind_by_symbols;
 use crate::moving::{in_order, moved_along};
 use crate::nexts::Next;
 use crate::relocations::followed;
-use elf_descriptor::Elf;
 use elf_outside::Source;
 use elf_types::constants::SHT_GROUP;
 use elf_types::{DataId, ElfError, Kind, ScnId, Shdr, Syms, Words};
 use elf_xlate::Items;
 use std::alloc::Global;
+use symbol_lookup::prelude::Elf;
 
 // ---- Items
 

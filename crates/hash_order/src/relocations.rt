@@ -2,7 +2,7 @@
 
 ghost use Rattle.std.specs.Prelude.{◌≡◌, ℕ, List as Seq, map, IfOk, IfErr};
 ghost use Rattle.elf_types.specs.declared.errors.ElfError.TheVariants.{Memory};
-ghost use Rattle.hash_model.specs.Reordered.{with_rel, with_rela};
+ghost use Rattle.symbol_lookup.specs.hash_model.Reordered.{with_rel, with_rela};
 ghost use Rattle.hash_order.specs.Indexes.{AreBelow, AreNewIndexes};
 
 use crate::indexes::new_index;

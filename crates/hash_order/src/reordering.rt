@@ -3,9 +3,9 @@
 ghost use Rattle.std.specs.Prelude.{◌≡◌, true, length, IsTrue, IfErr, None};
 ghost use Rattle.elf_types.specs.Answers.{answered};
 ghost use Rattle.elf_types.specs.declared.records.Kind.TheVariants as kinds;
-ghost use Rattle.elf_object.specs.Words.{Answers};
-ghost use Rattle.elf_object.specs.Answers.{count_at, items_at, syms_of};
-ghost use Rattle.hash_model.specs.Reordered.{in_order, reorder_refusal};
+ghost use Rattle.symbol_lookup.specs.elf_object.Words.{Answers};
+ghost use Rattle.symbol_lookup.specs.elf_object.Answers.{count_at, items_at, syms_of};
+ghost use Rattle.symbol_lookup.specs.hash_model.Reordered.{in_order, reorder_refusal};
 ghost use Rattle.hash_build.specs.Rows.{IsOrder};
 ghost use Rattle.hash_order.specs.Indexes.{AreNewIndexes};
 ghost use Rattle.hash_order.specs.Plans.{IsAtHand};
@@ -16,9 +16,9 @@ use crate::checks::check_order;
 use crate::indexes::new_indexes;
 use crate::planning::{plan_sections, plan_symbols};
 use crate::storing::store_plan;
-use elf_descriptor::Elf;
 use elf_outside::Source;
 use elf_types::{ElfError, ScnId, Syms, Words};
+use symbol_lookup::prelude::Elf;
 
 /// Plans what each section gets, and then stores the symbols, which are in order, and the plan.
 fn reorder_with<S: Source>(

@@ -5,19 +5,18 @@ ghost use Rattle.std.specs.Prelude.{◌≡◌, ◌<◌, ◌-◌, length, take, s
 ghost use Rattle.elf_types.specs.declared.records.Kind.TheVariants as kinds;
 ghost use Rattle.elf_xlate.specs.declared.content.Items.TheVariants as items;
 ghost use Rattle.elf_xlate.specs.Translation.{items_kind};
-ghost use Rattle.elf_object.specs.Calls.{update_shdr_refusal};
-ghost use Rattle.elf_object.specs.Steps.{with_own, with_shdr};
+ghost use Rattle.symbol_lookup.specs.elf_object.Calls.{update_shdr_refusal};
+ghost use Rattle.symbol_lookup.specs.elf_object.Steps.{with_own, with_shdr};
 ghost use Rattle.hash_order.specs.Kinds.{IsByIndex};
 ghost use Rattle.hash_order.specs.Plans.{signed, gets, stored, given_by, IsAtHand, IsReady, AreReady, IsNoItems};
 ghost use Rattle.hash_order.specs.Reading.{Stores, StoresOne};
 ghost use Rattle.hash_order.specs.declared.nexts.Next.TheVariants as nexts;
 
 use crate::nexts::Next;
-use elf_descriptor::Elf;
 use elf_outside::Source;
 use elf_types::{DataId, List, ScnId, Shdr, Sym, Syms};
 use elf_xlate::Items;
-use section_data::Listed;
+use symbol_lookup::prelude::{Elf, section_data_Listed as Listed};
 
 /// Puts a list in place of that of the first piece of a section, which is of its kind.
 fn put_list<S: Source, T: Listed + Drop>(elf: &mut Elf<S>, n: u32, list: List<T>)

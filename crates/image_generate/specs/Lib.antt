@@ -1,2 +1,3 @@
+pub use Rattle.elf_descriptor.specs as elf_descriptor
 pub mod Uses
 pub mod Stages

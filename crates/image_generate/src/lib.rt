@@ -4,6 +4,7 @@
 
 mod generating;
 mod names;
+pub mod prelude;
 mod sections;
 mod symbols;
 mod tables;

@@ -11,9 +11,9 @@ use Rattle.elf_types.specs.declared.records.Part.{Part}
 use Rattle.elf_types.specs.declared.records.Part.TheVariants as part
 use Rattle.elf_layout.specs.declared.parts.PartAt.{PartAt}
 use Rattle.elf_layout.specs.Layout.{rounded_up}
-use Rattle.elf_object.specs.Blocks.{stacked, last_end, block_end}
-use Rattle.writing_laws.specs.Lines.{AreInLine}
-use Rattle.writing_laws.proofs.LineLaws.{line_within}
+use Rattle.elf_update.specs.elf_object.Blocks.{stacked, last_end, block_end}
+use Rattle.elf_update.specs.writing_laws.Lines.{AreInLine}
+use Rattle.elf_update.proofs.writing_laws.LineLaws.{line_within}
 use Rattle.elf_update.specs.Pieces.{pieces_length, block_at, blocks_at, HasLength}
 use Rattle.elf_update.proofs.PieceLaws.{length-joined_pieces}
 use Rattle.image_ranges.specs.declared.ranges.ByteRange.{ByteRange}

@@ -5,12 +5,12 @@ use Rattle.std.specs.List.{AllByRecursion}
 use Rattle.std.proofs.lemmas.List.Elements.{All-from_recursion, recursion_from_All}
 use Rattle.elf_types.specs.declared.records.Part.{Part}
 use Rattle.elf_layout.specs.declared.parts.PartAt.{PartAt}
-use Rattle.elf_object.specs.Blocks.{Block}
-use Rattle.elf_object.specs.Object.{Object, is_dirty}
-use Rattle.elf_object.specs.Layout.{placed, placed_by, places_of}
-use Rattle.elf_object.specs.Image.{image, kept_base}
-use Rattle.object_laws.proofs.ImageLaws.{placed-dirty}
-use Rattle.writing_laws.specs.Lines.{AreInLine, in_line}
+use Rattle.elf_update.specs.elf_object.Blocks.{Block}
+use Rattle.elf_update.specs.elf_object.Object.{Object, is_dirty}
+use Rattle.elf_update.specs.elf_object.Layout.{placed, placed_by, places_of}
+use Rattle.elf_update.specs.elf_object.Image.{image, kept_base}
+use Rattle.elf_update.proofs.object_laws.ImageLaws.{placed-dirty}
+use Rattle.elf_update.specs.writing_laws.Lines.{AreInLine, in_line}
 use Rattle.elf_update.specs.declared.updates.PlannedParts.{PlannedParts}
 use Rattle.elf_update.specs.Pieces.{block_at, blocks_at, pieces_length, stacked_text, HasLength}
 use Rattle.elf_update.specs.Emits.{ground_byte}

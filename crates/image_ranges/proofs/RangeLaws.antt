@@ -7,8 +7,8 @@ use Rattle.elf_types.specs.declared.records.Part.{Part}
 use Rattle.elf_outside.specs.Asks.{Asks, Leaves}
 use Rattle.elf_outside.specs.declared.sources.Source.{Ghosts}
 use Rattle.elf_outside.proofs.RangeLemmas.{take-drop-range}
-use Rattle.writing_laws.specs.Plan.{places_below}
-use Rattle.elf_descriptor.specs.Views.{source_bytes}
+use Rattle.elf_update.specs.writing_laws.Plan.{places_below}
+use Rattle.elf_update.specs.elf_descriptor.Views.{source_bytes}
 use Rattle.elf_update.specs.declared.parts.Origin.{Origin}
 use Rattle.elf_update.specs.declared.parts.Origin.TheVariants.{Piece, Base}
 use Rattle.elf_update.specs.declared.parts.PieceExtent.{PieceExtent}

@@ -1,13 +1,13 @@
 -- An image whose parts are ranges of bytes: what is written of it, and when it is that of an object.
 use Rattle.std.specs.Prelude.{◌≡◌, ℕ, ◌+◌, ◌^◌, ◌<◌, ◌≤◌, List, length, sum_by, All}
 use Rattle.elf_layout.specs.declared.parts.PartAt.{PartAt}
-use Rattle.elf_object.specs.Blocks.{Block}
-use Rattle.elf_object.specs.Object.{Object}
-use Rattle.elf_object.specs.Layout.{placed}
-use Rattle.elf_object.specs.Image.{image, image_length, kept_base}
-use Rattle.writing_laws.specs.Lines.{AreInLine, in_line}
-use Rattle.writing_laws.specs.Plan.{base_gaps}
-use Rattle.writing_laws.specs.Ready.{IsReady}
+use Rattle.elf_update.specs.elf_object.Blocks.{Block}
+use Rattle.elf_update.specs.elf_object.Object.{Object}
+use Rattle.elf_update.specs.elf_object.Layout.{placed}
+use Rattle.elf_update.specs.elf_object.Image.{image, image_length, kept_base}
+use Rattle.elf_update.specs.writing_laws.Lines.{AreInLine, in_line}
+use Rattle.elf_update.specs.writing_laws.Plan.{base_gaps}
+use Rattle.elf_update.specs.writing_laws.Ready.{IsReady}
 use Rattle.elf_update.specs.Pieces.{blocks_at, HasLength}
 use Rattle.elf_update.specs.Emits.{ground_byte}
 use Rattle.elf_update.specs.Descriptors.{stored_pieces, planned}

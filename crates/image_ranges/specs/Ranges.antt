@@ -4,8 +4,8 @@ use Rattle.std.specs.Prelude.{ℕ, ◌+◌, ◌≤◌, ◌==◌, Bool, List, [],
 use Rattle.elf_types.specs.declared.records.Part.{Part}
 use Rattle.elf_types.specs.declared.records.Part.TheVariants as part
 use Rattle.elf_outside.specs.declared.sources.Source.{Ghosts}
-use Rattle.writing_laws.specs.Plan.{places_below}
-use Rattle.elf_descriptor.specs.Views.{source_bytes}
+use Rattle.elf_update.specs.writing_laws.Plan.{places_below}
+use Rattle.elf_update.specs.elf_descriptor.Views.{source_bytes}
 use Rattle.image_ranges.specs.declared.ranges.ByteRange.{ByteRange}
 use Rattle.image_ranges.specs.declared.ranges.PartRanges.{PartRanges}
 use Rattle.image_ranges.specs.declared.parts.RangedParts.{RangedParts}

@@ -11,13 +11,13 @@ use Rattle.elf_types.specs.declared.errors.ElfError.TheVariants.{Memory, Read, W
 use Rattle.elf_object.specs.Answers.{raw_refusal}
 use Rattle.elf_object.specs.Object.{Object, section_at}
 use Rattle.elf_object.specs.Layout.{section_numbers}
-use Rattle.elf_descriptor.specs.State.{State}
+use Rattle.unstrip_join.specs.elf_descriptor.State.{State}
 use Rattle.elf_object.specs.Sections.{is_allocated, header_at}
 use Rattle.command_objects.specs.Split.{allocated, counterpart, loaded_header, combined_raw_refusal}
 use Rattle.command_objects.specs.Split.{UnstripFault as stated}
-use Rattle.object_making.specs.Refused.{RefusedBy}
-use Rattle.strip_rebuild.proofs.MakeLaws.{refused_unread}
-use Rattle.image_ranges.specs.declared.ranges.ByteRange.{ByteRange}
+use Rattle.unstrip_join.specs.object_making.Refused.{RefusedBy}
+use Rattle.unstrip_join.proofs.strip_rebuild.MakeLaws.{refused_unread}
+use Rattle.strip_contents.specs.image_ranges.declared.ranges.ByteRange.{ByteRange}
 use Rattle.strip_contents.specs.declared.contents.Contents.{Contents}
 use Rattle.strip_contents.specs.Contents.{HasOneMore, IsPutBehind, HasFirst}
 use Rattle.strip_contents.proofs.KeepingLaws.{kept_more}

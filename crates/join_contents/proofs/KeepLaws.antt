@@ -9,14 +9,14 @@ use Rattle.elf_types.specs.declared.errors.ElfError.TheVariants.{Memory}
 use Rattle.elf_object.specs.Calls.{newphdr_refusal}
 use Rattle.elf_object.specs.Layout.{section_numbers}
 use Rattle.elf_object.specs.Valid.{IsObject}
-use Rattle.elf_descriptor.specs.State.{State}
-use Rattle.update_plan.proofs.PlacingLaws.{passed_from}
+use Rattle.unstrip_join.specs.elf_descriptor.State.{State}
+use Rattle.unstrip_join.proofs.update_plan.PlacingLaws.{passed_from}
 use Rattle.command_objects.specs.Rebuilt.{index_refusal}
 use Rattle.command_objects.specs.Split.{combined_section, combined_sections, combined_raw_refusal, combine_fault, matches}
 use Rattle.command_objects.specs.Split.{UnstripFault as stated}
-use Rattle.object_making.specs.Refused.{RefusedBy}
-use Rattle.object_making.proofs.RefusedLaws.{answer_refused}
-use Rattle.strip_rebuild.proofs.MakeLaws.{refused_unread}
+use Rattle.unstrip_join.specs.object_making.Refused.{RefusedBy}
+use Rattle.unstrip_join.proofs.object_making.RefusedLaws.{answer_refused}
+use Rattle.unstrip_join.proofs.strip_rebuild.MakeLaws.{refused_unread}
 use Rattle.strip_contents.specs.declared.contents.Contents.{Contents}
 use Rattle.strip_contents.specs.Checks.{index_beyond}
 use Rattle.strip_contents.proofs.CheckLaws.{index_is, index_states}

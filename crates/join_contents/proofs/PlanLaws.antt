@@ -10,15 +10,15 @@ use Rattle.elf_outside.proofs.AskLemmas.{read_rose_on}
 use Rattle.elf_object.specs.Layout.{section_numbers}
 use Rattle.elf_object.specs.Object.{Object}
 use Rattle.elf_object.specs.Valid.{IsObject}
-use Rattle.elf_descriptor.specs.State.{State}
+use Rattle.unstrip_join.specs.elf_descriptor.State.{State}
 use Rattle.command_objects.specs.Arranged.{Rebuilt, over_base, arranged}
 use Rattle.command_objects.specs.Files.{file_made}
 use Rattle.command_objects.specs.Rebuilt.{assembled, rebuilt_tail}
 use Rattle.command_objects.specs.Split.{combined_sections, combined_object, combine_fault, or_elf, unstripped}
-use Rattle.object_making.specs.Placing.{made_of, arranged_refusal}
-use Rattle.strip_laws.specs.Made.{FitsClass}
-use Rattle.strip_laws.proofs.HalfLaws.{combined_is_object, halves_are_writable}
-use Rattle.strip_rebuild.proofs.RebuildLaws.{tail_within}
+use Rattle.unstrip_join.specs.object_making.Placing.{made_of, arranged_refusal}
+use Rattle.strip_contents.specs.strip_laws.Made.{FitsClass}
+use Rattle.strip_contents.proofs.strip_laws.HalfLaws.{combined_is_object, halves_are_writable}
+use Rattle.unstrip_join.proofs.strip_rebuild.RebuildLaws.{tail_within}
 use Rattle.strip_contents.specs.declared.arranged.Arranged.{Arranged}
 use Rattle.strip_contents.specs.declared.contents.Contents.{Contents}
 use Rattle.strip_contents.specs.declared.plans.RangedPlan.{RangedPlan}

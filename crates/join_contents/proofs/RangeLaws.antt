@@ -8,10 +8,10 @@ use Rattle.elf_types.specs.declared.errors.ElfError.{ElfError}
 use Rattle.elf_types.specs.declared.errors.ElfError.TheVariants.{OutOfFile}
 use Rattle.elf_object.specs.Answers.{raw_refusal}
 use Rattle.elf_object.specs.Object.{section_at}
-use Rattle.elf_descriptor.specs.State.{State}
-use Rattle.image_ranges.specs.declared.ranges.ByteRange.{ByteRange}
-use Rattle.image_ranges.specs.Ranges.{range_bytes}
-use Rattle.strip_rebuild.proofs.HomeLaws.{raw_there}
+use Rattle.unstrip_join.specs.elf_descriptor.State.{State}
+use Rattle.strip_contents.specs.image_ranges.declared.ranges.ByteRange.{ByteRange}
+use Rattle.strip_contents.specs.image_ranges.Ranges.{range_bytes}
+use Rattle.unstrip_join.proofs.strip_rebuild.HomeLaws.{raw_there}
 use Rattle.strip_contents.specs.Ranges.{FindsHome, IsRangeOf}
 use Rattle.strip_contents.proofs.RangeLaws.{home_is}
 use Rattle.join_contents.specs.Ranges.{IsUnchanged, moved_range, FindsRaw}

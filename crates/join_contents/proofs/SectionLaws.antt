@@ -12,8 +12,8 @@ use Rattle.object_laws.proofs.KeepLaws.{section_at_is}
 use Rattle.command_objects.specs.Rebuilt.{made_section}
 use Rattle.elf_object.specs.Sections.{header_at}
 use Rattle.command_objects.specs.Split.{counterpart, loaded_header, combined_section, combined_sections}
-use Rattle.object_making.specs.Making.{sections_by}
-use Rattle.strip_laws.proofs.MadeSections.{bytes_encoded}
+use Rattle.unstrip_join.specs.object_making.Making.{sections_by}
+use Rattle.strip_contents.proofs.strip_laws.MadeSections.{bytes_encoded}
 use Rattle.unstrip_join.proofs.FilledLaws.{combined_some}
 use Rattle.unstrip_join.proofs.NextLaws.{section_by, combined_by}
 use Rattle.join_contents.specs.Keeping.{joined_header, joined_bytes, joined_items}

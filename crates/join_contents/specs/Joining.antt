@@ -5,12 +5,12 @@ use Rattle.elf_types.specs.Answers.{◌>>=◌}
 use Rattle.elf_types.specs.declared.errors.ElfError.{ElfError}
 use Rattle.elf_outside.specs.Asks.{ReadRose}
 use Rattle.elf_object.specs.Object.{Object}
-use Rattle.elf_descriptor.specs.State.{State}
+use Rattle.unstrip_join.specs.elf_descriptor.State.{State}
 use Rattle.command_objects.specs.Arranged.{Rebuilt, arranged}
 use Rattle.command_objects.specs.Files.{file_of, file_made}
 use Rattle.command_objects.specs.Split.{UnstripFault, combined_object, combined_tail, combine_fault, or_elf, unstripped}
 use Rattle.command_objects.specs.Split.{UnstripFault as stated}
-use Rattle.object_making.specs.Placing.{made_of}
+use Rattle.unstrip_join.specs.object_making.Placing.{made_of}
 use Rattle.strip_contents.specs.declared.plans.RangedPlan.{RangedPlan}
 use Rattle.strip_contents.specs.Plans.{CopiesAs, FileAnswers}
 use Rattle.unstrip_join.specs.declared.faults.UnstripFault.{UnstripFault as Fault}

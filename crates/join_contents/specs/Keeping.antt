@@ -10,10 +10,10 @@ use Rattle.elf_xlate.specs.declared.content.Items.TheVariants as items
 use Rattle.elf_object.specs.Answers.{raw_refusal}
 use Rattle.elf_object.specs.Layout.{section_numbers}
 use Rattle.elf_object.specs.Object.{Object, section_at}
-use Rattle.elf_descriptor.specs.State.{State}
+use Rattle.unstrip_join.specs.elf_descriptor.State.{State}
 use Rattle.elf_object.specs.Sections.{header_at}
 use Rattle.command_objects.specs.Split.{UnstripFault, counterpart, loaded_header, combined_raw_refusal, combine_fault}
-use Rattle.object_making.specs.Refused.{RefusedBy}
+use Rattle.unstrip_join.specs.object_making.Refused.{RefusedBy}
 use Rattle.strip_contents.specs.declared.contents.Contents.{Contents}
 use Rattle.strip_contents.specs.Contents.{HasOneMore, AreKept, HasKept}
 use Rattle.unstrip_join.specs.declared.faults.UnstripFault.{UnstripFault as Fault}

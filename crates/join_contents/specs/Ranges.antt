@@ -6,9 +6,9 @@ use Rattle.elf_types.specs.declared.errors.ElfError.{ElfError}
 use Rattle.elf_object.specs.Answers.{raw_refusal}
 use Rattle.elf_object.specs.Object.{Object, section_at, is_dirty}
 use Rattle.elf_object.specs.Valid.{IsObject, IsTied}
-use Rattle.elf_descriptor.specs.State.{State}
-use Rattle.object_making.specs.Refused.{RefusedBy}
-use Rattle.image_ranges.specs.declared.ranges.ByteRange.{ByteRange}
+use Rattle.unstrip_join.specs.elf_descriptor.State.{State}
+use Rattle.unstrip_join.specs.object_making.Refused.{RefusedBy}
+use Rattle.strip_contents.specs.image_ranges.declared.ranges.ByteRange.{ByteRange}
 use Rattle.strip_contents.specs.Ranges.{IsRangeOf}
 
 -- an object in which nothing is dirty, that of its base where the source tells its bytes

@@ -9,11 +9,10 @@ ghost use Rattle.join_contents.specs.Ranges.{IsUnchanged};
 ghost use Rattle.join_contents.specs.Keeping.{AddsHome, AddsLoaded, AddsJoined, AddsAllJoined};
 
 use crate::ranges::range_behind;
-use elf_descriptor::Elf;
 use elf_outside::Source;
 use elf_types::{ElfError, ScnId, Shdr};
 use strip_contents::{Contents, home_range};
-use strip_removed::is_allocated;
+use unstrip_join::prelude::{Elf, strip_removed_is_allocated as is_allocated};
 use unstrip_join::{UnstripFault, loaded_header, number_at};
 
 /// Adds an allocated section with a header of the debug half, and the type, the place and the home

@@ -4,17 +4,17 @@ ghost use Rattle.std.specs.Prelude.{◌≡◌, ◌+◌, ◌<◌, ◌^◌, false,
 ghost use Rattle.command_objects.specs.Split.{allocated, matches};
 ghost use Rattle.elf_object.specs.Object.{is_dirty};
 ghost use Rattle.elf_object.specs.Valid.{IsTied};
-ghost use Rattle.strip_laws.specs.Made.{FitsClass};
+ghost use Rattle.strip_contents.specs.strip_laws.Made.{FitsClass};
 ghost use Rattle.join_contents.specs.Ranges.{IsUnchanged};
 ghost use Rattle.join_contents.specs.Joining.{PlansJoined};
 
 use crate::keeping::keep_joined;
 use crate::planning::plan_combined;
-use elf_descriptor::Elf;
 use elf_outside::Source;
 use elf_types::ElfError;
 use std::alloc::Global;
 use strip_contents::RangedPlan;
+use unstrip_join::prelude::Elf;
 use unstrip_join::{UnstripFault, allocated, are_halves};
 
 /// The plan of two halves that match, of which the stripped one has these allocated sections.

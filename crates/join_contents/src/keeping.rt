@@ -6,11 +6,11 @@ ghost use Rattle.join_contents.specs.Ranges.{IsUnchanged};
 ghost use Rattle.join_contents.specs.Keeping.{ListsJoined, KeepsJoined};
 
 use crate::adding::add_all;
-use elf_descriptor::Elf;
 use elf_outside::Source;
 use std::alloc::Global;
 use strip_contents::{Contents, check_index, check_segments};
 use unstrip_join::UnstripFault;
+use unstrip_join::prelude::Elf;
 
 /// What is kept of all sections, section 0 among them.
 fn list_joined<S: Source, T: Source>(

@@ -2,18 +2,16 @@
 
 ghost use Rattle.std.specs.Prelude.{◌≡◌, None};
 ghost use Rattle.command_objects.specs.Split.{combine_fault};
-ghost use Rattle.strip_laws.specs.Made.{FitsClass};
+ghost use Rattle.strip_contents.specs.strip_laws.Made.{FitsClass};
 ghost use Rattle.join_contents.specs.Ranges.{IsUnchanged};
 ghost use Rattle.join_contents.specs.Keeping.{HasJoined};
 ghost use Rattle.join_contents.specs.Joining.{PlansCombined};
 
-use elf_descriptor::Elf;
 use elf_outside::Source;
 use elf_types::ElfError;
 use std::alloc::Global;
 use strip_contents::{Contents, RangedPlan, arrange_contents, plan_arranged};
-use strip_rebuild::tail_of;
-use strip_removed::SectionSet;
+use unstrip_join::prelude::{Elf, SectionSet, tail_of};
 
 /// The plan of what was kept of two halves: over the base of the stripped one up to its tail, with
 /// its header and its program headers, and the string index of the debug half. It refuses

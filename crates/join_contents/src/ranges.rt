@@ -3,11 +3,11 @@
 ghost use Rattle.std.specs.Prelude.{◌≡◌, ◌<◌, ◌++◌, length, IfSome};
 ghost use Rattle.join_contents.specs.Ranges.{IsUnchanged, moved_range, FindsRaw};
 
-use elf_descriptor::Elf;
 use elf_outside::Source;
 use elf_types::{ElfError, ScnId};
-use image_ranges::ByteRange;
 use strip_contents::home_range;
+use strip_contents::prelude::ByteRange;
+use unstrip_join::prelude::Elf;
 
 /// A range behind so many other bytes. None where its place would pass 2^64 - 1.
 fn move_behind(range: ByteRange, len: u64) -> Option<ByteRange>

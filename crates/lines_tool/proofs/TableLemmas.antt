@@ -9,7 +9,7 @@ use Rattle.elf_types.specs.Kinds.{is_compressed}
 use Rattle.elf_object.specs.Object.{Object, section_at}
 use Rattle.elf_object.specs.Answers.{raw_refusal}
 use Rattle.elf_object.specs.Calls.{raw_answer}
-use Rattle.elf_descriptor.specs.Homes.{out_answer}
+use Rattle.object_output.specs.elf_descriptor.Homes.{out_answer}
 use Rattle.tool_output.specs.Names.{Name}
 use Rattle.tool_output.specs.Reports.{refusal_report}
 use Rattle.lines_tool.specs.Tables.{section_refused, table_report, bytes_report, section_report}

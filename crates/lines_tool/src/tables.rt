@@ -9,9 +9,9 @@ ghost use Rattle.lines_tool.specs.Tables.{table_report, section_report};
 
 use crate::rows::TableTitle;
 use crate::units::{TableBytes, refuse_section, show_units};
-use elf_descriptor::Elf;
 use elf_outside::{Sink, Source};
 use elf_types::{Ehdr, ElfError, ScnId, is_compressed};
+use object_output::prelude::Elf;
 use object_output::{SectionTool, section_header};
 use std::alloc::Global;
 use tool_output::{FileName, Message, Outputs, Stop};

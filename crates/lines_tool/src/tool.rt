@@ -7,8 +7,8 @@ ghost use Rattle.object_output.specs.Shows.{ShowsOver};
 ghost use Rattle.lines_tool.specs.Tool.{lines_report};
 
 use crate::tables::LineTables;
-use elf_descriptor::Elf;
 use elf_outside::{Sink, Source};
+use object_output::prelude::Elf;
 use object_output::{ObjectTool, each_section_named, show_object};
 use std::alloc::Global;
 use tool_output::{FileName, Outputs, Stop};

@@ -6,11 +6,11 @@ use Rattle.elf_types.specs.declared.records.Kind.TheVariants as kinds
 use Rattle.elf_types.specs.declared.constants.TheConstants.{SHT_NOTE, SHT_GNU_VERDEF, SHT_GNU_VERNEED}
 use Rattle.elf_types.specs.declared.errors.ElfError.{ElfError}
 use Rattle.elf_types.specs.Answers.{answered, first_refusal, ◌>>=◌}
-use Rattle.elf_object.specs.Object.{Object}
-use Rattle.elf_object.specs.Answers.{bytes_of, items_at, lend_refusal}
-use Rattle.gelf_view.specs.Calls.{first_place, first_entry_answer}
-use Rattle.gelf_view.specs.Chains.{Chain, ended, broken, leading, entry_then, next_place, notes, verdefs, verneeds}
-use Rattle.elf_object.specs.Sections.{header_at}
+use Rattle.lint_findings.specs.elf_object.Object.{Object}
+use Rattle.lint_findings.specs.elf_object.Answers.{bytes_of, items_at, lend_refusal}
+use Rattle.lint_findings.specs.gelf_view.Calls.{first_place, first_entry_answer}
+use Rattle.lint_findings.specs.gelf_view.Chains.{Chain, ended, broken, leading, entry_then, next_place, notes, verdefs, verneeds}
+use Rattle.lint_findings.specs.elf_object.Sections.{header_at}
 use Rattle.lint_findings.specs.Looking.{is_plain, if_lent, data_bytes}
 use Rattle.lint_chains.specs.Chains.{bad_place, entries_bad, section_bad, is_plain_of, note_bad, verdef_names_bad, verneed_names_bad, version_bad}
 

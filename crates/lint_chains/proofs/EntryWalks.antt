@@ -2,11 +2,11 @@
 use Rattle.std.proofs.Common.{◌≡◌, ℕ, true, false, Option, Some, None, Ok, IsTrue, sym}
 use Rattle.std.specs.Prelude.{is_some}
 use Rattle.elf_outside.specs.declared.sources.Source.{Ghosts as SourceGhosts}
-use Rattle.elf_object.specs.Object.{Object}
-use Rattle.elf_descriptor.specs.State.{State}
-use Rattle.gelf_view.specs.Chains.{Chain, entry_then, next_place}
-use Rattle.object_output.specs.Steps.{LeavesElf, Learns}
-use Rattle.object_output.proofs.LearnLemmas.{learns_after, learns_by}
+use Rattle.lint_findings.specs.elf_object.Object.{Object}
+use Rattle.lint_findings.specs.elf_descriptor.State.{State}
+use Rattle.lint_findings.specs.gelf_view.Chains.{Chain, entry_then, next_place}
+use Rattle.lint_findings.specs.object_output.Steps.{LeavesElf, Learns}
+use Rattle.lint_findings.proofs.object_output.LearnLemmas.{learns_after, learns_by}
 use Rattle.lint_chains.specs.Chains.{entries_bad}
 use Rattle.lint_chains.proofs.ChainLemmas.{names_go_bad, entry_last, entry_goes}
 use Rattle.lint_chains.proofs.WalkLemmas.{Walking, walk_goes, walk_ends}

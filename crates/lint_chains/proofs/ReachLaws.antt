@@ -6,17 +6,17 @@ use Rattle.elf_types.specs.declared.errors.ElfError.{ElfError}
 use Rattle.elf_types.specs.declared.errors.ElfError.TheVariants.{BadChain}
 use Rattle.elf_types.specs.declared.records.Kind.TheVariants as kinds
 use Rattle.elf_types.specs.Answers.{answered, refused_if, ◌>>=◌}
-use Rattle.elf_object.specs.Words.{result_map}
-use Rattle.elf_object.specs.Object.{Object}
-use Rattle.elf_object.specs.Answers.{bytes_of, items_at, lend_refusal}
-use Rattle.gelf_view.specs.declared.aux.AuxPlace.{AuxPlace}
-use Rattle.gelf_view.specs.declared.versions.Verdaux.{Verdaux}
-use Rattle.gelf_view.specs.declared.versions.Vernaux.{Vernaux}
-use Rattle.gelf_view.specs.declared.versions.TheConstants.{VERDAUX_SIZE, VERNAUX_SIZE}
-use Rattle.gelf_view.specs.Records.{record_at}
-use Rattle.gelf_view.specs.Versions.{verdaux_at, verdaux_of, vernaux_at, vernaux_of}
-use Rattle.gelf_view.specs.Calls.{verdaux_answer, vernaux_answer}
-use Rattle.gelf_view.specs.Chains.{aux_upto, first_aux, led_by, leading, verdauxs, vernauxs}
+use Rattle.lint_findings.specs.elf_object.Words.{result_map}
+use Rattle.lint_findings.specs.elf_object.Object.{Object}
+use Rattle.lint_findings.specs.elf_object.Answers.{bytes_of, items_at, lend_refusal}
+use Rattle.lint_findings.specs.gelf_view.declared.aux.AuxPlace.{AuxPlace}
+use Rattle.lint_findings.specs.gelf_view.declared.versions.Verdaux.{Verdaux}
+use Rattle.lint_findings.specs.gelf_view.declared.versions.Vernaux.{Vernaux}
+use Rattle.lint_findings.specs.gelf_view.declared.versions.TheConstants.{VERDAUX_SIZE, VERNAUX_SIZE}
+use Rattle.lint_findings.specs.gelf_view.Records.{record_at}
+use Rattle.lint_findings.specs.gelf_view.Versions.{verdaux_at, verdaux_of, vernaux_at, vernaux_of}
+use Rattle.lint_findings.specs.gelf_view.Calls.{verdaux_answer, vernaux_answer}
+use Rattle.lint_findings.specs.gelf_view.Chains.{aux_upto, first_aux, led_by, leading, verdauxs, vernauxs}
 use Rattle.lint_findings.specs.Looking.{data_bytes, if_lent}
 use Rattle.lint_chains.specs.Chains.{bad_place}
 use Rattle.lint_chains.specs.Reach.{next_found, verdaux_next, vernaux_next, stand, IsReach}

@@ -3,14 +3,14 @@ use Rattle.std.proofs.Common.{◌≡◌, ℕ, Option, Some, None, Result, Ok, Er
 use Rattle.elf_types.specs.declared.errors.ElfError.{ElfError}
 use Rattle.elf_types.specs.declared.errors.ElfError.TheVariants as error
 use Rattle.elf_outside.specs.declared.sources.Source.{Ghosts as SourceGhosts}
-use Rattle.elf_object.specs.Object.{Object}
-use Rattle.elf_descriptor.specs.State.{State}
+use Rattle.lint_findings.specs.elf_object.Object.{Object}
+use Rattle.lint_findings.specs.elf_descriptor.State.{State}
 use Rattle.tool_output.specs.declared.stops.Stop.{Stop}
 use Rattle.tool_output.specs.declared.stops.Stop.TheVariants.{Read, Write, Memory}
 use Rattle.tool_output.specs.Stops.{stop_of}
-use Rattle.object_output.specs.Steps.{LeavesElf, Learns, Looked, ReadsElf}
-use Rattle.object_output.proofs.ElfSteps.{left_as, settled_elf, elf_left, elf_left_then, still_told}
-use Rattle.object_output.proofs.LearnLemmas.{learns_after, learns_as}
+use Rattle.lint_findings.specs.object_output.Steps.{LeavesElf, Learns, Looked, ReadsElf}
+use Rattle.lint_findings.proofs.object_output.ElfSteps.{left_as, settled_elf, elf_left, elf_left_then, still_told}
+use Rattle.lint_findings.proofs.object_output.LearnLemmas.{learns_after, learns_as}
 use Rattle.lint_chains.specs.Chains.{bad_place}
 
 -- a look met an error: the step stops by it, or this is where the chain goes bad

@@ -7,13 +7,13 @@ use Rattle.elf_types.specs.Text.{error_text}
 use Rattle.elf_types.specs.declared.constants.TheConstants.{SHT_NOTE, SHT_GNU_VERDEF, SHT_GNU_VERNEED}
 use Rattle.elf_types.specs.declared.errors.ElfError.{ElfError}
 use Rattle.elf_types.specs.declared.errors.ElfError.TheVariants.{BadChain}
-use Rattle.elf_object.specs.Object.{Object}
-use Rattle.elf_object.specs.Due.{all_sections}
-use Rattle.gelf_view.specs.declared.versions.Verdef.{Verdef}
-use Rattle.gelf_view.specs.declared.versions.Verneed.{Verneed}
-use Rattle.gelf_view.specs.Calls.{first_place}
-use Rattle.gelf_view.specs.Chains.{Chain, ended, notes, verdefs, verneeds, verdauxs, vernauxs, first_aux}
-use Rattle.elf_object.specs.Sections.{header_at}
+use Rattle.lint_findings.specs.elf_object.Object.{Object}
+use Rattle.lint_findings.specs.elf_object.Due.{all_sections}
+use Rattle.lint_findings.specs.gelf_view.declared.versions.Verdef.{Verdef}
+use Rattle.lint_findings.specs.gelf_view.declared.versions.Verneed.{Verneed}
+use Rattle.lint_findings.specs.gelf_view.Calls.{first_place}
+use Rattle.lint_findings.specs.gelf_view.Chains.{Chain, ended, notes, verdefs, verneeds, verdauxs, vernauxs, first_aux}
+use Rattle.lint_findings.specs.elf_object.Sections.{header_at}
 use Rattle.lint_findings.specs.declared.places.Place.TheVariants.{Section}
 use Rattle.lint_findings.specs.Findings.{Finding, finding}
 use Rattle.lint_findings.specs.Looking.{is_plain, data_bytes}

@@ -3,7 +3,7 @@
 use Rattle.std.specs.Prelude.{◌≡◌, ℕ, zero, suc, ◌+◌, ◌==◌, Bool, true, false, List, slice_index_or, Option, Some, None, Result, Ok, Err}
 use Rattle.elf_types.specs.declared.errors.ElfError.{ElfError}
 use Rattle.elf_types.specs.declared.records.Order.{Order}
-use Rattle.gelf_view.specs.Versions.{verdaux_at, vernaux_at}
+use Rattle.lint_findings.specs.gelf_view.Versions.{verdaux_at, vernaux_at}
 
 -- how far the next name is from one that is there
 abbrev pub next_found : {A : Type 0} → (A → ℕ) → Result A ElfError → Option ℕ

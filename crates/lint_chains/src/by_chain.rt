@@ -1,19 +1,18 @@
 //! Rules that look for the first bad chain of each section.
 
 ghost use Rattle.std.specs.Prelude.{◌≡◌, ◌<◌, ℕ, Option as TheOption, Some, Ok, Err, IfSome, IfNone, length};
-ghost use Rattle.elf_object.specs.Object.{Object};
-ghost use Rattle.elf_object.specs.Due.{all_sections};
+ghost use Rattle.lint_findings.specs.elf_object.Object.{Object};
+ghost use Rattle.lint_findings.specs.elf_object.Due.{all_sections};
 ghost use Rattle.tool_output.specs.Stops.{stop_of};
-ghost use Rattle.object_output.specs.Steps.{Learns};
+ghost use Rattle.lint_findings.specs.object_output.Steps.{Learns};
 ghost use Rattle.lint_findings.specs.Findings.{findings_shown};
 ghost use Rattle.lint_findings.specs.Steps.{FindsOver};
 ghost use Rattle.lint_chains.specs.Chains.{at_bad_chains, bad_place, chain_found};
 
-use elf_descriptor::Elf;
 use elf_outside::{Sink, Source};
 use elf_types::{ElfError, ScnId};
+use lint_findings::prelude::{Elf, SectionTool, each_section};
 use lint_findings::{Place, find};
-use object_output::{SectionTool, each_section};
 use tool_output::{FileName, Outputs, Stop};
 
 /// A rule that looks for the first bad chain of a section.

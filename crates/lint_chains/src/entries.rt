@@ -2,19 +2,18 @@
 
 ghost use Rattle.std.specs.Prelude.{◌≡◌, ◌<◌, ◌≤◌, ◌^◌, ℕ, List, None, Option as TheOption, IsTrue, length, slice_index_or};
 ghost use Rattle.elf_types.specs.declared.records.Order.{Order as TheOrder};
-ghost use Rattle.elf_object.specs.Object.{Object};
-ghost use Rattle.gelf_view.specs.Calls.{first_place};
-ghost use Rattle.object_output.specs.Steps.{Learns};
+ghost use Rattle.lint_findings.specs.elf_object.Object.{Object};
+ghost use Rattle.lint_findings.specs.gelf_view.Calls.{first_place};
+ghost use Rattle.lint_findings.specs.object_output.Steps.{Learns};
 ghost use Rattle.lint_findings.specs.Looking.{data_bytes};
 ghost use Rattle.lint_chains.specs.Chains.{bad_place, entries_bad, from_first};
 ghost use Rattle.lint_chains.specs.Reach.{IsReach};
 
 use crate::by_chain::met;
 use crate::reach::{find_reach, steps_from};
-use elf_descriptor::Elf;
 use elf_outside::Source;
 use elf_types::{DataId, Halves, Order, ScnId};
-use gelf_view::{AuxPlace, VersionEntry, VersionName, first_entry};
+use lint_findings::prelude::{AuxPlace, Elf, VersionEntry, VersionName, first_entry};
 use tool_output::Stop;
 
 /// An entry of a version section, as the rule on version records looks at it.

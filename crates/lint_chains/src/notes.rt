@@ -1,19 +1,18 @@
 //! The rule 29: the notes of each section.
 
 ghost use Rattle.std.specs.Prelude.{◌≡◌};
-ghost use Rattle.gelf_view.specs.Chains.{notes};
-ghost use Rattle.object_output.specs.Steps.{Learns};
+ghost use Rattle.lint_findings.specs.gelf_view.Chains.{notes};
+ghost use Rattle.lint_findings.specs.object_output.Steps.{Learns};
 ghost use Rattle.lint_findings.specs.Steps.{FindsOver};
 ghost use Rattle.lint_chains.specs.Chains as rule;
 ghost use Rattle.lint_chains.specs.Chains.{bad_place};
 
 use crate::by_chain::{ChainRule, each_bad_chain, met};
-use elf_descriptor::Elf;
 use elf_outside::{Sink, Source};
 use elf_types::constants::SHT_NOTE;
 use elf_types::{DataId, ScnId};
-use gelf_view::note;
 use lint_findings::is_plain_of;
+use lint_findings::prelude::{Elf, note};
 use tool_output::{FileName, Outputs, Stop};
 
 /// The place of the bad chain that the walk over the notes of a section meets. It ends, since each

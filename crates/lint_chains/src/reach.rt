@@ -3,15 +3,14 @@
 
 ghost use Rattle.std.specs.Prelude.{◌≡◌, ◌≤◌, ◌+◌, ◌<◌, ◌^◌, ℕ, Option as TheOption, IfErr, IfOk, IsTrue, false, length, replicate, slice_index_or, slice_set, true};
 ghost use Rattle.elf_types.specs.declared.errors.ElfError.TheVariants.{Memory};
-ghost use Rattle.object_output.specs.Steps.{ReadsElf};
+ghost use Rattle.lint_findings.specs.object_output.Steps.{ReadsElf};
 ghost use Rattle.lint_findings.specs.Looking.{data_bytes};
 ghost use Rattle.lint_chains.specs.Reach.{stand, IsReach};
 
 use crate::entries::Entry;
-use elf_descriptor::Elf;
 use elf_outside::Source;
 use elf_types::{DataId, ElfError, Halves, List, Order, ScnId};
-use gelf_view::bytes;
+use lint_findings::prelude::{Elf, bytes};
 use std::alloc::Global;
 use tool_output::Stop;
 
@@ -104,7 +103,7 @@ fn reach_or_stop<R: Entry>(alloc: Global, bytes: &[u8], order: Order) -> Result<
 }
 
 /// The byte order of an object.
-#[tactic(auto, unfolding(elf_object::specs::Object::header_of))]
+#[tactic(auto, unfolding(lint_findings::specs::Passed::header_of))]
 fn order<S: Source>(elf: &Elf<S>) -> Order
     ensures { result ≡ elf.now.o.header.order }
 {

@@ -7,12 +7,11 @@ ghost use Rattle.lint_chains.specs.Reach.{verdaux_next, vernaux_next};
 
 use crate::by_chain::{ChainRule, each_bad_chain};
 use crate::entries::{Entry, bad_names, walk_entries};
-use elf_descriptor::Elf;
 use elf_outside::{Sink, Source};
 use elf_types::constants::{SHT_GNU_VERDEF, SHT_GNU_VERNEED};
 use elf_types::{Halves, Order, ScnId};
-use gelf_view::{Verdaux, Verdef, Vernaux, Verneed, verdaux_in, vernaux_in};
 use lint_findings::is_plain_of;
+use lint_findings::prelude::{Elf, Verdaux, Verdef, Vernaux, Verneed, verdaux_in, vernaux_in};
 use tool_output::{FileName, Outputs, Stop};
 
 impl Entry for Verdef {

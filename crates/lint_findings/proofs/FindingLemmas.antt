@@ -4,9 +4,9 @@ use Rattle.std.specs.List.{flat_map, enumerate_from, range_with_len}
 use Rattle.std.proofs.lemmas.List.{at_drop_more, at_drop_all}
 use Rattle.std.proofs.lemmas.List.Concat.{flat_map-cons}
 use Rattle.std.proofs.lemmas.List.FromFn.{length-enumerate_from, get_or-enumerate_from, length-range_with_len, get_or-range_with_len}
-use Rattle.tool_output.specs.Names.{Name}
-use Rattle.tool_output.specs.Reports.{Report, no_report, found, joined, all_joined, reports_of}
-use Rattle.tool_output.proofs.ReportLemmas.{joined_assoc, none_joined, joined_none}
+use Rattle.object_output.specs.tool_output.Names.{Name}
+use Rattle.object_output.specs.tool_output.Reports.{Report, no_report, found, joined, all_joined, reports_of}
+use Rattle.object_output.proofs.tool_output.ReportLemmas.{joined_assoc, none_joined, joined_none}
 use Rattle.lint_findings.specs.Findings.{Finding, found_if, finding_line, findings_shown}
 
 module _ (name : Name) where

@@ -7,10 +7,10 @@ use Rattle.elf_types.specs.declared.records.Shdr.{Shdr}
 use Rattle.elf_types.specs.declared.errors.ElfError.{ElfError}
 use Rattle.elf_types.specs.declared.errors.ElfError.TheVariants.{NoSection}
 use Rattle.elf_types.specs.Answers.{answered, refused_if}
-use Rattle.elf_ident.specs.Front.{zero_shdr}
-use Rattle.elf_object.specs.Object.{Object, Section, section_at, absent_section}
-use Rattle.elf_object.specs.Calls.{shdr_answer}
-use Rattle.elf_object.specs.Sections.{header_at}
+use Rattle.object_output.specs.elf_ident.Front.{zero_shdr}
+use Rattle.object_output.specs.elf_object.Object.{Object, Section, section_at, absent_section}
+use Rattle.object_output.specs.elf_object.Calls.{shdr_answer}
+use Rattle.object_output.specs.elf_object.Sections.{header_at}
 
 -- a section whose header is refused is not there,
 pub refused_header : (o : Object) (s : ℕ) (e : ElfError) → Err e ≡ shdr_answer o s → nat_le (length o.sections) s ≡ true

@@ -5,13 +5,13 @@ use Rattle.elf_types.specs.Answers.{answered}
 use Rattle.elf_types.specs.declared.errors.ElfError.{ElfError}
 use Rattle.elf_types.specs.declared.records.Kind.{Kind}
 use Rattle.elf_types.specs.declared.records.Kind.TheVariants as kinds
-use Rattle.elf_xlate.specs.declared.content.Items.{Items}
-use Rattle.elf_xlate.specs.Translation.{items_kind, items_count}
-use Rattle.elf_object.specs.Words.{Wants, Answers}
-use Rattle.elf_object.specs.Object.{Object}
-use Rattle.elf_object.specs.Answers.{items_at, count_at, bytes_of, syms_of, lend_refusal, entry_answer}
-use Rattle.elf_object.proofs.AnswerLaws.{answered_value, answered_refusal, lend_kind}
-use Rattle.tool_output.specs.Stops.{stop_of}
+use Rattle.object_output.specs.elf_xlate.declared.content.Items.{Items}
+use Rattle.object_output.specs.elf_xlate.Translation.{items_kind, items_count}
+use Rattle.object_output.specs.elf_object.Words.{Wants, Answers}
+use Rattle.object_output.specs.elf_object.Object.{Object}
+use Rattle.object_output.specs.elf_object.Answers.{items_at, count_at, bytes_of, syms_of, lend_refusal, entry_answer}
+use Rattle.object_output.proofs.elf_object.AnswerLaws.{answered_value, answered_refusal, lend_kind}
+use Rattle.object_output.specs.tool_output.Stops.{stop_of}
 use Rattle.object_output.specs.Answers.{value_of}
 use Rattle.object_output.proofs.AnswerLemmas.{answers_stated}
 use Rattle.object_output.proofs.QueryLemmas.{value_there}

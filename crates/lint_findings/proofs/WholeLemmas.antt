@@ -5,7 +5,7 @@ use Rattle.std.proofs.lemmas.Bool.{eq-eqb}
 use Rattle.std.proofs.Math.Nat.{mod-one}
 use Rattle.elf_types.specs.declared.records.Class.{Class}
 use Rattle.elf_types.specs.declared.records.Kind.TheVariants as kinds
-use Rattle.elf_xlate.specs.Translation.{is_whole}
+use Rattle.object_output.specs.elf_xlate.Translation.{is_whole}
 
 -- single bytes are whole items, however many they are
 pub whole_bytes : (class : Class) (len : ℕ) → true ≡ is_whole kinds.Bytes class len

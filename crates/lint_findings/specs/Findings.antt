@@ -4,9 +4,9 @@ use Rattle.std.specs.Prelude.{◌++◌, ℕ, List, [], ◌∷◌, flat_map, Bool
 use Rattle.std.specs.List.{enumerate_from}
 use Rattle.elf_types.specs.declared.records.Phdr.{Phdr}
 use Rattle.elf_types.specs.Text.{numbered, numbered_twice}
-use Rattle.elf_object.specs.Object.{Object}
-use Rattle.tool_output.specs.Names.{Name, shown_name}
-use Rattle.tool_output.specs.Reports.{Report, shown, found, reports_of}
+use Rattle.object_output.specs.elf_object.Object.{Object}
+use Rattle.object_output.specs.tool_output.Names.{Name, shown_name}
+use Rattle.object_output.specs.tool_output.Reports.{Report, shown, found, reports_of}
 use Rattle.lint_findings.specs.declared.places.Place.{Place}
 use Rattle.lint_findings.specs.declared.places.Place.TheVariants.{Header, File, Segment, Section, Item}
 

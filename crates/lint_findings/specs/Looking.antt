@@ -10,11 +10,11 @@ use Rattle.elf_types.specs.declared.records.Rela.{Rela}
 use Rattle.elf_types.specs.declared.records.Dyn.{Dyn}
 use Rattle.elf_types.specs.declared.errors.ElfError.{ElfError}
 use Rattle.elf_types.specs.Kinds.{is_compressed, section_kind}
-use Rattle.elf_xlate.specs.Translation.{is_whole}
-use Rattle.elf_object.specs.Object.{Object, section_at}
-use Rattle.elf_object.specs.Open.{home_len}
-use Rattle.elf_object.specs.Answers.{items_at, lend_refusal, bytes_of, words_of, syms_of, rels_of, relas_of, dyns_of}
-use Rattle.elf_object.specs.Sections.{header_at, is_of}
+use Rattle.object_output.specs.elf_xlate.Translation.{is_whole}
+use Rattle.object_output.specs.elf_object.Object.{Object, section_at}
+use Rattle.object_output.specs.elf_object.Open.{home_len}
+use Rattle.object_output.specs.elf_object.Answers.{items_at, lend_refusal, bytes_of, words_of, syms_of, rels_of, relas_of, dyns_of}
+use Rattle.object_output.specs.elf_object.Sections.{header_at, is_of}
 
 -- ---- Sections
 

@@ -1,11 +1,11 @@
 -- What a step of elflint over a descriptor and the two outputs does.
 use Rattle.std.specs.Prelude.{ℕ, Bool, Result}
-use Rattle.elf_outside.specs.declared.sources.Source.{Ghosts as SourceGhosts}
-use Rattle.elf_outside.specs.declared.sinks.Sink.{Ghosts as SinkGhosts}
-use Rattle.elf_descriptor.specs.State.{State}
-use Rattle.tool_output.specs.declared.stops.Stop.{Stop}
-use Rattle.tool_output.specs.declared.outputs.Outputs.{Outputs}
-use Rattle.tool_output.specs.Names.{Name}
+use Rattle.object_output.specs.elf_outside.declared.sources.Source.{Ghosts as SourceGhosts}
+use Rattle.object_output.specs.elf_outside.declared.sinks.Sink.{Ghosts as SinkGhosts}
+use Rattle.object_output.specs.elf_descriptor.State.{State}
+use Rattle.object_output.specs.tool_output.declared.stops.Stop.{Stop}
+use Rattle.object_output.specs.tool_output.declared.outputs.Outputs.{Outputs}
+use Rattle.object_output.specs.tool_output.Names.{Name}
 use Rattle.object_output.specs.Steps.{ReportsOver}
 use Rattle.lint_findings.specs.Findings.{Rule, findings_shown}
 

@@ -2,19 +2,17 @@
 //! there. Nothing is loaded, so nothing is let go behind a section.
 
 ghost use Rattle.std.specs.Prelude.{◌≡◌, ◌<◌, ℕ, Bool as TheBool, length};
-ghost use Rattle.elf_object.specs.Object.{Object};
-ghost use Rattle.elf_object.specs.Due.{all_sections};
-ghost use Rattle.tool_output.specs.Reports.{Reports};
-ghost use Rattle.tool_output.specs.Steps.{LeavesOutputs};
+ghost use Rattle.object_output.specs.elf_object.Object.{Object};
+ghost use Rattle.object_output.specs.elf_object.Due.{all_sections};
+ghost use Rattle.object_output.specs.tool_output.Reports.{Reports};
+ghost use Rattle.object_output.specs.tool_output.Steps.{LeavesOutputs};
 ghost use Rattle.lint_findings.specs.Findings.{at_sections, findings_shown};
 ghost use Rattle.lint_findings.specs.Steps.{FindsOver};
 
 use crate::findings::find_if;
 use crate::places::Place;
-use elf_descriptor::Elf;
-use elf_outside::{Sink, Source};
 use elf_types::ScnId;
-use tool_output::{FileName, Outputs, Stop};
+use object_output::prelude::{Elf, FileName, Outputs, Sink, Source, Stop};
 
 /// A rule that has at most one finding a section, and reads nothing.
 ///

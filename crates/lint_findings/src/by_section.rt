@@ -1,8 +1,8 @@
 //! Rules that look at each section, and have at most one finding there.
 
 ghost use Rattle.std.specs.Prelude.{◌<◌, ℕ, Bool as TheBool, length};
-ghost use Rattle.elf_object.specs.Object.{Object};
-ghost use Rattle.elf_object.specs.Due.{all_sections};
+ghost use Rattle.object_output.specs.elf_object.Object.{Object};
+ghost use Rattle.object_output.specs.elf_object.Due.{all_sections};
 ghost use Rattle.object_output.specs.Steps.{Learns};
 ghost use Rattle.lint_findings.specs.declared.places.Place.TheVariants.{Section};
 ghost use Rattle.lint_findings.specs.Findings.{at_sections, finding, findings_shown, found_if};
@@ -10,11 +10,9 @@ ghost use Rattle.lint_findings.specs.Steps.{FindsOver};
 
 use crate::findings::find_if;
 use crate::places::Place;
-use elf_descriptor::Elf;
-use elf_outside::{Sink, Source};
 use elf_types::ScnId;
+use object_output::prelude::{Elf, FileName, Outputs, Sink, Source, Stop};
 use object_output::{SectionTool, each_section};
-use tool_output::{FileName, Outputs, Stop};
 
 /// A rule that has at most one finding a section.
 ///

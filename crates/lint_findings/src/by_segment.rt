@@ -2,18 +2,16 @@
 
 ghost use Rattle.std.specs.Prelude.{◌≡◌, Bool as TheBool};
 ghost use Rattle.elf_types.specs.declared.records.Phdr.{Phdr as ThePhdr};
-ghost use Rattle.elf_object.specs.Object.{Object};
-ghost use Rattle.tool_output.specs.Reports.{Reports};
-ghost use Rattle.tool_output.specs.Steps.{LeavesOutputs};
+ghost use Rattle.object_output.specs.elf_object.Object.{Object};
+ghost use Rattle.object_output.specs.tool_output.Reports.{Reports};
+ghost use Rattle.object_output.specs.tool_output.Steps.{LeavesOutputs};
 ghost use Rattle.lint_findings.specs.Findings.{at_segments, findings_shown};
 
 use crate::findings::find_if;
 use crate::places::Place;
-use elf_descriptor::Elf;
-use elf_outside::{Sink, Source};
 use elf_types::Phdr;
 use object_output::phdr_at;
-use tool_output::{FileName, Outputs, Stop};
+use object_output::prelude::{Elf, FileName, Outputs, Sink, Source, Stop};
 
 /// A rule that has at most one finding a program header.
 ///

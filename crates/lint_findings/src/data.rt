@@ -1,15 +1,12 @@
 //! The items of a section, where they can be told.
 
 ghost use Rattle.std.specs.Prelude.{slice_get};
-ghost use Rattle.elf_object.specs.Answers.{items_at, lend_refusal};
+ghost use Rattle.object_output.specs.elf_object.Answers.{items_at, lend_refusal};
 ghost use Rattle.object_output.specs.Steps.{Learns};
 ghost use Rattle.lint_findings.specs.Looking.{if_lent};
 
-use elf_descriptor::Elf;
-use elf_outside::Source;
 use elf_types::{DataId, ScnId};
-use section_data::Item;
-use tool_output::Stop;
+use object_output::prelude::{Elf, Item, Source, Stop};
 
 /// Item `i` of a section, or None where it is not there or the items can not be told. It stops by
 /// `Read` where a read of the source failed, and by `Memory`.

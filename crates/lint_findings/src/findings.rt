@@ -2,14 +2,13 @@
 
 ghost use Rattle.std.specs.Prelude.{◌≡◌, ◌++◌, [], ◌∷◌, OnOk, IfErr};
 ghost use Rattle.elf_types.specs.Writers.{WantsMemory};
-ghost use Rattle.tool_output.specs.Reports.{Reports};
-ghost use Rattle.tool_output.specs.Steps.{LeavesOutputs};
+ghost use Rattle.object_output.specs.tool_output.Reports.{Reports};
+ghost use Rattle.object_output.specs.tool_output.Steps.{LeavesOutputs};
 ghost use Rattle.lint_findings.specs.Findings.{finding, finding_line, finding_start, findings_shown, found_if, no_findings_line};
 
 use crate::places::Place;
-use elf_outside::Sink;
 use elf_types::{ElfError, Octets, put_decimal, put_text};
-use tool_output::{FileName, Line, Outputs, Stop};
+use object_output::prelude::{FileName, Line, Outputs, Sink, Stop};
 
 /// Appends `FILE: N PLACE`.
 #[tactic(auto, using(elf_types::proofs::Writers::kept), unfolding(crate::specs::Findings::finding_start))]

@@ -9,6 +9,7 @@ pub mod data;
 pub mod findings;
 pub mod looking;
 pub mod places;
+pub mod prelude;
 
 pub use by_header::{HeaderRule, each_header_by};
 pub use by_section::{SectionRule, each_section_by};

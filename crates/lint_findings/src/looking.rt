@@ -3,25 +3,23 @@
 ghost use Rattle.std.specs.Prelude.{◌≡◌, ◌<◌, ◌==◌, ◌&&◌, length};
 ghost use Rattle.elf_types.specs.declared.records.Kind.TheVariants as kinds;
 ghost use Rattle.elf_types.specs.Kinds.{section_kind};
-ghost use Rattle.elf_xlate.specs.Translation.{is_whole as stated_whole};
-ghost use Rattle.elf_object.specs.Object.{section_at};
-ghost use Rattle.elf_object.specs.Open.{home_len as stated_len};
-ghost use Rattle.elf_object.specs.Answers.{same_kind};
-ghost use Rattle.elf_object.specs.Sections.{header_at, is_allocated, is_of, is_relocations, info_is_section};
+ghost use Rattle.object_output.specs.elf_xlate.Translation.{is_whole as stated_whole};
+ghost use Rattle.object_output.specs.elf_object.Object.{section_at};
+ghost use Rattle.object_output.specs.elf_object.Open.{home_len as stated_len};
+ghost use Rattle.object_output.specs.elf_object.Answers.{same_kind};
+ghost use Rattle.object_output.specs.elf_object.Sections.{header_at, is_allocated, is_of, is_relocations, info_is_section};
 ghost use Rattle.lint_findings.specs.Looking as looking;
 
-use elf_descriptor::Elf;
-use elf_outside::Source;
 use elf_types::constants::{
     SHF_ALLOC, SHF_INFO_LINK, SHT_DYNSYM, SHT_NOBITS, SHT_NULL, SHT_REL, SHT_RELA, SHT_STRTAB,
     SHT_SYMTAB,
 };
 use elf_types::{Class, DataId, Kind, NULL_SECTION, ScnId, Shdr, is_compressed, kind_of};
-use elf_xlate::item_size;
+use object_output::prelude::{Elf, Source, item_size};
 use object_output::{is_out, section_header};
 
 /// The class of an object.
-#[tactic(auto, unfolding(elf_object::specs::Object::header_of))]
+#[tactic(auto, unfolding(object_output::specs::Passed::header_of))]
 pub fn class<S: Source>(elf: &Elf<S>) -> Class
     ensures { result ≡ elf.now.o.header.class }
 {
@@ -42,7 +40,7 @@ fn is_whole(kind: Kind, class: Class, len: u64) -> bool
 }
 
 /// How many bytes of the file a section with this header has.
-#[tactic(auto, unfolding(elf_object::specs::Open::home_len))]
+#[tactic(auto, unfolding(object_output::specs::Passed::home_len))]
 fn home_len(h: &Shdr) -> u64
     ensures { result ≡ stated_len h.now }
 {
@@ -116,7 +114,7 @@ pub fn is_plain_of<S: Source>(elf: &Elf<S>, s: ScnId, stype: u32) -> bool
 }
 
 /// Whether items are symbols.
-#[tactic(auto, unfolding(elf_object::specs::Answers::kind_code))]
+#[tactic(auto, unfolding(object_output::specs::Passed::kind_code))]
 fn are_symbols(kind: Kind) -> bool
     ensures { result ≡ same_kind kind kinds.Sym }
 {
@@ -124,7 +122,7 @@ fn are_symbols(kind: Kind) -> bool
 }
 
 /// Whether a section is of a type, with symbols as its items.
-#[tactic(auto, unfolding(elf_object::specs::Sections::is_of))]
+#[tactic(auto, unfolding(object_output::specs::Passed::is_of))]
 fn is_table_of(class: Class, h: &Shdr, stype: u32) -> bool
     ensures { result ≡ is_of stype kinds.Sym h.now }
 {
@@ -153,7 +151,7 @@ pub fn is_string_table(h: &Shdr) -> bool
 /// Whether a section holds relocations.
 ///
 /// Source: gABI chapter 4, "Sections", SHT_REL and SHT_RELA.
-#[tactic(auto, unfolding(elf_object::specs::Sections::is_relocations))]
+#[tactic(auto, unfolding(object_output::specs::Passed::is_relocations))]
 pub fn is_relocations(h: &Shdr) -> bool
     ensures { result ≡ is_relocations h.now }
 {
@@ -163,7 +161,7 @@ pub fn is_relocations(h: &Shdr) -> bool
 /// Whether `sh_info` is a section's number.
 ///
 /// Source: gABI chapter 4, "Section Header", sh_info; "Sections", SHF_INFO_LINK.
-#[tactic(auto, unfolding(elf_object::specs::Sections::info_is_section))]
+#[tactic(auto, unfolding(object_output::specs::Passed::info_is_section))]
 pub fn info_is_section(h: &Shdr) -> bool
     ensures { result ≡ info_is_section h.now }
 {
@@ -173,7 +171,7 @@ pub fn info_is_section(h: &Shdr) -> bool
 /// Whether a section is in memory when the program runs.
 ///
 /// Source: gABI chapter 4, "Sections", SHF_ALLOC.
-#[tactic(auto, unfolding(elf_object::specs::Sections::is_allocated))]
+#[tactic(auto, unfolding(object_output::specs::Passed::is_allocated))]
 pub fn is_allocated(h: &Shdr) -> bool
     ensures { result ≡ is_allocated h.now }
 {
@@ -182,7 +180,7 @@ pub fn is_allocated(h: &Shdr) -> bool
 
 /// The header of the section to which a section that is there links; one that is not there is of no
 /// type.
-#[tactic(auto, unfolding(crate::specs::Looking::linked_header, elf_object::specs::Calls::shdr_answer))]
+#[tactic(auto, unfolding(crate::specs::Looking::linked_header, object_output::specs::Passed::shdr_answer))]
 pub fn linked_header<S: Source>(elf: &Elf<S>, s: ScnId) -> Shdr
     requires { s.0 < length elf.now.o.sections }
     ensures { result ≡ looking.linked_header elf.now.o s.0 }

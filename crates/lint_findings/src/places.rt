@@ -4,7 +4,7 @@ ghost use Rattle.std.specs.Prelude.{◌≡◌, ◌++◌};
 ghost use Rattle.lint_findings.specs.Findings.{place_text};
 
 use elf_types::{ElfError, Octets, put_numbered, put_numbered_twice, put_text};
-use tool_output::Line;
+use object_output::prelude::Line;
 
 /// The place of a finding.
 #[derive(Clone, Copy)]

@@ -6,9 +6,9 @@ use Rattle.elf_types.specs.declared.records.Kind.TheVariants as kinds
 use Rattle.elf_xlate.specs.declared.content.Items.{Items}
 use Rattle.elf_xlate.specs.declared.content.Items.TheVariants as items
 use Rattle.elf_xlate.specs.Translation.{items_kind, items_count}
-use Rattle.elf_object.specs.Words.{IsLike, AlikeBytes}
-use Rattle.elf_object.specs.Object.{Object}
-use Rattle.elf_object.specs.Answers.{items_at, count_at, lend_refusal, words_of}
+use Rattle.hash_model.specs.elf_object.Words.{IsLike, AlikeBytes}
+use Rattle.hash_model.specs.elf_object.Object.{Object}
+use Rattle.hash_model.specs.elf_object.Answers.{items_at, count_at, lend_refusal, words_of}
 use Rattle.lint_findings.specs.Looking.{if_lent, words}
 use Rattle.lint_findings.proofs.LentLemmas.{lent, lent_count}
 

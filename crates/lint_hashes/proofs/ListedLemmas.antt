@@ -9,12 +9,12 @@ use Rattle.std.proofs.lemmas.Option.{slice_get-map, slice_get-get_or, slice_get_
 use Rattle.elf_types.specs.Answers.{answered}
 use Rattle.elf_types.specs.declared.records.Kind.TheVariants as kinds
 use Rattle.elf_types.specs.declared.records.Sym.{Sym}
-use Rattle.elf_object.specs.Object.{Object}
-use Rattle.elf_object.specs.Answers.{items_at, count_at, lend_refusal, syms_of}
-use Rattle.elf_object.specs.Strings.{readable, string_answer, symbol_name}
-use Rattle.elf_object.specs.Sections.{header_at}
+use Rattle.hash_model.specs.elf_object.Object.{Object}
+use Rattle.hash_model.specs.elf_object.Answers.{items_at, count_at, lend_refusal, syms_of}
+use Rattle.hash_model.specs.elf_object.Strings.{readable, string_answer, symbol_name}
+use Rattle.hash_model.specs.elf_object.Sections.{header_at}
 use Rattle.hash_model.specs.Listed.{is_defined_global, not_empty, listed_name, listed_names}
-use Rattle.object_output.proofs.ListCounts.{syms_counted}
+use Rattle.bytes_at_hand.proofs.object_output.ListCounts.{syms_counted}
 use Rattle.lint_findings.specs.Looking.{symbols}
 use Rattle.lint_findings.proofs.LentLemmas.{lent_count, symbols_are}
 use Rattle.lint_hashes.specs.declared.listed.NameHash.{NameHash}

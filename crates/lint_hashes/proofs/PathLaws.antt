@@ -6,7 +6,7 @@ use Rattle.std.specs.Option.{option_map}
 use Rattle.std.proofs.lemmas.Bool.{eq-eqb, ne_eqb, cases_lt, cases_eq}
 use Rattle.std.proofs.lemmas.List.{length-replicate, get_or-replicate, get_or-set_same, get_or-set_other, get_or_past}
 use Rattle.hash_model.specs.HashSections.{sysv_chain, is_on, ends}
-use Rattle.elf_object.specs.Sections.{is_among}
+use Rattle.hash_model.specs.elf_object.Sections.{is_among}
 use Rattle.lint_hashes.specs.declared.sysv.SysvTable.{SysvTable}
 use Rattle.lint_hashes.specs.declared.paths.Paths.{Paths}
 use Rattle.lint_hashes.specs.Sysv.{section_of, chain_has, has_end, is_true}

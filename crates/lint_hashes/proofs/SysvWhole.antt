@@ -9,7 +9,7 @@ use Rattle.std.proofs.lemmas.Bool.{le-leb, lt-leb, eq-eqb, eqb-true, cases_lt}
 use Rattle.elf_types.specs.declared.records.ScnId.{ScnId}
 use Rattle.hash_model.specs.Hashes.{elf_hash}
 use Rattle.hash_model.specs.HashSections.{SysvHash, sysv_in, sysv_chain, sysv_chain_of, is_whole_sysv, each_listed, is_on, ends}
-use Rattle.elf_object.specs.Sections.{is_among}
+use Rattle.hash_model.specs.elf_object.Sections.{is_among}
 use Rattle.lint_hashes.specs.declared.sysv.SysvTable.{SysvTable}
 use Rattle.lint_hashes.proofs.ListedLemmas.{by_hash}
 use Rattle.lint_hashes.specs.Sysv.{table_in, counts_are, section_of, chain_has, bucket_has, has_end, is_found, is_true, all_are_found, chains_hold, is_whole_table}

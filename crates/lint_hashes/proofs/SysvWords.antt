@@ -6,7 +6,7 @@ use Rattle.std.specs.Option.{option_map}
 use Rattle.std.proofs.lemmas.List.{get_or-take, get_or-drop, length-drop, take_all, take_more}
 use Rattle.std.proofs.lemmas.Option.{slice_get-get_or, slice_get_past, slice_get_cases}
 use Rattle.hash_model.specs.HashSections.{sysv_chain}
-use Rattle.elf_object.specs.Sections.{is_among}
+use Rattle.hash_model.specs.elf_object.Sections.{is_among}
 use Rattle.lint_hashes.specs.declared.sysv.SysvTable.{SysvTable}
 use Rattle.lint_hashes.specs.Sysv.{section_of, chain_has, with_word}
 

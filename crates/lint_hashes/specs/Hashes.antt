@@ -3,9 +3,9 @@
 use Rattle.std.specs.Prelude.{◌==◌, ◌&&◌, not, ℕ, Bool, List, Option, codes}
 use Rattle.elf_types.specs.declared.constants.TheConstants.{SHT_HASH, SHT_GNU_HASH}
 use Rattle.elf_types.specs.declared.records.Kind.TheVariants as kinds
-use Rattle.elf_object.specs.Object.{Object}
-use Rattle.elf_object.specs.Due.{all_sections}
-use Rattle.elf_object.specs.Sections.{header_at, is_of}
+use Rattle.hash_model.specs.elf_object.Object.{Object}
+use Rattle.hash_model.specs.elf_object.Due.{all_sections}
+use Rattle.hash_model.specs.elf_object.Sections.{header_at, is_of}
 use Rattle.hash_model.specs.Listed.{listed_names}
 use Rattle.hash_model.specs.HashSections.{is_whole_sysv, is_whole_gnu}
 use Rattle.lint_findings.specs.Findings.{Rule, at_sections}

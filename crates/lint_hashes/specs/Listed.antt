@@ -2,9 +2,9 @@
 use Rattle.std.specs.Prelude.{◌≡◌, ℕ, List, length, slice_get, Option, Some, None}
 use Rattle.std.specs.Option.{option_map}
 use Rattle.elf_types.specs.declared.records.Kind.TheVariants as kinds
-use Rattle.elf_object.specs.Object.{Object}
-use Rattle.elf_object.specs.Answers.{lend_refusal}
-use Rattle.elf_object.specs.Sections.{header_at}
+use Rattle.hash_model.specs.elf_object.Object.{Object}
+use Rattle.hash_model.specs.elf_object.Answers.{lend_refusal}
+use Rattle.hash_model.specs.elf_object.Sections.{header_at}
 use Rattle.hash_model.specs.Listed.{listed_names}
 use Rattle.hash_model.specs.Hashes.{elf_hash, gnu_hash}
 use Rattle.lint_hashes.specs.declared.listed.Listed.{Listed}

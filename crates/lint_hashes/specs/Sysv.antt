@@ -5,7 +5,7 @@ use Rattle.std.specs.Option.{option_map}
 use Rattle.elf_types.specs.declared.records.ScnId.{ScnId}
 use Rattle.hash_model.specs.Hashes.{elf_hash}
 use Rattle.hash_model.specs.HashSections.{SysvHash, sysv_chain, each_listed}
-use Rattle.elf_object.specs.Sections.{is_among}
+use Rattle.hash_model.specs.elf_object.Sections.{is_among}
 use Rattle.lint_hashes.specs.declared.sysv.SysvTable.{SysvTable}
 
 -- ---- The two counts

@@ -3,7 +3,7 @@
 ghost use Rattle.std.specs.Prelude.{◌≡◌, ◌<◌, length, true, IfOk, IfSome, IsTrue};
 ghost use Rattle.hash_model.specs.HashSections.{is_whole_gnu};
 ghost use Rattle.hash_model.specs.Listed.{listed_names};
-ghost use Rattle.object_output.specs.Steps.{Learns, ReadsElf};
+ghost use Rattle.bytes_at_hand.specs.object_output.Steps.{Learns, ReadsElf};
 ghost use Rattle.bytes_at_hand.specs.Strings.{EndsAt};
 ghost use Rattle.lint_findings.specs.Looking.{data_bytes};
 ghost use Rattle.lint_hashes.specs.Gnu as gnu;
@@ -12,15 +12,14 @@ ghost use Rattle.lint_hashes.specs.Listed.{listed_hash, AreListed};
 
 use crate::gnu::{GnuTable, run_after, sound_in};
 use crate::listed::{Listed, NameHash, end_of_names, listed_hash};
-use elf_descriptor::Elf;
+use bytes_at_hand::prelude::{Elf, bytes};
 use elf_outside::Source;
 use elf_types::{DataId, Order, ScnId};
-use gelf_view::bytes;
 use lint_findings::class;
 use tool_output::Stop;
 
 /// The byte order of an object.
-#[tactic(auto, unfolding(elf_object::specs::Object::header_of))]
+#[tactic(auto, unfolding(hash_model::specs::Passed::header_of))]
 fn order<S: Source>(elf: &Elf<S>) -> Order
     ensures { result ≡ elf.now.o.header.order }
 {

@@ -2,24 +2,23 @@
 
 ghost use Rattle.std.specs.Prelude.{◌≡◌};
 ghost use Rattle.elf_types.specs.declared.records.Kind.TheVariants as kinds;
-ghost use Rattle.elf_object.specs.Object.{section_at};
-ghost use Rattle.elf_object.specs.Answers.{same_kind};
-ghost use Rattle.elf_object.specs.Sections.{is_of};
+ghost use Rattle.hash_model.specs.elf_object.Object.{section_at};
+ghost use Rattle.hash_model.specs.elf_object.Answers.{same_kind};
+ghost use Rattle.hash_model.specs.elf_object.Sections.{is_of};
 ghost use Rattle.lint_findings.specs.Steps.{FindsOver};
 ghost use Rattle.lint_hashes.specs.Hashes as rule;
 
 use crate::listed::linked_symbols;
 use crate::{gnu_sections, sysv};
-use elf_descriptor::Elf;
+use bytes_at_hand::prelude::{Elf, section_header};
 use elf_outside::{Sink, Source};
 use elf_types::constants::{SHT_GNU_HASH, SHT_HASH};
 use elf_types::{Class, Kind, ScnId, Shdr, kind_of};
 use lint_findings::{SectionRule, class, each_section_by, is_plain, is_plain_of};
-use object_output::section_header;
 use tool_output::{FileName, Outputs, Stop};
 
 /// Whether items are words.
-#[tactic(auto, unfolding(elf_object::specs::Answers::kind_code))]
+#[tactic(auto, unfolding(hash_model::specs::Passed::kind_code))]
 fn are_words(kind: Kind) -> bool
     ensures { result ≡ same_kind kind kinds.Word }
 {
@@ -27,7 +26,7 @@ fn are_words(kind: Kind) -> bool
 }
 
 /// Whether a section is of type `SHT_HASH`, with words as its items.
-#[tactic(auto, unfolding(elf_object::specs::Sections::is_of))]
+#[tactic(auto, unfolding(hash_model::specs::Passed::is_of))]
 fn is_hash_of_words(class: Class, h: &Shdr) -> bool
     ensures { result ≡ is_of SHT_HASH kinds.Word h.now }
 {

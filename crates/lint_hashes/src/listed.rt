@@ -3,21 +3,19 @@
 ghost use Rattle.std.specs.Prelude.{◌≡◌, ◌<◌, ◌==◌, ◌&&◌, not, length, is_some, slice_get, IfOk, IfSome, IsTrue, Some};
 ghost use Rattle.std.specs.Option.{option_map};
 ghost use Rattle.hash_model.specs.Listed.{is_defined_global, listed_name, not_empty};
-ghost use Rattle.elf_object.specs.Sections.{header_at};
-ghost use Rattle.object_output.specs.Steps.{Learns, ReadsElf};
+ghost use Rattle.hash_model.specs.elf_object.Sections.{header_at};
+ghost use Rattle.bytes_at_hand.specs.object_output.Steps.{Learns, ReadsElf};
 ghost use Rattle.bytes_at_hand.specs.Strings.{EndsAt};
 ghost use Rattle.lint_findings.specs.Looking.{links_to_symbols, symbols};
 ghost use Rattle.lint_hashes.specs.Listed as listed;
 ghost use Rattle.lint_hashes.specs.Listed.{hash_by, AreListed};
 
+use bytes_at_hand::prelude::{Elf, item_count, section_header, string_at};
 use bytes_at_hand::{is_past, strings_end};
-use elf_descriptor::Elf;
 use elf_outside::Source;
 use elf_types::constants::{SHN_UNDEF, STB_LOCAL};
 use elf_types::{DataId, ScnId, Sym, bind};
-use gelf_view::item_count;
 use lint_findings::{class, is_symbol_table, item_at, linked_header};
-use object_output::{section_header, string_at};
 use symbol_hashes::{elf_hash, gnu_hash};
 use tool_output::Stop;
 
@@ -119,7 +117,7 @@ pub fn end_of_names<S: Source>(elf: &mut Elf<S>, l: Listed) -> Result<Option<u64
 
 /// The hash of the name of symbol `i`, which was looked at, where it is listed. A name that begins
 /// where names end can not be read, and is not looked for.
-#[tactic(auto, unfolding(hash_model::specs::Listed::listed_name, elf_object::specs::Strings::symbol_name))]
+#[tactic(auto, unfolding(hash_model::specs::Listed::listed_name, hash_model::specs::Passed::symbol_name))]
 fn hash_if_listed<S: Source>(
     elf: &mut Elf<S>,
     by: NameHash,

@@ -8,7 +8,7 @@ ghost use Rattle.std.specs.Prelude.{◌≡◌, ℕ, ◌<◌, ◌+◌, ◌++◌, 
 ghost use Rattle.std.specs.Option.{option_map};
 ghost use Rattle.hash_model.specs.HashSections.{is_whole_sysv};
 ghost use Rattle.hash_model.specs.Listed.{listed_names};
-ghost use Rattle.object_output.specs.Steps.{Learns};
+ghost use Rattle.bytes_at_hand.specs.object_output.Steps.{Learns};
 ghost use Rattle.bytes_at_hand.specs.Strings.{EndsAt};
 ghost use Rattle.lint_findings.specs.Looking.{words};
 ghost use Rattle.lint_hashes.specs.Listed.{listed_hash, AreListed};
@@ -18,10 +18,9 @@ ghost use Rattle.lint_hashes.specs.Paths.{ArePaths};
 
 use crate::listed::{Listed, NameHash, end_of_names, listed_hash};
 use crate::paths::{Paths, is_found_in, paths_of};
-use elf_descriptor::Elf;
+use bytes_at_hand::prelude::{Elf, item_count};
 use elf_outside::Source;
 use elf_types::{DataId, ScnId, Words};
-use gelf_view::item_count;
 use lint_findings::item_at;
 use tool_output::Stop;
 

@@ -3,10 +3,10 @@ use Rattle.std.proofs.Common.{◌≡◌, ℕ, ◌&&◌, ◌||◌, not, Bool, tru
 use Rattle.std.specs.Prelude.{◌==◌, is_none, if◌then◌else◌}
 use Rattle.std.proofs.lemmas.Bool.{ne_eqb}
 use Rattle.elf_types.specs.declared.constants.TheConstants.{SHN_UNDEF}
-use Rattle.elf_object.specs.Object.{Object}
-use Rattle.elf_object.specs.Due.{all_sections}
-use Rattle.elf_object.specs.Strings.{string_answer, readable, section_name}
-use Rattle.elf_object.specs.Sections.{header_at}
+use Rattle.bytes_at_hand.specs.elf_object.Object.{Object}
+use Rattle.bytes_at_hand.specs.elf_object.Due.{all_sections}
+use Rattle.bytes_at_hand.specs.elf_object.Strings.{string_answer, readable, section_name}
+use Rattle.bytes_at_hand.specs.elf_object.Sections.{header_at}
 use Rattle.bytes_at_hand.specs.Strings.{EndsAt}
 use Rattle.bytes_at_hand.proofs.Ends.{unreadable_test}
 use Rattle.lint_findings.specs.Findings.{at_sections}

@@ -4,7 +4,7 @@ use Rattle.std.specs.Prelude.{◌+◌, ◌==◌, ◌&&◌, not, nat_lt, Bool, le
 use Rattle.elf_types.specs.declared.constants.TheConstants.{PT_LOAD}
 use Rattle.elf_types.specs.declared.records.Phdr.{Phdr}
 use Rattle.elf_xlate.specs.Headers.{ehdr_size}
-use Rattle.elf_object.specs.Object.{Object}
+use Rattle.bytes_at_hand.specs.elf_object.Object.{Object}
 use Rattle.lint_findings.specs.Findings.{Rule, at_header, at_segments}
 
 -- ---- 1: e_ehsize is not the size of the class's header

@@ -6,8 +6,8 @@ use Rattle.elf_types.specs.declared.records.Part.TheVariants as part
 use Rattle.elf_types.specs.Text.{part_text}
 use Rattle.elf_layout.specs.declared.parts.PartAt.{PartAt}
 use Rattle.elf_layout.specs.Meeting.{overlap_of}
-use Rattle.elf_object.specs.Object.{Object, Home, section_at}
-use Rattle.elf_object.specs.Layout.{header_part, segments_part, table_part, section_numbers}
+use Rattle.bytes_at_hand.specs.elf_object.Object.{Object, Home, section_at}
+use Rattle.bytes_at_hand.specs.elf_object.Layout.{header_part, segments_part, table_part, section_numbers}
 use Rattle.lint_findings.specs.declared.places.Place.TheVariants.{File}
 use Rattle.lint_findings.specs.Findings.{Finding, Rule, finding}
 

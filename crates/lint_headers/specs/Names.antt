@@ -2,10 +2,10 @@
 -- Header", sh_name).
 use Rattle.std.specs.Prelude.{◌≡◌, ◌<◌, ℕ, ◌==◌, ◌&&◌, ◌||◌, not, nat_le, Bool, false, length, is_none, codes}
 use Rattle.elf_types.specs.declared.constants.TheConstants.{SHN_UNDEF}
-use Rattle.elf_object.specs.Object.{Object}
-use Rattle.elf_object.specs.Due.{all_sections}
-use Rattle.elf_object.specs.Strings.{section_name}
-use Rattle.elf_object.specs.Sections.{header_at}
+use Rattle.bytes_at_hand.specs.elf_object.Object.{Object}
+use Rattle.bytes_at_hand.specs.elf_object.Due.{all_sections}
+use Rattle.bytes_at_hand.specs.elf_object.Strings.{section_name}
+use Rattle.bytes_at_hand.specs.elf_object.Sections.{header_at}
 use Rattle.lint_findings.specs.Findings.{Rule, at_header, at_sections}
 use Rattle.lint_findings.specs.Looking.{is_no_section, is_string_table}
 

@@ -4,7 +4,7 @@ ghost use Rattle.std.specs.Prelude.{◌≡◌};
 ghost use Rattle.lint_headers.specs.Headers as rule;
 ghost use Rattle.lint_findings.specs.Steps.{FindsElf};
 
-use elf_descriptor::Elf;
+use bytes_at_hand::prelude::Elf;
 use elf_outside::{Sink, Source};
 use elf_types::Phdr;
 use elf_types::constants::PT_LOAD;
@@ -13,7 +13,7 @@ use lint_findings::{Place, SegmentRule, each_segment, find_if};
 use tool_output::{FileName, Outputs, Stop};
 
 /// Whether `e_ehsize` is not the size of the class's header.
-#[tactic(auto, unfolding(elf_object::specs::Object::header_of))]
+#[tactic(auto, unfolding(bytes_at_hand::specs::Passed::header_of))]
 fn has_wrong_size<S: Source>(elf: &Elf<S>) -> bool
     ensures { result ≡ rule.has_wrong_size elf.now.o }
 {

@@ -3,18 +3,17 @@
 ghost use Rattle.std.specs.Prelude.{◌≡◌, ◌<◌, ◌++◌, true, length, map, IfOk, IfErr, OnOk};
 ghost use Rattle.elf_types.specs.declared.errors.ElfError.TheVariants.{Memory};
 ghost use Rattle.elf_layout.specs.Meeting.{overlap_of};
-ghost use Rattle.elf_object.specs.Layout as stated;
-ghost use Rattle.elf_object.specs.Object.{section_at};
+ghost use Rattle.bytes_at_hand.specs.elf_object.Layout as stated;
+ghost use Rattle.bytes_at_hand.specs.elf_object.Object.{section_at};
 ghost use Rattle.lint_headers.specs.Layout as rule;
 ghost use Rattle.lint_findings.specs.Steps.{FindsElf};
 
-use elf_descriptor::Elf;
+use bytes_at_hand::prelude::{Elf, is_out};
 use elf_layout::{PartAt, Parts, overlap};
 use elf_outside::{Sink, Source};
 use elf_types::{Class, ElfError, Octets, Part, ScnId, put_part, put_text};
 use elf_xlate::{ehdr_size, phdr_size, shdr_size};
 use lint_findings::{Place, find};
-use object_output::is_out;
 use std::alloc::Global;
 use tool_output::{FileName, Line, Outputs, Stop};
 
@@ -53,7 +52,7 @@ fn front_part(part: Part, at: u64, len: u64, align: u64) -> PartAt
 }
 
 /// The ELF header as a part.
-#[tactic(auto, unfolding(elf_object::specs::Object::header_of))]
+#[tactic(auto, unfolding(bytes_at_hand::specs::Passed::header_of))]
 fn header_part<S: Source>(elf: &Elf<S>) -> PartAt
     ensures { result ≡ stated.header_part elf.now.o }
 {
@@ -61,7 +60,7 @@ fn header_part<S: Source>(elf: &Elf<S>) -> PartAt
 }
 
 /// The program header table as a part.
-#[tactic(auto, unfolding(elf_object::specs::Object::header_of))]
+#[tactic(auto, unfolding(bytes_at_hand::specs::Passed::header_of))]
 fn segments_part<S: Source>(elf: &Elf<S>) -> PartAt
     ensures { result ≡ stated.segments_part elf.now.o }
 {
@@ -71,7 +70,7 @@ fn segments_part<S: Source>(elf: &Elf<S>) -> PartAt
 }
 
 /// The section header table as a part.
-#[tactic(auto, unfolding(elf_object::specs::Object::header_of))]
+#[tactic(auto, unfolding(bytes_at_hand::specs::Passed::header_of))]
 fn table_part<S: Source>(elf: &Elf<S>) -> PartAt
     ensures { result ≡ stated.table_part elf.now.o }
 {
@@ -85,7 +84,7 @@ fn table_part<S: Source>(elf: &Elf<S>) -> PartAt
 }
 
 /// The place and the length of the home of a section that is there.
-#[tactic(auto, unfolding(elf_object::specs::Calls::home_answer))]
+#[tactic(auto, unfolding(bytes_at_hand::specs::Passed::home_answer))]
 fn home<S: Source>(elf: &Elf<S>, s: ScnId) -> (u64, u64)
     requires { s.0 < length elf.now.o.sections }
     ensures at { result.0 ≡ (section_at elf.now.o s.0).home.at }

@@ -2,26 +2,25 @@
 //! name can be read exactly where it begins before that.
 
 ghost use Rattle.std.specs.Prelude.{◌≡◌, IfOk, IfSome, IsTrue};
-ghost use Rattle.object_output.specs.Steps.{ReadsElf};
+ghost use Rattle.bytes_at_hand.specs.object_output.Steps.{ReadsElf};
 ghost use Rattle.bytes_at_hand.specs.Strings.{EndsAt};
 ghost use Rattle.lint_headers.specs.Names as rule;
 ghost use Rattle.lint_headers.specs.Names.{HasNames};
 ghost use Rattle.lint_findings.specs.Steps.{FindsElf, FindsOver};
 
+use bytes_at_hand::prelude::{Elf, object_output_section_name as section_name, section_header};
 use bytes_at_hand::strings_end;
-use elf_descriptor::Elf;
 use elf_outside::{Sink, Source};
 use elf_types::ScnId;
 use elf_types::constants::SHN_UNDEF;
 use lint_findings::{
     HeaderRule, Place, SectionRule, each_header_by, each_section_by, find_if, is_string_table,
 };
-use object_output::{section_header, section_name};
 use tool_output::{FileName, Outputs, Stop};
 
 /// Whether there are sections, and the section of their names is none, is not there, or is no
 /// string table. Nothing is read.
-#[tactic(auto, unfolding(crate::specs::Names::lacks_name_table, elf_object::specs::Calls::shdr_answer))]
+#[tactic(auto, unfolding(crate::specs::Names::lacks_name_table, bytes_at_hand::specs::Passed::shdr_answer))]
 fn lacks_name_table<S: Source>(elf: &Elf<S>) -> bool
     ensures { result ≡ rule.lacks_name_table elf.now.o }
 {

@@ -6,7 +6,7 @@ ghost use Rattle.lint_findings.specs.Looking as looking;
 ghost use Rattle.lint_headers.specs.Sections as rule;
 ghost use Rattle.lint_findings.specs.Steps.{FindsOver};
 
-use elf_descriptor::Elf;
+use bytes_at_hand::prelude::{Elf, is_out, section_header};
 use elf_outside::{Sink, Source};
 use elf_types::constants::SHF_TLS;
 use elf_types::{Kind, ScnId, Shdr, kind_of};
@@ -15,7 +15,6 @@ use lint_findings::{
     HeaderRule, class, each_header_by, info_is_section, is_allocated, is_intact, is_looked_at,
     is_ragged,
 };
-use object_output::{is_out, section_header};
 use tool_output::{FileName, Outputs, Stop};
 
 /// Whether a field of section 0 that is to be 0 is not.

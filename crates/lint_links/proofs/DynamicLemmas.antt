@@ -6,9 +6,9 @@ use Rattle.elf_types.specs.declared.records.Dyn.{Dyn}
 use Rattle.elf_types.specs.declared.records.Kind.TheVariants as kinds
 use Rattle.elf_types.specs.declared.errors.ElfError.{ElfError}
 use Rattle.elf_types.specs.Answers.{answered}
-use Rattle.elf_object.specs.Object.{Object}
-use Rattle.elf_object.specs.Answers.{count_at, items_at, dyns_of, lend_refusal}
-use Rattle.object_output.proofs.ListCounts.{dyns_counted}
+use Rattle.lint_findings.specs.elf_object.Object.{Object}
+use Rattle.lint_findings.specs.elf_object.Answers.{count_at, items_at, dyns_of, lend_refusal}
+use Rattle.lint_findings.proofs.object_output.ListCounts.{dyns_counted}
 use Rattle.lint_findings.specs.Looking.{dyns}
 use Rattle.lint_findings.proofs.LentLemmas.{lent, lent_count, no_count}
 use Rattle.lint_links.specs.Dynamic.{is_null_tag, is_end}

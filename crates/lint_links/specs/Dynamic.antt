@@ -3,9 +3,9 @@ use Rattle.std.specs.Prelude.{ℕ, ℤ, pos, negsuc, ◌==◌, ◌&&◌, not, Bo
 use Rattle.std.specs.List.{list_any}
 use Rattle.elf_types.specs.declared.constants.TheConstants.{SHT_DYNAMIC}
 use Rattle.elf_types.specs.declared.records.Dyn.{Dyn}
-use Rattle.elf_object.specs.Object.{Object}
-use Rattle.elf_object.specs.Due.{all_sections}
-use Rattle.elf_object.specs.Sections.{header_at}
+use Rattle.lint_findings.specs.elf_object.Object.{Object}
+use Rattle.lint_findings.specs.elf_object.Due.{all_sections}
+use Rattle.lint_findings.specs.elf_object.Sections.{header_at}
 use Rattle.lint_findings.specs.Findings.{Rule, at_sections}
 use Rattle.lint_findings.specs.Looking.{is_plain, dyns}
 

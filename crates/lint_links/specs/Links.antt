@@ -4,9 +4,9 @@
 use Rattle.std.specs.Prelude.{ℕ, ◌==◌, ◌&&◌, ◌||◌, not, Bool, codes}
 use Rattle.elf_types.specs.declared.constants.TheConstants.{SHN_UNDEF, SHT_HASH, SHT_DYNAMIC, SHT_GNU_HASH, SHT_GNU_VERSYM}
 use Rattle.elf_types.specs.declared.records.Shdr.{Shdr}
-use Rattle.elf_object.specs.Object.{Object}
-use Rattle.elf_object.specs.Due.{all_sections}
-use Rattle.elf_object.specs.Sections.{header_at, is_relocations}
+use Rattle.lint_findings.specs.elf_object.Object.{Object}
+use Rattle.lint_findings.specs.elf_object.Due.{all_sections}
+use Rattle.lint_findings.specs.elf_object.Sections.{header_at, is_relocations}
 use Rattle.lint_findings.specs.Findings.{Rule, at_sections}
 use Rattle.lint_findings.specs.Looking.{is_looked_at, is_symbol_table, is_string_table, linked_header}
 

@@ -1,9 +1,9 @@
 -- The rules 13 and 14: string tables (gABI chapter 4, "String Table"). A table's first byte is a
 -- NUL, and so is its last; an empty one is allowed.
 use Rattle.std.specs.Prelude.{ℕ, ◌-◌, ◌==◌, ◌&&◌, not, Bool, false, List, length, slice_get, Option, Some, None, codes}
-use Rattle.elf_object.specs.Object.{Object}
-use Rattle.elf_object.specs.Due.{all_sections}
-use Rattle.elf_object.specs.Sections.{header_at}
+use Rattle.lint_findings.specs.elf_object.Object.{Object}
+use Rattle.lint_findings.specs.elf_object.Due.{all_sections}
+use Rattle.lint_findings.specs.elf_object.Sections.{header_at}
 use Rattle.lint_findings.specs.Findings.{Rule, at_sections}
 use Rattle.lint_findings.specs.Looking.{is_plain, is_string_table, data_bytes}
 use Rattle.lint_links.specs.declared.string_tables.End.{End}

@@ -3,16 +3,15 @@
 ghost use Rattle.std.specs.Prelude.{◌≡◌, length, slice_get};
 ghost use Rattle.std.specs.List.{list_any};
 ghost use Rattle.elf_types.specs.declared.records.Dyn.{Dyn as TheDyn};
-ghost use Rattle.object_output.specs.Steps.{Learns};
+ghost use Rattle.lint_findings.specs.object_output.Steps.{Learns};
 ghost use Rattle.lint_links.specs.Dynamic as rule;
 ghost use Rattle.lint_findings.specs.Looking.{dyns};
 ghost use Rattle.lint_findings.specs.Steps.{FindsOver};
 
-use elf_descriptor::Elf;
 use elf_outside::{Sink, Source};
 use elf_types::constants::SHT_DYNAMIC;
 use elf_types::{DataId, Dyn, ScnId};
-use gelf_view::item_count;
+use lint_findings::prelude::{Elf, item_count};
 use lint_findings::{SectionRule, each_section_by, is_plain_of, item_at};
 use tool_output::{FileName, Outputs, Stop};
 

@@ -4,15 +4,14 @@ ghost use Rattle.std.specs.Prelude.{◌≡◌};
 ghost use Rattle.lint_links.specs.Links as rule;
 ghost use Rattle.lint_findings.specs.Steps.{FindsOver};
 
-use elf_descriptor::Elf;
 use elf_outside::{Sink, Source};
 use elf_types::constants::{SHN_UNDEF, SHT_DYNAMIC, SHT_GNU_HASH, SHT_GNU_VERSYM, SHT_HASH};
 use elf_types::{ScnId, Shdr};
+use lint_findings::prelude::{Elf, section_header};
 use lint_findings::{
     HeaderRule, class, each_header_by, is_looked_at, is_relocations, is_string_table,
     is_symbol_table, linked_header,
 };
-use object_output::section_header;
 use tool_output::{FileName, Outputs, Stop};
 
 /// Whether a section goes by the symbols of a table: a hash section or version indexes.

@@ -1,16 +1,15 @@
 //! The rules 13 and 14: string tables.
 
 ghost use Rattle.std.specs.Prelude.{◌≡◌};
-ghost use Rattle.object_output.specs.Steps.{Learns};
+ghost use Rattle.lint_findings.specs.object_output.Steps.{Learns};
 ghost use Rattle.lint_findings.specs.Looking.{data_bytes};
 ghost use Rattle.lint_links.specs.StringTables as rule;
 ghost use Rattle.lint_findings.specs.Steps.{FindsOver};
 
-use elf_descriptor::Elf;
 use elf_outside::{Sink, Source};
 use elf_types::constants::SHT_STRTAB;
 use elf_types::{DataId, ScnId};
-use gelf_view::bytes;
+use lint_findings::prelude::{Elf, bytes};
 use lint_findings::{SectionRule, each_section_by, is_plain_of};
 use tool_output::{FileName, Outputs, Stop};
 

@@ -5,15 +5,15 @@ use Rattle.std.specs.List.{flat_map, enumerate_from}
 use Rattle.std.proofs.lemmas.Option.{get_or_from_slice_get, slice_get_within}
 use Rattle.elf_outside.specs.declared.sources.Source.{Ghosts as SourceGhosts}
 use Rattle.elf_outside.specs.declared.sinks.Sink.{Ghosts as SinkGhosts}
-use Rattle.elf_object.specs.Object.{Object}
-use Rattle.elf_descriptor.specs.State.{State}
+use Rattle.bytes_at_hand.specs.elf_object.Object.{Object}
+use Rattle.bytes_at_hand.specs.elf_descriptor.State.{State}
 use Rattle.tool_output.specs.declared.stops.Stop.{Stop}
 use Rattle.tool_output.specs.declared.outputs.Outputs.{Outputs}
 use Rattle.tool_output.specs.Names.{Name}
 use Rattle.tool_output.specs.Reports.{Report, no_report, joined}
 use Rattle.tool_output.proofs.ReportLemmas.{joined_none}
-use Rattle.object_output.specs.Steps.{LeavesElf, ReadsElf, ReportsElf, ElfUnderWay}
-use Rattle.object_output.proofs.ElfSteps.{elf_after, elf_unread, elf_goes_on, elf_stops_at, still_told}
+use Rattle.bytes_at_hand.specs.object_output.Steps.{LeavesElf, ReadsElf, ReportsElf, ElfUnderWay}
+use Rattle.bytes_at_hand.proofs.object_output.ElfSteps.{elf_after, elf_unread, elf_goes_on, elf_stops_at, still_told}
 use Rattle.lint_findings.specs.Findings.{Finding, findings_shown}
 use Rattle.lint_findings.proofs.FindingLemmas.{rows_left}
 

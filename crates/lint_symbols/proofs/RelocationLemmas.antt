@@ -9,9 +9,9 @@ use Rattle.elf_types.specs.declared.records.Kind.TheVariants as kinds
 use Rattle.elf_types.specs.declared.records.Rel.{Rel}
 use Rattle.elf_types.specs.declared.records.Rela.{Rela}
 use Rattle.elf_types.specs.declared.errors.ElfError.{ElfError}
-use Rattle.elf_object.specs.Object.{Object}
-use Rattle.elf_object.specs.Answers.{items_at, rels_of, relas_of, lend_refusal}
-use Rattle.elf_object.specs.Sections.{header_at}
+use Rattle.bytes_at_hand.specs.elf_object.Object.{Object}
+use Rattle.bytes_at_hand.specs.elf_object.Answers.{items_at, rels_of, relas_of, lend_refusal}
+use Rattle.bytes_at_hand.specs.elf_object.Sections.{header_at}
 use Rattle.lint_findings.specs.declared.places.Place.TheVariants.{Item}
 use Rattle.lint_findings.specs.Findings.{Finding, at_items, finding, found_if}
 use Rattle.lint_findings.specs.Looking.{if_lent, is_symbol_table, linked_header, links_to_symbols, symbols, rels, relas}

@@ -6,10 +6,10 @@ use Rattle.elf_types.specs.declared.records.Kind.TheVariants as kinds
 use Rattle.elf_types.specs.declared.records.Sym.{Sym}
 use Rattle.elf_types.specs.declared.errors.ElfError.{ElfError}
 use Rattle.elf_types.specs.Answers.{answered}
-use Rattle.elf_object.specs.Object.{Object}
-use Rattle.elf_object.specs.Answers.{count_at, syms_of, lend_refusal}
-use Rattle.elf_object.specs.Strings.{string_answer, symbol_name, readable}
-use Rattle.elf_object.specs.Sections.{header_at}
+use Rattle.bytes_at_hand.specs.elf_object.Object.{Object}
+use Rattle.bytes_at_hand.specs.elf_object.Answers.{count_at, syms_of, lend_refusal}
+use Rattle.bytes_at_hand.specs.elf_object.Strings.{string_answer, symbol_name, readable}
+use Rattle.bytes_at_hand.specs.elf_object.Sections.{header_at}
 use Rattle.lint_findings.specs.declared.places.Place.TheVariants.{Item}
 use Rattle.lint_findings.specs.Findings.{at_items, finding, found_if}
 use Rattle.lint_findings.specs.Looking.{is_string_table, linked_header, symbols}

@@ -3,9 +3,9 @@ use Rattle.std.specs.Prelude.{◌≡◌, ◌<◌, ℕ, ◌==◌, ◌&&◌, nat_l
 use Rattle.elf_types.specs.declared.constants.TheConstants.{SHN_UNDEF, SHT_RELA}
 use Rattle.elf_types.specs.declared.records.Rel.{Rel}
 use Rattle.elf_types.specs.declared.records.Rela.{Rela}
-use Rattle.elf_object.specs.Object.{Object}
-use Rattle.elf_object.specs.Due.{all_sections}
-use Rattle.elf_object.specs.Sections.{header_at, is_relocations}
+use Rattle.bytes_at_hand.specs.elf_object.Object.{Object}
+use Rattle.bytes_at_hand.specs.elf_object.Due.{all_sections}
+use Rattle.bytes_at_hand.specs.elf_object.Sections.{header_at, is_relocations}
 use Rattle.lint_symbols.specs.declared.by_relocation.Relocations.{Relocations}
 use Rattle.lint_findings.specs.Findings.{Finding, at_items}
 use Rattle.lint_findings.specs.Looking.{is_plain, links_to_symbols, symbols, rels, relas}

@@ -5,11 +5,11 @@ use Rattle.elf_types.specs.declared.constants.TheConstants.{SHN_LORESERVE}
 use Rattle.elf_types.specs.declared.records.Kind.TheVariants as kinds
 use Rattle.elf_types.specs.declared.records.Sym.{Sym}
 use Rattle.elf_types.specs.Symbols.{is_local}
-use Rattle.elf_object.specs.Object.{Object}
-use Rattle.elf_object.specs.Answers.{lend_refusal}
-use Rattle.elf_object.specs.Due.{all_sections}
-use Rattle.elf_object.specs.Strings.{symbol_name}
-use Rattle.elf_object.specs.Sections.{header_at}
+use Rattle.bytes_at_hand.specs.elf_object.Object.{Object}
+use Rattle.bytes_at_hand.specs.elf_object.Answers.{lend_refusal}
+use Rattle.bytes_at_hand.specs.elf_object.Due.{all_sections}
+use Rattle.bytes_at_hand.specs.elf_object.Strings.{symbol_name}
+use Rattle.bytes_at_hand.specs.elf_object.Sections.{header_at}
 use Rattle.lint_symbols.specs.declared.by_symbol.Table.{Table}
 use Rattle.lint_findings.specs.Findings.{Finding, Rule, at_items}
 use Rattle.lint_findings.specs.Looking.{is_plain, is_symbol_table, is_string_table, is_no_section, linked_header, symbols}

@@ -7,9 +7,9 @@ use Rattle.std.proofs.lemmas.Bool.{leb-true, ltb-true}
 use Rattle.elf_types.specs.declared.constants.TheConstants.{SHN_LORESERVE}
 use Rattle.elf_types.specs.declared.records.Sym.{Sym}
 use Rattle.elf_types.specs.Symbols.{is_local}
-use Rattle.elf_object.specs.Object.{Object}
-use Rattle.elf_object.specs.Strings.{symbol_name, string_answer, readable}
-use Rattle.elf_object.specs.Sections.{header_at}
+use Rattle.bytes_at_hand.specs.elf_object.Object.{Object}
+use Rattle.bytes_at_hand.specs.elf_object.Strings.{symbol_name, string_answer, readable}
+use Rattle.bytes_at_hand.specs.elf_object.Sections.{header_at}
 use Rattle.bytes_at_hand.specs.declared.items.Span.{Span}
 use Rattle.bytes_at_hand.specs.Items.{IsWithin}
 use Rattle.bytes_at_hand.specs.Strings.{is_past, EndsAt}

@@ -5,10 +5,10 @@
 ghost use Rattle.std.specs.Prelude.{◌≡◌, ◌<◌, ℕ, length, map, IfSome, IfNone, [], None};
 ghost use Rattle.elf_xlate.specs.declared.content.Items.{Items as TheItems};
 ghost use Rattle.elf_xlate.specs.Translation.{items_kind, items_count};
-ghost use Rattle.elf_object.specs.Answers.{items_at, lend_refusal};
+ghost use Rattle.bytes_at_hand.specs.elf_object.Answers.{items_at, lend_refusal};
 ghost use Rattle.tool_output.specs.Reports.{Reports};
 ghost use Rattle.tool_output.specs.Steps.{LeavesOutputs};
-ghost use Rattle.object_output.proofs.ListCounts.{rels_counted, relas_counted};
+ghost use Rattle.bytes_at_hand.proofs.object_output.ListCounts.{rels_counted, relas_counted};
 ghost use Rattle.bytes_at_hand.specs.Items.{held_items, AreWhole};
 ghost use Rattle.lint_findings.specs.Findings.{at_items, findings_shown};
 ghost use Rattle.lint_findings.specs.Looking.{if_lent};
@@ -16,17 +16,14 @@ ghost use Rattle.lint_findings.specs.Steps.{FindsElf};
 ghost use Rattle.lint_symbols.specs.Relocations.{has_relocations, symbol_bound, symbol_numbers_of, passes_bound, AreRelocations};
 
 use crate::scans::{AtItems, load_items, show_found};
+use bytes_at_hand::prelude::{Elf, Item, item_count, item_there, section_header};
 use bytes_at_hand::{ItemBytes, ItemTest, Span, items_at_hand};
-use elf_descriptor::Elf;
 use elf_outside::{Sink, Source};
 use elf_types::constants::SHN_UNDEF;
 use elf_types::{DataId, Rel, Rela, ScnId, Sym};
-use gelf_view::item_count;
 use lint_findings::{
     Place, class, find_if, is_plain, is_relocations, is_symbol_table, linked_header,
 };
-use object_output::{item_there, section_header};
-use section_data::Item;
 use tool_output::{FileName, Outputs, Stop};
 
 /// A rule on relocations under the name of a file.

@@ -6,11 +6,11 @@
 ghost use Rattle.std.specs.Prelude.{◌≡◌, ◌<◌, ℕ, Bool as TheBool, length, IfOk, IfSome, IfNone, IsTrue, None, [], true};
 ghost use Rattle.elf_types.specs.declared.records.Sym.{Sym as TheSym};
 ghost use Rattle.elf_types.specs.declared.records.Kind.TheVariants as kinds;
-ghost use Rattle.elf_object.specs.Object.{Object};
-ghost use Rattle.elf_object.specs.Answers.{lend_refusal, syms_of};
+ghost use Rattle.bytes_at_hand.specs.elf_object.Object.{Object};
+ghost use Rattle.bytes_at_hand.specs.elf_object.Answers.{lend_refusal, syms_of};
 ghost use Rattle.tool_output.specs.Reports.{Reports};
 ghost use Rattle.tool_output.specs.Steps.{LeavesOutputs};
-ghost use Rattle.object_output.specs.Steps.{Learns, ReadsElf};
+ghost use Rattle.bytes_at_hand.specs.object_output.Steps.{Learns, ReadsElf};
 ghost use Rattle.bytes_at_hand.specs.Items.{held_items, AreItems, AreWhole};
 ghost use Rattle.bytes_at_hand.specs.Strings.{EndsAt};
 ghost use Rattle.lint_findings.specs.declared.places.Place.TheVariants.{Item};
@@ -21,15 +21,15 @@ ghost use Rattle.lint_symbols.specs.Symbols.{at_symbols, at_symbols_of, has_symb
 ghost use Rattle.lint_symbols.specs.Tests.{Agrees, Keeps, SpanOfTable, Telling, TestOfTable};
 
 use crate::scans::{AtItems, load_items, show_found};
+use bytes_at_hand::prelude::{
+    Elf, SectionTool, each_section, item_count, item_there, section_header,
+};
 use bytes_at_hand::{ItemBytes, ItemTest, Span, items_at_hand, strings_end};
-use elf_descriptor::Elf;
 use elf_outside::{Sink, Source};
 use elf_types::{DataId, ScnId, Sym};
-use gelf_view::item_count;
 use lint_findings::{
     Place, class, find_if, is_plain, is_string_table, is_symbol_table, linked_header,
 };
-use object_output::{SectionTool, each_section, item_there, section_header};
 use tool_output::{FileName, Outputs, Stop};
 
 /// A symbol table that rules look at: what their tests need of its header, looked for once a table.

@@ -6,11 +6,10 @@ ghost use Rattle.lint_symbols.specs.Relocations.{AreRelocations};
 ghost use Rattle.lint_findings.specs.Steps.{FindsElf, FindsOver};
 
 use crate::by_relocation::{ByNoSymbol, Relocations, each_relocation, relocations_of};
-use elf_descriptor::Elf;
+use bytes_at_hand::prelude::{Elf, SectionTool, each_section, section_header};
 use elf_outside::{Sink, Source};
 use elf_types::constants::SHT_RELA;
 use elf_types::{Rel, Rela, ScnId};
-use object_output::{SectionTool, each_section, section_header};
 use tool_output::{FileName, Outputs, Stop};
 
 /// Says what the rule finds at the relocations of a section.

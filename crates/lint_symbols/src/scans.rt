@@ -2,20 +2,18 @@
 //! found are passed over where their bytes stand, with one look at each.
 
 ghost use Rattle.std.specs.Prelude.{◌≡◌, ◌<◌, ℕ, length, true, None};
-ghost use Rattle.elf_object.specs.Answers.{items_at, lend_refusal};
+ghost use Rattle.bytes_at_hand.specs.elf_object.Answers.{items_at, lend_refusal};
 ghost use Rattle.tool_output.specs.Reports.{Reports};
 ghost use Rattle.tool_output.specs.Steps.{LeavesOutputs};
-ghost use Rattle.object_output.specs.Steps.{ReadsElf};
+ghost use Rattle.bytes_at_hand.specs.object_output.Steps.{ReadsElf};
 ghost use Rattle.bytes_at_hand.specs.Items.{held_items, AreWhole, IsWithin};
 ghost use Rattle.lint_findings.specs.Findings.{at_items, findings_shown};
 
+use bytes_at_hand::prelude::{Elf, Item, item_there};
 use bytes_at_hand::{ItemBytes, ItemTest, Span, next_found};
-use elf_descriptor::Elf;
 use elf_outside::{Sink, Source};
 use elf_types::{DataId, ScnId};
 use lint_findings::{Place, find};
-use object_output::item_there;
-use section_data::Item;
 use tool_output::{FileName, Outputs, Stop};
 
 /// A rule at the items of a section, under the name of a file.

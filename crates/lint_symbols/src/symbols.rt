@@ -9,13 +9,12 @@ ghost use Rattle.lint_symbols.specs.Tests as tests;
 ghost use Rattle.lint_findings.specs.Steps.{FindsElf, FindsOver};
 
 use crate::by_symbol::{SymbolRule, Table, each_symbol_by, table_of};
+use bytes_at_hand::prelude::{Elf, SectionTool, each_section, item_there, string_at};
 use bytes_at_hand::{Span, is_past};
-use elf_descriptor::Elf;
 use elf_outside::{Sink, Source};
 use elf_types::constants::SHN_LORESERVE;
 use elf_types::{DataId, ScnId, Sym, is_local};
 use lint_findings::{Place, find_if};
-use object_output::{SectionTool, each_section, item_there, string_at};
 use tool_output::{FileName, Outputs, Stop};
 
 /// Whether a field of a symbol is not 0.

@@ -3,11 +3,11 @@ use Rattle.std.proofs.Common.{◌≡◌, ℕ, ◌<◌, ◌^◌, List, length, ge
 use Rattle.std.proofs.lemmas.List.{get_or_default}
 use Rattle.elf_types.specs.declared.records.Ehdr.{Ehdr}
 use Rattle.elf_types.specs.declared.records.Shdr.{Shdr}
-use Rattle.elf_ident.specs.Front.{zero_shdr}
+use Rattle.update_plan.specs.elf_ident.Front.{zero_shdr}
 use Rattle.elf_layout.specs.declared.parts.PartAt.{PartAt}
-use Rattle.elf_object.specs.Object.{Object, header_of, section_at}
-use Rattle.elf_object.specs.Joined.{file_bytes}
-use Rattle.elf_object.specs.Layout.{section_part}
+use Rattle.update_plan.specs.elf_object.Object.{Object, header_of, section_at}
+use Rattle.update_plan.specs.elf_object.Joined.{file_bytes}
+use Rattle.update_plan.specs.elf_object.Layout.{section_part}
 use Rattle.update_plan.specs.Sections.{capped_section}
 use Rattle.update_plan.proofs.PartLaws.{capped_is}
 use Rattle.listed_layout.specs.declared.listed.Listed.{Listed}

@@ -6,14 +6,14 @@ use Rattle.std.proofs.lemmas.Bool.{cases_lt, ne_eqb}
 use Rattle.std.proofs.lemmas.List.{get_or_default, get_or_append_left}
 use Rattle.elf_types.specs.declared.records.Ehdr.{Ehdr}
 use Rattle.elf_types.specs.declared.records.Shdr.{Shdr}
-use Rattle.elf_ident.specs.Front.{zero_shdr}
+use Rattle.update_plan.specs.elf_ident.Front.{zero_shdr}
 use Rattle.elf_layout.specs.declared.parts.Places.{Places}
-use Rattle.elf_object.specs.Object.{Object, Section, header_of, section_at, is_dirty}
-use Rattle.elf_object.specs.Joined.{file_bytes}
-use Rattle.elf_object.specs.Derived.{derived_header, numbered_shdr}
-use Rattle.elf_object.specs.Layout.{places_of, placed_by, placed, placed_header, placed_shdr, placed_section}
-use Rattle.object_laws.proofs.ImageLaws.{placed-dirty, section_at-placed}
-use Rattle.object_laws.proofs.StandLaws.{joined-placed, section_count-placed}
+use Rattle.update_plan.specs.elf_object.Object.{Object, Section, header_of, section_at, is_dirty}
+use Rattle.update_plan.specs.elf_object.Joined.{file_bytes}
+use Rattle.update_plan.specs.elf_object.Derived.{derived_header, numbered_shdr}
+use Rattle.update_plan.specs.elf_object.Layout.{places_of, placed_by, placed, placed_header, placed_shdr, placed_section}
+use Rattle.update_plan.proofs.object_laws.ImageLaws.{placed-dirty, section_at-placed}
+use Rattle.update_plan.proofs.object_laws.StandLaws.{joined-placed, section_count-placed}
 use Rattle.listed_layout.specs.declared.listed.Listed.{Listed}
 use Rattle.listed_layout.specs.Listing.{IsListed, IsRow, AreStored, shdr_stored}
 

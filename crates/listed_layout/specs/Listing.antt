@@ -2,12 +2,12 @@
 use Rattle.std.specs.Prelude.{◌≡◌, ℕ, ◌<◌, ◌^◌, List, length, slice_index, slice_index_or, if◌then◌else◌}
 use Rattle.elf_types.specs.declared.records.Shdr.{Shdr}
 use Rattle.elf_types.specs.declared.records.Part.TheVariants as part
-use Rattle.elf_ident.specs.Front.{zero_shdr}
+use Rattle.update_plan.specs.elf_ident.Front.{zero_shdr}
 use Rattle.elf_layout.specs.declared.parts.PartAt.{PartAt}
 use Rattle.elf_layout.specs.declared.parts.Places.{Places}
-use Rattle.elf_object.specs.Object.{Object, header_of, section_at, is_null, occupies_file}
-use Rattle.elf_object.specs.Joined.{file_bytes}
-use Rattle.elf_object.specs.Layout.{alignment_of, placed_shdr}
+use Rattle.update_plan.specs.elf_object.Object.{Object, header_of, section_at, is_null, occupies_file}
+use Rattle.update_plan.specs.elf_object.Joined.{file_bytes}
+use Rattle.update_plan.specs.elf_object.Layout.{alignment_of, placed_shdr}
 use Rattle.listed_layout.specs.declared.listed.Listed.{Listed}
 
 -- a list has an object's headers, and the sizes, each of which fits eight bytes

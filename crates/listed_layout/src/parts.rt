@@ -4,19 +4,18 @@ ghost use Rattle.std.specs.Prelude.{◌≡◌, ◌++◌, ◌<◌, ◌≤◌, len
 ghost use Rattle.elf_types.specs.declared.constants.TheConstants.{MAX_SECTIONS};
 ghost use Rattle.elf_types.specs.declared.errors.ElfError.TheVariants.{Memory};
 ghost use Rattle.elf_layout.specs.Capping.{capped};
-ghost use Rattle.elf_object.specs.Object.{Object};
-ghost use Rattle.elf_object.specs.Layout as stated;
-ghost use Rattle.elf_object.specs.Valid.{IsObject};
+ghost use Rattle.update_plan.specs.elf_object.Object.{Object};
+ghost use Rattle.update_plan.specs.elf_object.Layout as stated;
+ghost use Rattle.update_plan.specs.elf_object.Valid.{IsObject};
 ghost use Rattle.update_plan.specs.Sections.{capped_section};
 ghost use Rattle.listed_layout.specs.Listing.{IsListed, part_listed};
 
 use crate::listed::Listed;
 use elf_layout::{PartAt, Parts};
-use elf_object::occupies_file;
 use elf_types::constants::SHT_NULL;
 use elf_types::{Class, ElfError, Part, Shdr};
-use elf_xlate::{ehdr_size, phdr_size, shdr_size};
 use std::alloc::Global;
+use update_plan::prelude::{ehdr_size, occupies_file, phdr_size, shdr_size};
 
 /// The ELF header as a part.
 fn header_part(x: &Listed) -> PartAt

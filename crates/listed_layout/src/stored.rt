@@ -2,16 +2,16 @@
 
 ghost use Rattle.std.specs.Prelude.{◌≡◌, ◌-◌, ◌+◌, ◌<◌, true, length, IfOk, IfErr};
 ghost use Rattle.elf_types.specs.declared.errors.ElfError.TheVariants.{Memory};
-ghost use Rattle.elf_object.specs.Object.{Object, section_at, is_dirty};
-ghost use Rattle.elf_object.specs.Layout as stated;
+ghost use Rattle.update_plan.specs.elf_object.Object.{Object, section_at, is_dirty};
+ghost use Rattle.update_plan.specs.elf_object.Layout as stated;
 ghost use Rattle.listed_layout.specs.Listing.{IsListed, AreStored, shdr_stored};
 
 use crate::listed::Listed;
 use elf_layout::Places;
-use elf_object::{derived_header, numbered_shdr, occupies_file};
 use elf_types::constants::SHT_NULL;
 use elf_types::{Ehdr, ElfError, Shdr, Shdrs};
 use std::alloc::Global;
+use update_plan::prelude::{derived_header, numbered_shdr, occupies_file};
 
 /// The header with the places of the two tables, and what follows from its counts.
 fn placed_header(x: &Listed, places: &Places) -> Ehdr

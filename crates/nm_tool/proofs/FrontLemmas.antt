@@ -12,7 +12,7 @@ use Rattle.elf_object.specs.Open.{begun, opened, opened_section}
 use Rattle.elf_object.specs.Answers.{syms_of}
 use Rattle.elf_object.specs.Strings.{string_answer, readable}
 use Rattle.section_data.specs.Held.{items_of_bytes}
-use Rattle.gelf_view.specs.Records.{string_front}
+use Rattle.object_output.specs.gelf_view.Records.{string_front}
 use Rattle.tool_text.specs.declared.options.NmOptions.{NmOptions}
 use Rattle.tool_output.specs.Names.{Name}
 use Rattle.tool_output.specs.Reports.{Report, no_report}

@@ -12,9 +12,9 @@ use Rattle.elf_ident.specs.Front.{front_bytes}
 use Rattle.elf_object.specs.Object.{Object}
 use Rattle.elf_object.specs.Open.{begun, opened}
 use Rattle.elf_object.specs.Due.{all_sections}
-use Rattle.elf_descriptor.specs.State.{State}
-use Rattle.elf_descriptor.specs.Begun.{begun_state}
-use Rattle.elf_descriptor.specs.Views.{source_bytes}
+use Rattle.object_output.specs.elf_descriptor.State.{State}
+use Rattle.object_output.specs.elf_descriptor.Begun.{begun_state}
+use Rattle.object_output.specs.elf_descriptor.Views.{source_bytes}
 use Rattle.tool_output.specs.declared.stops.Stop.{Stop}
 use Rattle.tool_output.specs.declared.stops.Stop.TheVariants.{Memory}
 use Rattle.tool_output.specs.declared.outputs.Outputs.{Outputs}

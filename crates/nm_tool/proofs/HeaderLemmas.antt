@@ -12,7 +12,7 @@ use Rattle.elf_types.specs.Answers.{answered, refused_if}
 use Rattle.elf_types.specs.declared.errors.ElfError.TheVariants.{NoSection}
 use Rattle.elf_object.specs.Object.{Object, Section, section_at, absent_section}
 use Rattle.elf_object.specs.Calls.{shdr_answer}
-use Rattle.gelf_view.specs.declared.symbols.SymPlace.TheVariants as places
+use Rattle.object_output.specs.gelf_view.declared.symbols.SymPlace.TheVariants as places
 use Rattle.bytes_at_hand.proofs.HeldItems.{all_before}
 use Rattle.nm_tool.specs.Letters.{section_letter, place_letter, HasHeaders}
 

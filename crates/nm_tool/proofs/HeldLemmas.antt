@@ -7,7 +7,7 @@ use Rattle.elf_types.specs.declared.records.Sym.{Sym}
 use Rattle.elf_object.specs.Object.{Object}
 use Rattle.elf_object.specs.Answers.{syms_of}
 use Rattle.elf_object.specs.SymbolSections.{shndx_table}
-use Rattle.gelf_view.specs.declared.symbols.SymPlace.{SymPlace}
+use Rattle.object_output.specs.gelf_view.declared.symbols.SymPlace.{SymPlace}
 use Rattle.tool_text.specs.declared.options.NmOptions.{NmOptions}
 use Rattle.tool_output.specs.Names.{Name}
 use Rattle.tool_output.specs.Reports.{no_report, shown, all_joined, reports_of}

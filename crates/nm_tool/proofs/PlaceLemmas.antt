@@ -12,9 +12,9 @@ use Rattle.elf_object.specs.Words.{result_map}
 use Rattle.elf_object.specs.Object.{Object}
 use Rattle.elf_object.specs.Calls.{word_answer}
 use Rattle.elf_object.specs.SymbolSections.{shndx_table, extended_index, place_of_symbol}
-use Rattle.elf_descriptor.specs.State.{State}
-use Rattle.gelf_view.specs.declared.symbols.SymPlace.{SymPlace}
-use Rattle.gelf_view.specs.declared.symbols.SymPlace.TheVariants.{Special, Section}
+use Rattle.object_output.specs.elf_descriptor.State.{State}
+use Rattle.object_output.specs.gelf_view.declared.symbols.SymPlace.{SymPlace}
+use Rattle.object_output.specs.gelf_view.declared.symbols.SymPlace.TheVariants.{Special, Section}
 use Rattle.object_output.specs.Answers.{value_of}
 use Rattle.object_output.specs.Symbols.{symbol_place}
 use Rattle.bytes_at_hand.specs.declared.items.ItemBytes.{ItemBytes}

@@ -18,7 +18,7 @@ use Rattle.std.proofs.lemmas.Simd.{map-map}
 use Rattle.std.proofs.Math.ListN.{drop_of_length-le}
 use Rattle.elf_types.specs.Lists.{AreBytes, refilled}
 use Rattle.elf_object.specs.Strings.{has_nul}
-use Rattle.gelf_view.specs.Records.{string_front}
+use Rattle.object_output.specs.gelf_view.Records.{string_front}
 use Rattle.nm_tool.specs.declared.kept.Kept.{Kept}
 use Rattle.nm_tool.specs.Order.{Entry, entry_cmp, inserted, in_order}
 use Rattle.nm_tool.specs.Listed.{is_empty, name_or_none}

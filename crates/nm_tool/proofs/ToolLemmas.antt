@@ -13,9 +13,9 @@ use Rattle.elf_outside.specs.declared.sources.Source.{Ghosts as SourceGhosts}
 use Rattle.elf_outside.specs.declared.sinks.Sink.{Ghosts as SinkGhosts}
 use Rattle.elf_object.specs.Object.{Object, section_at}
 use Rattle.elf_object.specs.Answers.{count_at, items_at, lend_refusal}
-use Rattle.elf_descriptor.specs.State.{State}
-use Rattle.gelf_view.specs.Calls.{IsTable}
-use Rattle.gelf_view.specs.declared.symbols.SymPlace.{SymPlace}
+use Rattle.object_output.specs.elf_descriptor.State.{State}
+use Rattle.object_output.specs.gelf_view.Calls.{IsTable}
+use Rattle.object_output.specs.gelf_view.declared.symbols.SymPlace.{SymPlace}
 use Rattle.tool_text.specs.declared.options.NmOptions.{NmOptions}
 use Rattle.tool_output.specs.declared.stops.Stop.{Stop}
 use Rattle.tool_output.specs.declared.stops.Stop.TheVariants.{Memory}

@@ -7,8 +7,8 @@ use Rattle.elf_ident.specs.declared.fronts.Front.{Front}
 use Rattle.elf_object.specs.Object.{Object, section_at}
 use Rattle.elf_object.specs.Answers.{lend_refusal, syms_of}
 use Rattle.elf_object.specs.SymbolSections.{shndx_table}
-use Rattle.elf_descriptor.specs.State.{State}
-use Rattle.gelf_view.specs.Calls.{IsTable}
+use Rattle.object_output.specs.elf_descriptor.State.{State}
+use Rattle.object_output.specs.gelf_view.Calls.{IsTable}
 use Rattle.bytes_at_hand.specs.declared.items.ItemBytes.{ItemBytes}
 use Rattle.bytes_at_hand.specs.Items.{AreItems, held_items}
 use Rattle.bytes_at_hand.specs.Strings.{HoldsStrings}

@@ -11,7 +11,7 @@ use Rattle.tool_output.specs.Names.{Name}
 use Rattle.tool_output.specs.Reports.{Report, no_report, shown, noted, refusal_report, reports_of}
 use Rattle.object_output.specs.Symbols.{symbol_place}
 use Rattle.nm_tool.specs.Letters.{is_undefined, symbol_letter}
-use Rattle.gelf_view.specs.declared.symbols.SymPlace.{SymPlace}
+use Rattle.object_output.specs.gelf_view.declared.symbols.SymPlace.{SymPlace}
 use Rattle.nm_tool.specs.Rows.{row_text}
 use Rattle.nm_tool.specs.Order.{Entry, in_order}
 use Rattle.nm_tool.specs.Listed.{symbol_table, symbols, listed}

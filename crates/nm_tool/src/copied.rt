@@ -13,9 +13,9 @@ use crate::listed::pool_of;
 use crate::order::{Row, sorted};
 use crate::pools::{Pool, rows_of};
 use crate::symbols::{Tables, place_at, symbol_at};
-use elf_descriptor::Elf;
 use elf_outside::{Sink, Source};
 use elf_types::Sym;
+use object_output::prelude::Elf;
 use tool_output::{Outputs, Stop};
 
 /// Shows the row of symbol `i`.

@@ -12,7 +12,7 @@ use crate::letters::{is_undefined, symbol_letter};
 use crate::rows::SymbolRow;
 use elf_outside::Sink;
 use elf_types::{Class, Sym};
-use gelf_view::SymPlace;
+use object_output::prelude::SymPlace;
 use tool_output::{FileName, Outputs, Stop};
 use tool_text::NmOptions;
 

@@ -5,10 +5,10 @@ ghost use Rattle.std.specs.Prelude.{◌≡◌, List, map, slice_get};
 ghost use Rattle.elf_types.specs.declared.records.Class.{Class as TheClass};
 ghost use Rattle.elf_types.specs.declared.records.Shdr.{Shdr as Header};
 
-use elf_descriptor::Elf;
 use elf_ident::Front;
 use elf_outside::Source;
 use elf_types::{Class, ScnId, Shdr};
+use object_output::prelude::Elf;
 
 /// What tells the class of an object and the headers of its sections: a descriptor, or the front of
 /// an image that no descriptor is over.

@@ -16,10 +16,9 @@ use crate::kept::{Kept, name_or_none};
 use crate::letters::{is_undefined, symbol_letter};
 use crate::symbols::{Tables, place_at, symbol_at};
 use bytes_at_hand::is_past;
-use elf_descriptor::Elf;
 use elf_outside::{Sink, Source};
 use elf_types::{ScnId, Sym};
-use gelf_view::SymPlace;
+use object_output::prelude::{Elf, SymPlace};
 use object_output::string_at;
 use tool_output::{Outputs, Stop};
 

@@ -20,9 +20,9 @@ ghost use Rattle.nm_tool.specs.Tables.{AreTables};
 use crate::kept::{Kept, name_or_none};
 use crate::symbols::Tables;
 use bytes_at_hand::{string_bytes, string_from};
-use elf_descriptor::Elf;
 use elf_outside::Source;
 use elf_types::{List, bytes_are_ranged};
+use object_output::prelude::Elf;
 use std::cmp::Ordering;
 
 /// The name at a place of strings, as it is shown.

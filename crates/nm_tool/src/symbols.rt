@@ -5,18 +5,17 @@ ghost use Rattle.std.specs.Prelude.{◌≡◌, ◌<◌, ℕ, length, slice_get, 
 ghost use Rattle.elf_types.specs.declared.records.Sym.{Sym as TheSym};
 ghost use Rattle.elf_object.specs.Object.{Object, section_at};
 ghost use Rattle.elf_object.specs.SymbolSections.{shndx_table};
-ghost use Rattle.gelf_view.specs.Calls.{IsTable};
+ghost use Rattle.object_output.specs.gelf_view.Calls.{IsTable};
 ghost use Rattle.object_output.specs.Steps.{Learns};
 ghost use Rattle.object_output.specs.Symbols.{symbol_place};
 ghost use Rattle.nm_tool.specs.Listed.{symbols as stated_symbols};
 ghost use Rattle.nm_tool.specs.Tables.{AreTables, HoldsSymbols, HoldsTable};
 
 use bytes_at_hand::{ItemBytes, items_at_hand, string_bytes};
-use elf_descriptor::Elf;
 use elf_outside::Source;
 use elf_types::constants::{SHN_LORESERVE, SHN_XINDEX};
 use elf_types::{DataId, ScnId, Sym};
-use gelf_view::{SymPlace, shndx_table};
+use object_output::prelude::{Elf, SymPlace, shndx_table};
 use object_output::{section_header, symbol_place};
 use tool_output::Stop;
 

@@ -3,13 +3,13 @@ use Rattle.std.proofs.Common.{◌≡◌, ◌≢◌, ◌⊎◌, inl, inr, ◌+◌
 use Rattle.std.specs.Str.{bytes_eq}
 use Rattle.std.proofs.lemmas.Bool.{true≢false}
 use Rattle.std.proofs.lemmas.Slice.Eq.{bytes_eq-Decides}
-use Rattle.elf_outside.specs.Counts.{Rose, RaisedBy, RisesWith, next_count}
-use Rattle.elf_outside.specs.Names.{Map, SameNames, Closes}
-use Rattle.elf_outside.specs.Opens.{meanings, HandsOver}
-use Rattle.elf_outside.specs.declared.sources.Source.{Ghosts as SourceGhosts}
-use Rattle.elf_outside.specs.declared.devices.Device.{Ghosts as DeviceGhosts}
-use Rattle.elf_outside.specs.declared.sinks.Sink.{Ghosts as SinkGhosts}
-use Rattle.elf_outside.specs.declared.file_sets.Files.{Ghosts as FilesGhosts}
+use Rattle.tool_output.specs.elf_outside.Counts.{Rose, RaisedBy, RisesWith, next_count}
+use Rattle.tool_output.specs.elf_outside.Names.{Map, SameNames, Closes}
+use Rattle.tool_output.specs.elf_outside.Opens.{meanings, HandsOver}
+use Rattle.tool_output.specs.elf_outside.declared.sources.Source.{Ghosts as SourceGhosts}
+use Rattle.tool_output.specs.elf_outside.declared.devices.Device.{Ghosts as DeviceGhosts}
+use Rattle.tool_output.specs.elf_outside.declared.sinks.Sink.{Ghosts as SinkGhosts}
+use Rattle.tool_output.specs.elf_outside.declared.file_sets.Files.{Ghosts as FilesGhosts}
 use Rattle.tool_output.specs.declared.stops.Stop.{Stop}
 use Rattle.tool_output.specs.declared.stops.Stop.TheVariants.{Read, Write, Memory}
 use Rattle.tool_output.specs.declared.outputs.Outputs.{Outputs}

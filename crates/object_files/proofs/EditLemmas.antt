@@ -1,13 +1,13 @@
 -- A file that stays open while other files are made of it.
 use Rattle.std.proofs.Common.{◌≡◌, ◌≢◌, ◌⊎◌, inl, inr, ◌+◌, ◌-◌, ◌^◌, ◌<◌, ◌≤◌, ◌∷◌, ℕ, Bool, List, [], codes, Option, Some, None, Result, Ok, Err, IfSome, IfErr, IsTrue, OnOk, refl, sym, ap, ◌∙◌, subst, arith}
-use Rattle.elf_outside.specs.Counts.{Rose, RaisedBy, RisesWith, next_count}
-use Rattle.elf_outside.specs.Names.{Map, SameNames, Closes}
-use Rattle.elf_outside.specs.Opens.{meanings, HandsOver}
-use Rattle.elf_outside.specs.declared.file_sets.OpenFault.{OpenFault}
-use Rattle.elf_outside.specs.declared.sources.Source.{Ghosts as SourceGhosts}
-use Rattle.elf_outside.specs.declared.devices.Device.{Ghosts as DeviceGhosts}
-use Rattle.elf_outside.specs.declared.sinks.Sink.{Ghosts as SinkGhosts}
-use Rattle.elf_outside.specs.declared.file_sets.Files.{Ghosts as FilesGhosts}
+use Rattle.tool_output.specs.elf_outside.Counts.{Rose, RaisedBy, RisesWith, next_count}
+use Rattle.tool_output.specs.elf_outside.Names.{Map, SameNames, Closes}
+use Rattle.tool_output.specs.elf_outside.Opens.{meanings, HandsOver}
+use Rattle.tool_output.specs.elf_outside.declared.file_sets.OpenFault.{OpenFault}
+use Rattle.tool_output.specs.elf_outside.declared.sources.Source.{Ghosts as SourceGhosts}
+use Rattle.tool_output.specs.elf_outside.declared.devices.Device.{Ghosts as DeviceGhosts}
+use Rattle.tool_output.specs.elf_outside.declared.sinks.Sink.{Ghosts as SinkGhosts}
+use Rattle.tool_output.specs.elf_outside.declared.file_sets.Files.{Ghosts as FilesGhosts}
 use Rattle.tool_output.specs.declared.stops.Stop.{Stop}
 use Rattle.tool_output.specs.declared.outputs.Outputs.{Outputs}
 use Rattle.tool_output.specs.Names.{file_name}

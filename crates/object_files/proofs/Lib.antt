@@ -1,3 +1,4 @@
+pub use Rattle.tool_output.proofs as tool_output
 pub mod WriteLemmas
 pub mod EditLemmas
 pub mod SaidLemmas

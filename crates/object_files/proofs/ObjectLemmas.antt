@@ -3,19 +3,19 @@ use Rattle.std.proofs.Common.{◌≡◌, ℕ, Bool, true, false, List, Option, S
 use Rattle.elf_types.specs.declared.errors.ElfError.{ElfError}
 use Rattle.elf_types.specs.declared.errors.ElfError.TheVariants as error
 use Rattle.elf_types.specs.Answers.{answered}
-use Rattle.elf_outside.specs.Asks.{UsesSource}
-use Rattle.elf_outside.specs.Puts.{UsesSink, Puts}
-use Rattle.elf_outside.specs.Writes.{Appends, AppendsFront}
-use Rattle.elf_outside.specs.declared.sources.Source.{Ghosts as SourceGhosts}
-use Rattle.elf_outside.specs.declared.sinks.Sink.{Ghosts as SinkGhosts}
-use Rattle.elf_outside.proofs.PutLemmas.{write_rose_on, device_read_rose_on}
-use Rattle.elf_object.specs.Object.{Object}
-use Rattle.elf_object.specs.Image.{image, image_length}
-use Rattle.elf_object.specs.Refusal.{refusal}
-use Rattle.elf_object.specs.Due.{update_to_due}
-use Rattle.elf_object.specs.Calls as calls
-use Rattle.elf_object.specs.Words.{UpdateAnswers}
-use Rattle.elf_descriptor.specs.State.{State}
+use Rattle.tool_output.specs.elf_outside.Asks.{UsesSource}
+use Rattle.tool_output.specs.elf_outside.Puts.{UsesSink, Puts}
+use Rattle.tool_output.specs.elf_outside.Writes.{Appends, AppendsFront}
+use Rattle.tool_output.specs.elf_outside.declared.sources.Source.{Ghosts as SourceGhosts}
+use Rattle.tool_output.specs.elf_outside.declared.sinks.Sink.{Ghosts as SinkGhosts}
+use Rattle.tool_output.proofs.elf_outside.PutLemmas.{write_rose_on, device_read_rose_on}
+use Rattle.elf_update.specs.elf_object.Object.{Object}
+use Rattle.elf_update.specs.elf_object.Image.{image, image_length}
+use Rattle.elf_update.specs.elf_object.Refusal.{refusal}
+use Rattle.elf_update.specs.elf_object.Due.{update_to_due}
+use Rattle.elf_update.specs.elf_object.Calls as calls
+use Rattle.elf_update.specs.elf_object.Words.{UpdateAnswers}
+use Rattle.elf_update.specs.elf_descriptor.State.{State}
 use Rattle.elf_update.specs.Updates.{UpdatesTo}
 use Rattle.tool_output.specs.Stops.{stop_of}
 

@@ -1,11 +1,11 @@
 -- A file that stays open while other files are made of it.
 use Rattle.std.specs.Prelude.{◌≡◌, ◌≤◌, ◌<◌, ◌+◌, ◌-◌, ◌^◌, ℕ, List, Bool, Option, Some, None, Result, IfSome, OnOk, IsTrue, codes}
-use Rattle.elf_outside.specs.Asks.{Leaves}
-use Rattle.elf_outside.specs.Counts.{Rose}
-use Rattle.elf_outside.specs.Names.{Map}
-use Rattle.elf_outside.specs.declared.sources.Source.{Ghosts as SourceGhosts}
-use Rattle.elf_outside.specs.declared.sinks.Sink.{Ghosts as SinkGhosts}
-use Rattle.elf_outside.specs.declared.file_sets.Files.{Ghosts as FilesGhosts}
+use Rattle.tool_output.specs.elf_outside.Asks.{Leaves}
+use Rattle.tool_output.specs.elf_outside.Counts.{Rose}
+use Rattle.tool_output.specs.elf_outside.Names.{Map}
+use Rattle.tool_output.specs.elf_outside.declared.sources.Source.{Ghosts as SourceGhosts}
+use Rattle.tool_output.specs.elf_outside.declared.sinks.Sink.{Ghosts as SinkGhosts}
+use Rattle.tool_output.specs.elf_outside.declared.file_sets.Files.{Ghosts as FilesGhosts}
 use Rattle.tool_output.specs.declared.stops.Stop.{Stop}
 use Rattle.tool_output.specs.declared.outputs.Outputs.{Outputs}
 use Rattle.tool_output.specs.Names.{file_name}

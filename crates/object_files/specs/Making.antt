@@ -1,12 +1,12 @@
 -- A file that is made of an image.
 use Rattle.std.specs.Prelude.{◌≡◌, ◌≤◌, ◌⊎◌, ℕ, List, Option, Some, None, Result, Ok, Err, OnOk, OnErr, IfSome, IsTrue}
 use Rattle.elf_types.specs.declared.errors.ElfError.{ElfError}
-use Rattle.elf_outside.specs.Asks.{Leaves}
-use Rattle.elf_outside.specs.Counts.{Rose, RaisedAtMost}
-use Rattle.elf_outside.specs.Writes.{Appends, AppendsFront}
-use Rattle.elf_outside.specs.declared.sources.Source.{Ghosts as SourceGhosts}
-use Rattle.elf_outside.specs.declared.devices.Device.{Ghosts as DeviceGhosts}
-use Rattle.elf_outside.specs.declared.file_sets.Files.{Ghosts as FilesGhosts}
+use Rattle.tool_output.specs.elf_outside.Asks.{Leaves}
+use Rattle.tool_output.specs.elf_outside.Counts.{Rose, RaisedAtMost}
+use Rattle.tool_output.specs.elf_outside.Writes.{Appends, AppendsFront}
+use Rattle.tool_output.specs.elf_outside.declared.sources.Source.{Ghosts as SourceGhosts}
+use Rattle.tool_output.specs.elf_outside.declared.devices.Device.{Ghosts as DeviceGhosts}
+use Rattle.tool_output.specs.elf_outside.declared.file_sets.Files.{Ghosts as FilesGhosts}
 use Rattle.tool_output.specs.declared.stops.Stop.{Stop}
 use Rattle.tool_output.specs.Steps.{OnRead, OnWrite}
 use Rattle.tool_output.specs.Stops.{stop_of}

@@ -7,8 +7,8 @@ ghost use Rattle.tool_output.specs.Statuses.{refused_status};
 ghost use Rattle.object_files.specs.Edits.{edited_outcome};
 ghost use Rattle.object_files.specs.Changes.{ChangesFile};
 
-use elf_outside::{Device, Files, OpenFault, Sink};
 use std::alloc::Global;
+use tool_output::prelude::{Device, Files, OpenFault, Sink};
 use tool_output::{FileName, Message, Outputs, Stop};
 
 /// What a command does with the file that it is given, in place: it reads it and writes it.

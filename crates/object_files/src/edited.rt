@@ -6,8 +6,8 @@ ghost use Rattle.tool_output.specs.Outcomes.{Outcome, write_of, Does};
 ghost use Rattle.tool_output.specs.Statuses.{refused_status};
 ghost use Rattle.object_files.specs.Edits.{EditsFile, edited_outcome};
 
-use elf_outside::{Files, OpenFault, Sink, Source};
 use std::alloc::Global;
+use tool_output::prelude::{Files, OpenFault, Sink, Source};
 use tool_output::{FileName, Message, Outputs, Stop};
 
 /// What a command does with the file that it is given, while that is open: it reads it, and makes

@@ -1,12 +1,12 @@
 //! What puts an image to a sink.
 
 ghost use Rattle.std.specs.Prelude.{ℕ, List, Option, IfSome, IfErr, IsSome};
-ghost use Rattle.elf_outside.specs.Asks.{UsesSource};
-ghost use Rattle.elf_outside.specs.Puts.{UsesSink, Puts};
+ghost use Rattle.tool_output.specs.elf_outside.Asks.{UsesSource};
+ghost use Rattle.tool_output.specs.elf_outside.Puts.{UsesSink, Puts};
 ghost use Rattle.tool_output.specs.Stops.{stop_of};
 
-use elf_outside::{Sink, Source};
 use elf_types::ElfError;
+use tool_output::prelude::{Sink, Source};
 
 /// An image that can be put to a sink.
 ///

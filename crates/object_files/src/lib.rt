@@ -10,6 +10,7 @@ pub mod edited;
 pub mod images;
 pub mod making;
 pub mod objects;
+pub mod prelude;
 pub mod writing;
 
 pub use changed::{FileChange, change_file};

@@ -6,10 +6,10 @@ ghost use Rattle.tool_output.specs.Made.{MakesFile};
 ghost use Rattle.object_files.specs.Making.{IsStepOf, ReadsFrom, FillsFile};
 
 use crate::images::Image;
-use elf_outside::{Device, DeviceSink, Files, OpenFault};
 use elf_types::ElfError;
 use std::alloc::Global;
 use tool_output::Stop;
+use tool_output::prelude::{Device, DeviceSink, Files, OpenFault};
 
 /// What a call that is never refused did, as a step of a tool.
 fn as_step(done: Result<(), ElfError>) -> Result<(), Stop>

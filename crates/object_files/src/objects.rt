@@ -1,15 +1,15 @@
 //! The image of an object.
 
 ghost use Rattle.std.specs.Prelude.{◌≡◌, Some, None, if◌then◌else◌};
-ghost use Rattle.elf_object.specs.Image.{image};
-ghost use Rattle.elf_object.specs.Refusal.{refusal};
-ghost use Rattle.elf_object.specs.Due.{update_to_due};
+ghost use Rattle.elf_update.specs.elf_object.Image.{image};
+ghost use Rattle.elf_update.specs.elf_object.Refusal.{refusal};
+ghost use Rattle.elf_update.specs.elf_object.Due.{update_to_due};
 
 use crate::images::Image;
-use elf_descriptor::Elf;
-use elf_outside::{Sink, Source};
 use elf_types::ElfError;
+use elf_update::prelude::Elf;
 use elf_update::update_to;
+use tool_output::prelude::{Sink, Source};
 
 /// The image of an object whose update is not refused. It asks the object's source for the bytes
 /// that are not loaded, and stores the places of its parts.

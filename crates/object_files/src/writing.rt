@@ -1,7 +1,7 @@
 //! The files of a command, made of images.
 
 ghost use Rattle.std.specs.Prelude.{◌≡◌, ◌≢◌, ◌⊎◌, ◌<◌, ◌-◌, ◌^◌, ◌∷◌, [], IfSome, IsTrue};
-ghost use Rattle.elf_outside.specs.Counts.{Rose};
+ghost use Rattle.tool_output.specs.elf_outside.Counts.{Rose};
 ghost use Rattle.tool_output.specs.Files.{LeavesFilesBy};
 ghost use Rattle.tool_output.specs.Made.{made_file, outcome_with};
 ghost use Rattle.tool_output.specs.Outcomes.{Does};
@@ -11,8 +11,8 @@ ghost use Rattle.object_files.specs.Making.{ReadsFrom, InOrder};
 
 use crate::images::Image;
 use crate::making::make_file;
-use elf_outside::{Files, Sink};
 use std::alloc::Global;
+use tool_output::prelude::{Files, Sink};
 use tool_output::{Outputs, Stop};
 
 /// Makes the file of a command of an image. What waits for the outputs is put before, so a write

@@ -7,9 +7,9 @@ use Rattle.std.proofs.lemmas.List.{get_or-map}
 use Rattle.elf_types.specs.declared.records.Class.{Class}
 use Rattle.elf_types.specs.declared.records.Ehdr.{Ehdr}
 use Rattle.elf_types.specs.declared.records.Shdr.{Shdr}
-use Rattle.elf_layout.specs.declared.parts.PartAt.{PartAt}
-use Rattle.elf_layout.specs.declared.parts.Places.{Places}
-use Rattle.elf_layout.specs.Layout.{in_order_from, standing, length_of, positions, places_of as parts_places, refusal_of}
+use Rattle.elf_object.specs.elf_layout.declared.parts.PartAt.{PartAt}
+use Rattle.elf_object.specs.elf_layout.declared.parts.Places.{Places}
+use Rattle.elf_object.specs.elf_layout.Layout.{in_order_from, standing, length_of, positions, places_of as parts_places, refusal_of}
 use Rattle.elf_object.specs.Object.{Object, Section, absent_section, section_at, header_of, is_null, is_dirty}
 use Rattle.elf_object.specs.Joined.{file_bytes}
 use Rattle.elf_object.specs.Derived.{where_any, derived_header, numbered_shdr}

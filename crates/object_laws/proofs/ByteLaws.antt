@@ -11,11 +11,11 @@ use Rattle.elf_types.specs.declared.records.Order.TheVariants.{Least, Greatest}
 use Rattle.elf_types.specs.declared.records.Ehdr.{Ehdr}
 use Rattle.elf_types.specs.declared.records.Phdr.{Phdr}
 use Rattle.elf_types.specs.declared.records.Shdr.{Shdr}
-use Rattle.elf_xlate.specs.declared.content.Items.{Items}
-use Rattle.elf_xlate.specs.Headers.{ehdr_size, ehdr_fields, ehdr_numbers, class_code, order_code, ident, ehdr_bytes, phdr_bytes, shdr_bytes}
-use Rattle.elf_xlate.specs.Translation.{encoded}
-use Rattle.elf_xlate.proofs.ByteRanges.{laid_are, phdr_are, shdr_are, each_are, encoded_are}
-use Rattle.elf_layout.specs.Layout.{rounded_up}
+use Rattle.elf_object.specs.elf_xlate.declared.content.Items.{Items}
+use Rattle.elf_object.specs.elf_xlate.Headers.{ehdr_size, ehdr_fields, ehdr_numbers, class_code, order_code, ident, ehdr_bytes, phdr_bytes, shdr_bytes}
+use Rattle.elf_object.specs.elf_xlate.Translation.{encoded}
+use Rattle.elf_object.proofs.elf_xlate.ByteRanges.{laid_are, phdr_are, shdr_are, each_are, encoded_are}
+use Rattle.elf_object.specs.elf_layout.Layout.{rounded_up}
 use Rattle.elf_object.specs.Blocks.{Block, block_covers, byte_over, spread, stacked}
 use Rattle.elf_object.specs.Object.{Object, Piece, section_at, has_file_bytes, is_dirty}
 use Rattle.elf_object.specs.Open.{front_in_image, phdrs_bytes, shdrs_bytes}

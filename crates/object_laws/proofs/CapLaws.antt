@@ -6,10 +6,10 @@ use Rattle.std.proofs.lemmas.Bool.{and_right, cond-false}
 use Rattle.std.proofs.lemmas.List.Elements.{All-from_recursion}
 use Rattle.elf_types.specs.declared.records.Class.{Class}
 use Rattle.elf_types.specs.declared.records.Class.TheVariants.{C32, C64}
-use Rattle.elf_layout.specs.declared.parts.PartAt.{PartAt}
-use Rattle.elf_layout.specs.Capping.{IsFirst}
-use Rattle.elf_layout.specs.Meeting.{has_bytes}
-use Rattle.elf_layout.proofs.Capped.{capping_law}
+use Rattle.elf_object.specs.elf_layout.declared.parts.PartAt.{PartAt}
+use Rattle.elf_object.specs.elf_layout.Capping.{IsFirst}
+use Rattle.elf_object.specs.elf_layout.Meeting.{has_bytes}
+use Rattle.elf_object.proofs.elf_layout.Capped.{capping_law}
 use Rattle.elf_object.specs.Object.{Object, section_at, has_file_bytes, occupies_file}
 use Rattle.elf_object.specs.Joined.{file_bytes, pieces_end, piece_blocks}
 use Rattle.elf_object.specs.Blocks.{spread}

@@ -11,9 +11,9 @@ use Rattle.elf_types.specs.Answers.{refused_if, first_refusal}
 use Rattle.elf_object.specs.Refusal.{too_many, unfit_segment, unfit_in_piece, unfit_in_section, unfit_item, missing_in_section, missing_home, content_refusal}
 use Rattle.elf_types.specs.declared.records.Part.TheVariants as part
 use Rattle.elf_types.specs.declared.records.Phdr.{Phdr}
-use Rattle.elf_xlate.specs.declared.content.Items.{Items}
-use Rattle.elf_xlate.specs.Headers.{phdr_fits}
-use Rattle.elf_xlate.specs.Translation.{first_unfit}
+use Rattle.elf_object.specs.elf_xlate.declared.content.Items.{Items}
+use Rattle.elf_object.specs.elf_xlate.Headers.{phdr_fits}
+use Rattle.elf_object.specs.elf_xlate.Translation.{first_unfit}
 
 -- ---- The same content
 

@@ -7,15 +7,15 @@ use Rattle.elf_types.specs.declared.records.Class.{Class}
 use Rattle.elf_types.specs.declared.records.Class.TheVariants.{C32, C64}
 use Rattle.elf_types.specs.declared.records.Ehdr.{Ehdr}
 use Rattle.elf_types.specs.declared.records.Shdr.{Shdr}
-use Rattle.elf_xlate.specs.Headers.{phdr_size, shdr_size, shdr_of, shdr_bytes, shdr_fits, IsShdr}
-use Rattle.elf_ident.specs.declared.counts.Counts.{Counts}
+use Rattle.elf_object.specs.elf_xlate.Headers.{phdr_size, shdr_size, shdr_of, shdr_bytes, shdr_fits, IsShdr}
+use Rattle.elf_object.specs.elf_ident.declared.counts.Counts.{Counts}
 use Rattle.elf_types.specs.declared.errors.ElfError.{ElfError}
 use Rattle.elf_types.specs.declared.errors.ElfError.TheVariants as error
 use Rattle.elf_types.specs.Answers.{refused_if, first_refusal, answered, ◌>>=◌}
-use Rattle.elf_ident.specs.Front.{needs_first, first_section, true_shnum, true_shstrndx, true_phnum, true_counts, lies_in, header_refusal, count_refusal, counts_by, counts_in}
+use Rattle.elf_object.specs.elf_ident.Front.{needs_first, first_section, true_shnum, true_shstrndx, true_phnum, true_counts, lies_in, header_refusal, count_refusal, counts_by, counts_in}
 use Rattle.elf_object.specs.Object.{Object, Section, absent_section, section_at}
 use Rattle.elf_object.specs.Derived.{written_header}
-use Rattle.elf_layout.specs.Layout.{limit_of}
+use Rattle.elf_object.specs.elf_layout.Layout.{limit_of}
 use Rattle.elf_object.specs.Open.{shdrs_bytes}
 use Rattle.object_laws.proofs.LengthLaws.{length-shdr_bytes}
 use Rattle.object_laws.proofs.ReopenLaws.{ReadsBack, StandsIn, entry_bytes}

@@ -6,13 +6,13 @@ use Rattle.elf_types.specs.declared.records.Ehdr.{Ehdr}
 use Rattle.elf_types.specs.declared.records.Phdr.{Phdr}
 use Rattle.elf_types.specs.declared.records.Shdr.{Shdr}
 use Rattle.elf_types.specs.declared.errors.ElfError.{ElfError}
-use Rattle.elf_xlate.specs.Headers.{phdr_size, phdr_of, phdr_bytes, phdr_fits, IsPhdr, shdr_size, shdr_of, shdr_bytes, shdr_fits, IsShdr}
-use Rattle.elf_xlate.specs.Translation.{items_of}
-use Rattle.elf_ident.specs.declared.counts.Counts.{Counts}
-use Rattle.elf_ident.specs.declared.fronts.Head.{Head}
-use Rattle.elf_ident.specs.declared.fronts.Front.{Front}
+use Rattle.elf_object.specs.elf_xlate.Headers.{phdr_size, phdr_of, phdr_bytes, phdr_fits, IsPhdr, shdr_size, shdr_of, shdr_bytes, shdr_fits, IsShdr}
+use Rattle.elf_object.specs.elf_xlate.Translation.{items_of}
+use Rattle.elf_object.specs.elf_ident.declared.counts.Counts.{Counts}
+use Rattle.elf_object.specs.elf_ident.declared.fronts.Head.{Head}
+use Rattle.elf_object.specs.elf_ident.declared.fronts.Front.{Front}
 use Rattle.elf_types.specs.Answers.{◌>>=◌}
-use Rattle.elf_ident.specs.Front.{counts_in, with_counts, phdrs_at, shdrs_at, front_with, front_at, head_in, front}
+use Rattle.elf_object.specs.elf_ident.Front.{counts_in, with_counts, phdrs_at, shdrs_at, front_with, front_at, head_in, front}
 use Rattle.elf_object.specs.Object.{Object, Section}
 use Rattle.elf_object.specs.Derived.{written_header}
 use Rattle.elf_object.specs.Open.{shdrs_bytes, phdrs_bytes}

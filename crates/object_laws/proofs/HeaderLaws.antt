@@ -10,9 +10,9 @@ use Rattle.elf_types.specs.declared.records.Order.TheVariants.{Least, Greatest}
 use Rattle.elf_types.specs.declared.records.Ehdr.{Ehdr}
 use Rattle.elf_types.specs.declared.errors.ElfError.{ElfError}
 use Rattle.elf_types.specs.declared.errors.ElfError.TheVariants as error
-use Rattle.elf_xlate.specs.Headers.{class_code, order_code, ident, ehdr_size, ehdr_of, ehdr_bytes, ehdr_fits, IsEhdr, HasNarrowCounts}
+use Rattle.elf_object.specs.elf_xlate.Headers.{class_code, order_code, ident, ehdr_size, ehdr_of, ehdr_bytes, ehdr_fits, IsEhdr, HasNarrowCounts}
 use Rattle.elf_types.specs.Answers.{refused_if, answered, ◌>>=◌}
-use Rattle.elf_ident.specs.Front.{no_ident, ident_in, header_at, header_in}
+use Rattle.elf_object.specs.elf_ident.Front.{no_ident, ident_in, header_at, header_in}
 use Rattle.elf_object.specs.Object.{Object}
 use Rattle.elf_object.specs.Derived.{written_header}
 use Rattle.object_laws.proofs.ReopenLaws.{ReadsBack, StandsIn}

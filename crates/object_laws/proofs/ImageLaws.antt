@@ -6,10 +6,10 @@ use Rattle.std.proofs.lemmas.List.{get_or-map}
 use Rattle.std.proofs.lemmas.List.FromFn.{get_or-enumerate_from, length-enumerate_from}
 use Rattle.elf_types.specs.declared.records.Shdr.{Shdr}
 use Rattle.elf_types.specs.declared.errors.ElfError.{ElfError}
-use Rattle.elf_layout.specs.declared.parts.PartAt.{PartAt}
-use Rattle.elf_layout.specs.declared.parts.Places.{Places}
-use Rattle.elf_layout.specs.Layout.{standing, in_order_from}
-use Rattle.elf_layout.specs.Meeting.{meets}
+use Rattle.elf_object.specs.elf_layout.declared.parts.PartAt.{PartAt}
+use Rattle.elf_object.specs.elf_layout.declared.parts.Places.{Places}
+use Rattle.elf_object.specs.elf_layout.Layout.{standing, in_order_from}
+use Rattle.elf_object.specs.elf_layout.Meeting.{meets}
 use Rattle.elf_object.specs.Blocks.{spread}
 use Rattle.object_laws.proofs.BlockLaws.{length-spread}
 use Rattle.elf_object.specs.Object.{Object, Section, absent_section, section_at, has_file_bytes, occupies_file, is_null, is_dirty}

@@ -16,9 +16,9 @@ use Rattle.elf_types.specs.declared.records.Shdr.{Shdr}
 use Rattle.elf_types.specs.declared.records.Part.TheVariants as part
 use Rattle.elf_types.specs.declared.errors.ElfError.{ElfError}
 use Rattle.elf_types.specs.declared.errors.ElfError.TheVariants.{OutOfFile, Ragged, Unfit}
-use Rattle.elf_xlate.specs.declared.content.Items.{Items}
-use Rattle.elf_xlate.specs.Translation.{DecodesAsEncoded, decoded, encoded, first_unfit, items_kind}
-use Rattle.elf_layout.specs.declared.parts.Places.{Places}
+use Rattle.elf_object.specs.elf_xlate.declared.content.Items.{Items}
+use Rattle.elf_object.specs.elf_xlate.Translation.{DecodesAsEncoded, decoded, encoded, first_unfit, items_kind}
+use Rattle.elf_object.specs.elf_layout.declared.parts.Places.{Places}
 use Rattle.elf_types.specs.Answers.{first_refusal}
 use Rattle.elf_object.specs.Blocks.{block_end, stacked, last_end, spread}
 use Rattle.object_laws.proofs.BlockLaws.{length-spread, take-drop-spread}

@@ -10,12 +10,12 @@ use Rattle.elf_types.specs.declared.records.Rela.{Rela}
 use Rattle.elf_types.specs.declared.records.Dyn.{Dyn}
 use Rattle.elf_types.specs.declared.records.Kind.{Kind}
 use Rattle.elf_types.specs.declared.records.Kind.TheVariants as kinds
-use Rattle.elf_xlate.specs.declared.content.Items.{Items}
-use Rattle.elf_xlate.specs.declared.content.Items.TheVariants as items
-use Rattle.elf_xlate.specs.Fields.{fits}
-use Rattle.elf_xlate.specs.Headers.{IsEhdr, IsShdr}
-use Rattle.elf_xlate.specs.Items.{sym_fits, rel_fits, rela_fits, dyn_fits}
-use Rattle.elf_xlate.specs.Translation.{items_count}
+use Rattle.elf_object.specs.elf_xlate.declared.content.Items.{Items}
+use Rattle.elf_object.specs.elf_xlate.declared.content.Items.TheVariants as items
+use Rattle.elf_object.specs.elf_xlate.Fields.{fits}
+use Rattle.elf_object.specs.elf_xlate.Headers.{IsEhdr, IsShdr}
+use Rattle.elf_object.specs.elf_xlate.Items.{sym_fits, rel_fits, rela_fits, dyn_fits}
+use Rattle.elf_object.specs.elf_xlate.Translation.{items_count}
 use Rattle.elf_object.specs.Runs.{addall, set_ehdr, set_phdr, set_shdr, set_item, added, or_same}
 use Rattle.elf_object.specs.Object.{Object, header_of}
 use Rattle.elf_object.specs.Steps.{with_own}

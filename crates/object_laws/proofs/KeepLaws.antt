@@ -12,11 +12,11 @@ use Rattle.elf_types.specs.declared.records.Shdr.{Shdr}
 use Rattle.elf_types.specs.declared.records.Part.{Part}
 use Rattle.elf_types.specs.declared.records.Part.TheVariants as part
 use Rattle.elf_types.specs.declared.errors.ElfError.TheVariants.{BadAlign, NoSection, Reserved, TooMany, Unfit}
-use Rattle.elf_xlate.specs.declared.content.Items.{Items}
-use Rattle.elf_xlate.specs.Headers.{IsEhdr, IsShdr, ehdr_fits, shdr_fits}
-use Rattle.elf_xlate.specs.Translation.{items_kind}
+use Rattle.elf_object.specs.elf_xlate.declared.content.Items.{Items}
+use Rattle.elf_object.specs.elf_xlate.Headers.{IsEhdr, IsShdr, ehdr_fits, shdr_fits}
+use Rattle.elf_object.specs.elf_xlate.Translation.{items_kind}
 use Rattle.elf_types.specs.Answers.{refused_if}
-use Rattle.elf_ident.specs.Front.{zero_shdr}
+use Rattle.elf_object.specs.elf_ident.Front.{zero_shdr}
 use Rattle.elf_object.specs.Object.{Object, Section, Piece, section_at, piece_at, absent_section, new_section, home_piece, no_phdr, no_home}
 use Rattle.elf_object.specs.Steps.{with_sections, new_number, with_section, with_piece_at, with_ehdr, stored_ehdr, with_phdrs, with_phdr, with_new_phdrs, with_shdr, with_new_section, with_null_section, with_new_piece, own_piece, with_own, with_mark, with_layout, with_flags, is_whole, with_fill}
 use Rattle.elf_object.specs.Calls.{step, update_ehdr, update_ehdr_refusal, update_phdr, update_phdr_refusal, newphdr, newphdr_refusal, phdrs_mut, update_shdr, update_shdr_refusal, newscn, newscn_refusal, newnull, newdata_aligned, newdata_refusal, unfit_items, flag_refusal, set_fill, replace, replace_refusal, flag, lend, is_piece_align}

@@ -12,9 +12,9 @@ use Rattle.elf_types.specs.declared.records.Order.TheVariants.{Least, Greatest}
 use Rattle.elf_types.specs.declared.records.Ehdr.{Ehdr}
 use Rattle.elf_types.specs.declared.records.Phdr.{Phdr}
 use Rattle.elf_types.specs.declared.records.Shdr.{Shdr}
-use Rattle.elf_xlate.specs.Numbers.{by_weight, lowest_bytes, octets}
-use Rattle.elf_xlate.specs.Fields.{Field, place_in, written, written_in, laid, record_bytes}
-use Rattle.elf_xlate.specs.Headers.{ehdr_size, ehdr_fields, ehdr_numbers, ident, ehdr_bytes, phdr_size, phdr_fields, phdr_numbers, phdr_bytes, shdr_size, shdr_fields, shdr_numbers, shdr_bytes}
+use Rattle.elf_object.specs.elf_xlate.Numbers.{by_weight, lowest_bytes, octets}
+use Rattle.elf_object.specs.elf_xlate.Fields.{Field, place_in, written, written_in, laid, record_bytes}
+use Rattle.elf_object.specs.elf_xlate.Headers.{ehdr_size, ehdr_fields, ehdr_numbers, ident, ehdr_bytes, phdr_size, phdr_fields, phdr_numbers, phdr_bytes, shdr_size, shdr_fields, shdr_numbers, shdr_bytes}
 use Rattle.elf_object.specs.Open.{phdrs_bytes, shdrs_bytes}
 
 length-lowest_bytes : (width n : ℕ) → length (lowest_bytes width n) ≡ width

@@ -1,3 +1,6 @@
+pub use Rattle.elf_object.proofs.elf_ident
+pub use Rattle.elf_object.proofs as elf_object
+pub use Rattle.elf_object.proofs.elf_xlate
 pub mod BlockLaws
 pub mod RangeLaws
 pub mod PlaceLaws

@@ -13,19 +13,19 @@ use Rattle.elf_types.specs.declared.records.Phdr.{Phdr}
 use Rattle.elf_types.specs.declared.records.Shdr.{Shdr}
 use Rattle.elf_types.specs.declared.errors.ElfError.{ElfError}
 use Rattle.elf_types.specs.declared.errors.ElfError.TheVariants as error
-use Rattle.elf_xlate.specs.Fields.{Field, number_in, fits}
-use Rattle.elf_xlate.specs.Headers.{ehdr_size, ehdr_fields, ehdr_of, ehdr_fits, IsEhdr, HasNarrowCounts, phdr_size, phdr_fields, phdr_of, phdr_fits, IsPhdr, shdr_size, shdr_fields, shdr_of, shdr_fits, IsShdr}
-use Rattle.elf_xlate.specs.Translation.{items_of}
-use Rattle.elf_ident.specs.declared.counts.Counts.{Counts}
-use Rattle.elf_ident.specs.declared.fronts.Head.{Head}
-use Rattle.elf_ident.specs.declared.fronts.Front.{Front}
-use Rattle.elf_ident.specs.Front.{ident_in, header_at, header_in, zero_shdr, needs_first, first_section, true_shnum, true_shstrndx, true_counts, lies_in, phdrs_at, shdrs_at, header_refusal, count_refusal, counts_by, counts_in, front_at, head_in, front}
+use Rattle.elf_object.specs.elf_xlate.Fields.{Field, number_in, fits}
+use Rattle.elf_object.specs.elf_xlate.Headers.{ehdr_size, ehdr_fields, ehdr_of, ehdr_fits, IsEhdr, HasNarrowCounts, phdr_size, phdr_fields, phdr_of, phdr_fits, IsPhdr, shdr_size, shdr_fields, shdr_of, shdr_fits, IsShdr}
+use Rattle.elf_object.specs.elf_xlate.Translation.{items_of}
+use Rattle.elf_object.specs.elf_ident.declared.counts.Counts.{Counts}
+use Rattle.elf_object.specs.elf_ident.declared.fronts.Head.{Head}
+use Rattle.elf_object.specs.elf_ident.declared.fronts.Front.{Front}
+use Rattle.elf_object.specs.elf_ident.Front.{ident_in, header_at, header_in, zero_shdr, needs_first, first_section, true_shnum, true_shstrndx, true_counts, lies_in, phdrs_at, shdrs_at, header_refusal, count_refusal, counts_by, counts_in, front_at, head_in, front}
 use Rattle.elf_object.specs.Object.{Object, home_piece, occupies_file}
 use Rattle.elf_object.specs.Open.{home_len, home_of, home_bytes, opened_section, begun, begun_or_refused, opened, created_over, new_ehdr}
 use Rattle.elf_types.specs.Answers.{refused_if, answered, ◌>>=◌}
 use Rattle.elf_types.specs.declared.constants.TheConstants.{EV_CURRENT, PN_XNUM, MAX_IMAGE, MAX_SECTIONS, MAX_SEGMENTS}
-use Rattle.elf_ident.proofs.Refusals.{answered_ok, bind_ok, last_passed}
-use Rattle.elf_ident.specs.Reading.{IsFittingFront, IsCounted}
+use Rattle.elf_object.proofs.elf_ident.Refusals.{answered_ok, bind_ok, last_passed}
+use Rattle.elf_object.specs.elf_ident.Reading.{IsFittingFront, IsCounted}
 use Rattle.object_laws.specs.Laws.{BegunFits}
 use Rattle.elf_object.proofs.PassedLaws.{not_refused, not_not, passed_one}
 use Rattle.elf_types.specs.Lists.{AreBytes}

@@ -8,10 +8,10 @@ use Rattle.std.proofs.lemmas.List.{get_or-map}
 use Rattle.elf_types.specs.declared.records.Class.{Class}
 use Rattle.elf_types.specs.declared.errors.ElfError.{ElfError}
 use Rattle.elf_types.specs.declared.errors.ElfError.TheVariants.{Overlap, TooLarge}
-use Rattle.elf_xlate.specs.Headers.{ehdr_size, phdr_size, shdr_size}
-use Rattle.elf_layout.specs.declared.parts.PartAt.{PartAt}
-use Rattle.elf_layout.specs.Layout.{some_above, place_of, end_after, in_order_from, standing, length_with, length_from, length_of, positions, limit_of, is_too_large, overlap_refusal, refusal_within, refusal_of}
-use Rattle.elf_layout.specs.Meeting.{has_bytes, end_of, sorted_by, first_met, parts_by_position, overlap_of}
+use Rattle.elf_object.specs.elf_xlate.Headers.{ehdr_size, phdr_size, shdr_size}
+use Rattle.elf_object.specs.elf_layout.declared.parts.PartAt.{PartAt}
+use Rattle.elf_object.specs.elf_layout.Layout.{some_above, place_of, end_after, in_order_from, standing, length_with, length_from, length_of, positions, limit_of, is_too_large, overlap_refusal, refusal_within, refusal_of}
+use Rattle.elf_object.specs.elf_layout.Meeting.{has_bytes, end_of, sorted_by, first_met, parts_by_position, overlap_of}
 use Rattle.elf_object.specs.Object.{Object, section_at, has_file_bytes}
 use Rattle.elf_object.specs.Joined.{file_bytes}
 use Rattle.elf_object.specs.Layout.{header_part, segments_part, section_part, table_part, table_alignment, parts_of}

@@ -10,10 +10,10 @@ use Rattle.elf_types.specs.declared.records.Class.TheVariants.{C32, C64}
 use Rattle.elf_types.specs.declared.records.Part.{Part}
 use Rattle.elf_types.specs.declared.errors.ElfError.{ElfError}
 use Rattle.elf_types.specs.declared.errors.ElfError.TheVariants.{Overlap, TooLarge}
-use Rattle.elf_xlate.specs.Fields.{fits}
-use Rattle.elf_layout.specs.declared.parts.PartAt.{PartAt}
-use Rattle.elf_layout.specs.Layout.{rounded_up, place_of, end_after, in_order_from, standing, length_with, length_from, length_of, limit_of, some_above, is_too_large, overlap_refusal, refusal_within, refusal_of}
-use Rattle.elf_layout.specs.Meeting.{has_bytes, end_of, meets, inserted_by, sorted_by, parts_by_position, first_met, overlap_of}
+use Rattle.elf_object.specs.elf_xlate.Fields.{fits}
+use Rattle.elf_object.specs.elf_layout.declared.parts.PartAt.{PartAt}
+use Rattle.elf_object.specs.elf_layout.Layout.{rounded_up, place_of, end_after, in_order_from, standing, length_with, length_from, length_of, limit_of, some_above, is_too_large, overlap_refusal, refusal_within, refusal_of}
+use Rattle.elf_object.specs.elf_layout.Meeting.{has_bytes, end_of, meets, inserted_by, sorted_by, parts_by_position, first_met, overlap_of}
 
 -- ---- One after the other
 

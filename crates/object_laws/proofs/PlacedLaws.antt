@@ -11,11 +11,11 @@ use Rattle.elf_types.specs.declared.records.Class.TheVariants.{C32, C64}
 use Rattle.elf_types.specs.declared.records.Ehdr.{Ehdr}
 use Rattle.elf_types.specs.declared.records.Shdr.{Shdr}
 use Rattle.elf_types.specs.declared.errors.ElfError.{ElfError}
-use Rattle.elf_xlate.specs.Fields.{fits}
-use Rattle.elf_xlate.specs.Headers.{ehdr_size, phdr_size, shdr_size, IsEhdr, IsShdr, ehdr_fits, shdr_fits}
-use Rattle.elf_layout.specs.declared.parts.PartAt.{PartAt}
-use Rattle.elf_layout.specs.declared.parts.Places.{Places}
-use Rattle.elf_layout.specs.Layout.{standing, positions, limit_of, places_of as parts_places}
+use Rattle.elf_object.specs.elf_xlate.Fields.{fits}
+use Rattle.elf_object.specs.elf_xlate.Headers.{ehdr_size, phdr_size, shdr_size, IsEhdr, IsShdr, ehdr_fits, shdr_fits}
+use Rattle.elf_object.specs.elf_layout.declared.parts.PartAt.{PartAt}
+use Rattle.elf_object.specs.elf_layout.declared.parts.Places.{Places}
+use Rattle.elf_object.specs.elf_layout.Layout.{standing, positions, limit_of, places_of as parts_places}
 use Rattle.elf_types.specs.Answers.{first_refusal}
 use Rattle.elf_object.specs.Object.{Object, Section, section_at, absent_section, header_of, is_null, occupies_file, is_dirty}
 use Rattle.elf_object.specs.Joined.{file_bytes}

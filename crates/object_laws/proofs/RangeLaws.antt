@@ -9,10 +9,10 @@ use Rattle.elf_types.specs.declared.records.Class.{Class}
 use Rattle.elf_types.specs.declared.records.Class.TheVariants.{C32, C64}
 use Rattle.elf_types.specs.declared.records.Order.{Order}
 use Rattle.elf_types.specs.declared.records.Order.TheVariants.{Least, Greatest}
-use Rattle.elf_xlate.specs.Numbers.{by_weight, weighed, number_of, number_at}
-use Rattle.elf_xlate.specs.Orders.{weighed-suc}
-use Rattle.elf_xlate.specs.Fields.{Field, place_in, number_in}
-use Rattle.elf_xlate.specs.Translation.{items_of}
+use Rattle.elf_object.specs.elf_xlate.Numbers.{by_weight, weighed, number_of, number_at}
+use Rattle.elf_object.specs.elf_xlate.Orders.{weighed-suc}
+use Rattle.elf_object.specs.elf_xlate.Fields.{Field, place_in, number_in}
+use Rattle.elf_object.specs.elf_xlate.Translation.{items_of}
 use Rattle.elf_types.specs.Lists.{AreBytes}
 
 -- ---- Numbers

@@ -11,9 +11,9 @@ use Rattle.elf_types.specs.declared.records.Order.{Order}
 use Rattle.elf_types.specs.declared.records.Ehdr.{Ehdr}
 use Rattle.elf_types.specs.declared.records.Phdr.{Phdr}
 use Rattle.elf_types.specs.declared.records.Shdr.{Shdr}
-use Rattle.elf_xlate.specs.Headers.{ehdr_size, ehdr_bytes, ehdr_fits, IsEhdr, HasNarrowCounts, HoldsEhdr, phdr_size, phdr_of, phdr_bytes, phdr_fits, IsPhdr, shdr_size, shdr_of, shdr_bytes, shdr_fits, IsShdr}
-use Rattle.elf_xlate.specs.Translation.{items_of}
-use Rattle.elf_layout.specs.Layout.{limit_of, length_of, places_of as parts_places}
+use Rattle.elf_object.specs.elf_xlate.Headers.{ehdr_size, ehdr_bytes, ehdr_fits, IsEhdr, HasNarrowCounts, HoldsEhdr, phdr_size, phdr_of, phdr_bytes, phdr_fits, IsPhdr, shdr_size, shdr_of, shdr_bytes, shdr_fits, IsShdr}
+use Rattle.elf_object.specs.elf_xlate.Translation.{items_of}
+use Rattle.elf_object.specs.elf_layout.Layout.{limit_of, length_of, places_of as parts_places}
 use Rattle.elf_object.specs.Blocks.{Block, block_end}
 use Rattle.object_laws.proofs.BlockLaws.{AreApart, AllApart, covers_at}
 use Rattle.elf_object.specs.Object.{Object, is_dirty}

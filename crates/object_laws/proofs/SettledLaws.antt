@@ -15,8 +15,8 @@ use Rattle.elf_types.specs.declared.records.Shdr.{Shdr}
 use Rattle.elf_types.specs.declared.records.Part.TheVariants as part
 use Rattle.elf_types.specs.declared.errors.ElfError.{ElfError}
 use Rattle.elf_types.specs.declared.errors.ElfError.TheVariants.{TooMany, Unfit}
-use Rattle.elf_xlate.specs.Headers.{phdr_size, shdr_size, ehdr_fits, IsEhdr, HasNarrowCounts, phdr_fits, IsPhdr, shdr_fits, IsShdr}
-use Rattle.elf_ident.specs.declared.fronts.Front.{Front}
+use Rattle.elf_object.specs.elf_xlate.Headers.{phdr_size, shdr_size, ehdr_fits, IsEhdr, HasNarrowCounts, phdr_fits, IsPhdr, shdr_fits, IsShdr}
+use Rattle.elf_object.specs.elf_ident.declared.fronts.Front.{Front}
 use Rattle.elf_types.specs.Answers.{refused_if}
 use Rattle.elf_object.specs.Blocks.{Block, block_end}
 use Rattle.elf_object.specs.Object.{Object, Section, home_piece, absent_section, section_at, header_of, has_file_bytes, occupies_file, is_dirty}

@@ -8,11 +8,11 @@ use Rattle.std.proofs.lemmas.List.FromFn.{length-map-range_with_len, get_or-map-
 use Rattle.elf_types.specs.declared.records.Class.{Class}
 use Rattle.elf_types.specs.declared.records.Order.{Order}
 use Rattle.elf_types.specs.declared.records.Shdr.{Shdr}
-use Rattle.elf_xlate.specs.Headers.{phdr_size, shdr_size}
-use Rattle.elf_layout.specs.declared.parts.PartAt.{PartAt}
-use Rattle.elf_layout.specs.declared.parts.Places.{Places}
-use Rattle.elf_layout.specs.Layout.{rounded_up, place_of, end_after, standing, in_order_from, length_from, length_of, positions, places_of as parts_places}
-use Rattle.elf_layout.specs.Meeting.{has_bytes, end_of, meets}
+use Rattle.elf_object.specs.elf_xlate.Headers.{phdr_size, shdr_size}
+use Rattle.elf_object.specs.elf_layout.declared.parts.PartAt.{PartAt}
+use Rattle.elf_object.specs.elf_layout.declared.parts.Places.{Places}
+use Rattle.elf_object.specs.elf_layout.Layout.{rounded_up, place_of, end_after, standing, in_order_from, length_from, length_of, positions, places_of as parts_places}
+use Rattle.elf_object.specs.elf_layout.Meeting.{has_bytes, end_of, meets}
 use Rattle.elf_object.specs.Blocks.{Block, block_end, block_covers, spread, stacked, last_end}
 use Rattle.object_laws.proofs.BlockLaws.{AreApart, AllApart, take-drop-spread}
 use Rattle.elf_object.specs.Object.{Object, Section, absent_section, section_at, header_of, has_file_bytes, occupies_file, is_null, is_dirty}

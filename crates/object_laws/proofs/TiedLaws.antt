@@ -20,15 +20,15 @@ use Rattle.elf_types.specs.declared.records.Part.{Part}
 use Rattle.elf_types.specs.declared.records.Part.TheVariants as part
 use Rattle.elf_types.specs.declared.errors.ElfError.{ElfError}
 use Rattle.elf_types.specs.declared.errors.ElfError.TheVariants.{NoData, NoSection, Reserved, Unfit}
-use Rattle.elf_xlate.specs.declared.content.Items.{Items}
-use Rattle.elf_xlate.specs.declared.content.Items.TheVariants as items
-use Rattle.elf_xlate.specs.Fields.{fits}
-use Rattle.elf_xlate.specs.Headers.{shdr_fits}
-use Rattle.elf_xlate.specs.Items.{sym_fits, rel_fits, rela_fits, dyn_fits}
-use Rattle.elf_xlate.specs.Headers.{IsPhdr}
-use Rattle.elf_xlate.specs.Translation.{items_count, items_kind}
-use Rattle.elf_ident.specs.declared.fronts.Front.{Front}
-use Rattle.elf_ident.specs.Front.{front}
+use Rattle.elf_object.specs.elf_xlate.declared.content.Items.{Items}
+use Rattle.elf_object.specs.elf_xlate.declared.content.Items.TheVariants as items
+use Rattle.elf_object.specs.elf_xlate.Fields.{fits}
+use Rattle.elf_object.specs.elf_xlate.Headers.{shdr_fits}
+use Rattle.elf_object.specs.elf_xlate.Items.{sym_fits, rel_fits, rela_fits, dyn_fits}
+use Rattle.elf_object.specs.elf_xlate.Headers.{IsPhdr}
+use Rattle.elf_object.specs.elf_xlate.Translation.{items_count, items_kind}
+use Rattle.elf_object.specs.elf_ident.declared.fronts.Front.{Front}
+use Rattle.elf_object.specs.elf_ident.Front.{front}
 use Rattle.elf_types.specs.Answers.{refused_if, first_refusal}
 use Rattle.elf_object.specs.Object.{Object, Section, Piece, section_at, piece_at, new_section, home_piece, is_dirty, some_section_marked, some_piece_marked}
 use Rattle.elf_object.specs.Open.{begun, begun_or_refused, opened, created_over}

@@ -10,9 +10,9 @@ use Rattle.elf_types.specs.declared.records.Order.{Order}
 use Rattle.elf_types.specs.declared.records.Ehdr.{Ehdr}
 use Rattle.elf_types.specs.declared.records.Shdr.{Shdr}
 use Rattle.elf_types.specs.declared.errors.ElfError.{ElfError}
-use Rattle.elf_xlate.specs.Translation.{encoded}
-use Rattle.elf_layout.specs.declared.parts.Places.{Places}
-use Rattle.elf_layout.specs.Layout.{length_from, length_of, standing, places_of as parts_places}
+use Rattle.elf_object.specs.elf_xlate.Translation.{encoded}
+use Rattle.elf_object.specs.elf_layout.declared.parts.Places.{Places}
+use Rattle.elf_object.specs.elf_layout.Layout.{length_from, length_of, standing, places_of as parts_places}
 use Rattle.elf_types.specs.Answers.{first_refusal}
 use Rattle.elf_object.specs.Blocks.{spread, is_covered, stacked, last_end}
 use Rattle.object_laws.proofs.BlockLaws.{get_or-spread, byte_over-uncovered}

@@ -7,7 +7,7 @@ use Rattle.std.proofs.lemmas.List.FromFn.{length-enumerate_from}
 use Rattle.std.proofs.lemmas.List.Elements.{All-map, All-replicate, All-weaker}
 use Rattle.elf_types.specs.declared.records.Class.{Class}
 use Rattle.elf_types.specs.declared.records.Shdr.{Shdr}
-use Rattle.elf_xlate.specs.Headers.{IsShdr, shdr_fits}
+use Rattle.elf_object.specs.elf_xlate.Headers.{IsShdr, shdr_fits}
 use Rattle.elf_object.specs.Object.{Object, Section, Piece, absent_section, section_at, is_dirty}
 use Rattle.elf_object.specs.Layout.{places_of, placed_by, placed}
 use Rattle.elf_object.specs.Joined.{file_bytes}

@@ -12,16 +12,16 @@ use Rattle.elf_types.specs.declared.records.Rel.{Rel}
 use Rattle.elf_types.specs.declared.records.Rela.{Rela}
 use Rattle.elf_types.specs.declared.records.Dyn.{Dyn}
 use Rattle.elf_types.specs.declared.records.Part.{Part}
-use Rattle.elf_xlate.specs.declared.content.Items.{Items}
+use Rattle.elf_object.specs.elf_xlate.declared.content.Items.{Items}
 use Rattle.elf_types.specs.declared.constants.TheConstants.{MAX_SEGMENTS}
-use Rattle.elf_xlate.specs.Headers.{IsEhdr, IsPhdr, IsShdr}
-use Rattle.elf_xlate.specs.Translation.{AreItems, items_kind}
-use Rattle.elf_ident.specs.declared.fronts.Front.{Front}
-use Rattle.elf_ident.specs.Reading.{IsFittingFront, IsCounted}
-use Rattle.elf_layout.specs.declared.parts.PartAt.{PartAt}
-use Rattle.elf_layout.specs.Capping.{capped}
-use Rattle.elf_layout.specs.Layout.{placing, refusal_of}
-use Rattle.elf_layout.specs.Meeting.{meets}
+use Rattle.elf_object.specs.elf_xlate.Headers.{IsEhdr, IsPhdr, IsShdr}
+use Rattle.elf_object.specs.elf_xlate.Translation.{AreItems, items_kind}
+use Rattle.elf_object.specs.elf_ident.declared.fronts.Front.{Front}
+use Rattle.elf_object.specs.elf_ident.Reading.{IsFittingFront, IsCounted}
+use Rattle.elf_object.specs.elf_layout.declared.parts.PartAt.{PartAt}
+use Rattle.elf_object.specs.elf_layout.Capping.{capped}
+use Rattle.elf_object.specs.elf_layout.Layout.{placing, refusal_of}
+use Rattle.elf_object.specs.elf_layout.Meeting.{meets}
 use Rattle.elf_object.specs.Blocks.{Block}
 use Rattle.elf_object.specs.Object.{Object, Piece, section_at, has_file_bytes, is_dirty}
 use Rattle.elf_object.specs.Open.{begun, opened, created_over}

@@ -4,7 +4,7 @@
 ghost use Rattle.object_laws.specs.Laws.{BegunFits, BeginningsAre, BeginningsAreTied, CleanStays, EveryStepKeeps, EveryStepKeepsTied, PartsDoNotMeet, PartsMayBeCapped, PartsStand, PlacedStays, RefusedStays, ReopenLaw, SettlingKeepsItems, SizesAreLengths, TornLaw, UpdatesKeep, UpdatesTie};
 ghost use Rattle.elf_object.specs.Object.{Object};
 
-use elf_xlate::{decodes_as_encoded, ehdr_both_ways, phdr_both_ways, shdr_both_ways};
+use elf_object::prelude::{decodes_as_encoded, ehdr_both_ways, phdr_both_ways, shdr_both_ways};
 
 /// With nothing dirty the image is the base, and storing places and settling leave the object.
 #[tactic(auto, using(crate::proofs::LawsHold::clean_stays))]

@@ -10,19 +10,19 @@ use Rattle.elf_types.specs.declared.errors.ElfError.{ElfError}
 use Rattle.elf_types.specs.declared.errors.ElfError.TheVariants.{NoSection, Reserved, TooMany, BadAlign, Unfit}
 use Rattle.elf_types.specs.declared.constants.TheConstants.{MAX_PIECES, MAX_SECTIONS, PN_XNUM}
 use Rattle.elf_types.specs.Answers.{refused_if, first_refusal, answered, IsRefusal}
-use Rattle.elf_xlate.specs.declared.content.Items.{Items}
-use Rattle.elf_xlate.specs.Headers.{shdr_fits}
-use Rattle.elf_xlate.specs.Translation.{first_unfit}
-use Rattle.elf_object.specs.Object.{Object, Section, section_at, new_section, absent_section, occupies_file}
-use Rattle.elf_object.specs.Steps.{with_section, with_sections, with_new_section, new_number, with_shdr, with_new_piece, own_piece}
-use Rattle.elf_object.specs.Answers.{no_section, reserved, piece_count}
-use Rattle.elf_object.specs.Calls.{update_shdr_refusal, newscn_refusal, newdata_refusal, unfit_items, is_piece_align, newphdr_refusal}
-use Rattle.elf_object.specs.Calls as calls
-use Rattle.elf_object.specs.Words.{Edits, EditsWith, result_map}
-use Rattle.elf_object.proofs.AnswerLaws.{answered_value}
-use Rattle.elf_object.proofs.RefusalLaws.{Refuses, test_refuses, first_refuses}
-use Rattle.elf_descriptor.specs.State.{State}
-use Rattle.elf_descriptor.specs.Edits.{grown, stepped, with_none}
+use Rattle.command_objects.specs.elf_xlate.declared.content.Items.{Items}
+use Rattle.command_objects.specs.elf_xlate.Headers.{shdr_fits}
+use Rattle.command_objects.specs.elf_xlate.Translation.{first_unfit}
+use Rattle.command_objects.specs.elf_object.Object.{Object, Section, section_at, new_section, absent_section, occupies_file}
+use Rattle.command_objects.specs.elf_object.Steps.{with_section, with_sections, with_new_section, new_number, with_shdr, with_new_piece, own_piece}
+use Rattle.command_objects.specs.elf_object.Answers.{no_section, reserved, piece_count}
+use Rattle.command_objects.specs.elf_object.Calls.{update_shdr_refusal, newscn_refusal, newdata_refusal, unfit_items, is_piece_align, newphdr_refusal}
+use Rattle.command_objects.specs.elf_object.Calls as calls
+use Rattle.command_objects.specs.elf_object.Words.{Edits, EditsWith, result_map}
+use Rattle.command_objects.proofs.elf_object.AnswerLaws.{answered_value}
+use Rattle.command_objects.proofs.elf_object.RefusalLaws.{Refuses, test_refuses, first_refuses}
+use Rattle.update_plan.specs.elf_descriptor.State.{State}
+use Rattle.update_plan.specs.elf_descriptor.Edits.{grown, stepped, with_none}
 use Rattle.command_objects.specs.Rebuilt.{made_section}
 use Rattle.object_making.specs.Refused.{RefusedBy}
 use Rattle.object_making.specs.Made.{refusal_alone, with_last, bare_section, grown_to, with_new_data, new_data_refusal, unfit_header, bare_refusal, unfit_data, added_refusal}

@@ -9,18 +9,18 @@ use Rattle.elf_types.specs.declared.records.Part.TheVariants as part
 use Rattle.elf_types.specs.declared.records.TheConstants.{LAYOUT}
 use Rattle.elf_types.specs.declared.errors.ElfError.{ElfError}
 use Rattle.elf_types.specs.Answers.{answered}
-use Rattle.elf_outside.specs.declared.sources.Source.{Ghosts}
-use Rattle.elf_outside.specs.Asks.{Asks}
-use Rattle.elf_outside.proofs.AskLemmas.{asks_then, read_rose_on}
-use Rattle.elf_object.specs.Object.{Object, header_of}
-use Rattle.elf_object.specs.Open.{created_over}
-use Rattle.elf_object.specs.Answers.{part_refusal}
-use Rattle.elf_object.specs.Steps.{with_layout, with_flags}
-use Rattle.elf_object.specs.Calls.{flag_refusal}
-use Rattle.elf_object.specs.Calls as calls
-use Rattle.elf_descriptor.specs.State.{State}
-use Rattle.elf_descriptor.specs.Created.{IsCreated}
-use Rattle.elf_descriptor.specs.Edits.{flagged}
+use Rattle.command_objects.specs.elf_outside.declared.sources.Source.{Ghosts}
+use Rattle.command_objects.specs.elf_outside.Asks.{Asks}
+use Rattle.command_objects.proofs.elf_outside.AskLemmas.{asks_then, read_rose_on}
+use Rattle.command_objects.specs.elf_object.Object.{Object, header_of}
+use Rattle.command_objects.specs.elf_object.Open.{created_over}
+use Rattle.command_objects.specs.elf_object.Answers.{part_refusal}
+use Rattle.command_objects.specs.elf_object.Steps.{with_layout, with_flags}
+use Rattle.command_objects.specs.elf_object.Calls.{flag_refusal}
+use Rattle.command_objects.specs.elf_object.Calls as calls
+use Rattle.update_plan.specs.elf_descriptor.State.{State}
+use Rattle.update_plan.specs.elf_descriptor.Created.{IsCreated}
+use Rattle.update_plan.specs.elf_descriptor.Edits.{flagged}
 use Rattle.command_objects.specs.Arranged.{over_base}
 use Rattle.update_plan.proofs.RowLaws.{ok_is}
 use Rattle.object_making.specs.Based.{IsMade, IsMadeOver, laid_out}

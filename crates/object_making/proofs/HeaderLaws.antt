@@ -7,14 +7,14 @@ use Rattle.elf_types.specs.declared.records.Phdr.{Phdr}
 use Rattle.elf_types.specs.declared.errors.ElfError.{ElfError}
 use Rattle.elf_types.specs.Answers.{answered}
 use Rattle.elf_types.specs.Lists.{refilled}
-use Rattle.elf_object.specs.Object.{Object, header_of, no_phdr}
-use Rattle.elf_object.specs.Steps.{stored_ehdr, with_ehdr, with_phdrs, with_new_phdrs}
-use Rattle.elf_object.specs.Calls.{update_ehdr_refusal}
-use Rattle.elf_object.specs.Calls as calls
-use Rattle.elf_descriptor.specs.State.{State}
-use Rattle.elf_descriptor.specs.Edits.{StepsTo, stepped}
-use Rattle.elf_descriptor.proofs.LendLaws.{refilled_same}
-use Rattle.elf_descriptor.proofs.Settling.{IsCopying}
+use Rattle.command_objects.specs.elf_object.Object.{Object, header_of, no_phdr}
+use Rattle.command_objects.specs.elf_object.Steps.{stored_ehdr, with_ehdr, with_phdrs, with_new_phdrs}
+use Rattle.command_objects.specs.elf_object.Calls.{update_ehdr_refusal}
+use Rattle.command_objects.specs.elf_object.Calls as calls
+use Rattle.update_plan.specs.elf_descriptor.State.{State}
+use Rattle.update_plan.specs.elf_descriptor.Edits.{StepsTo, stepped}
+use Rattle.update_plan.proofs.elf_descriptor.LendLaws.{refilled_same}
+use Rattle.update_plan.proofs.elf_descriptor.Settling.{IsCopying}
 use Rattle.update_plan.proofs.RowLaws.{ok_is}
 
 -- ---- The header, with its true counts, which are not stored

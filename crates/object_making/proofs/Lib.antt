@@ -1,3 +1,5 @@
+pub use Rattle.command_objects.proofs.elf_object
+pub use Rattle.command_objects.proofs.elf_outside
 pub mod RefusedLaws
 pub mod AddLaws
 pub mod HeaderLaws

@@ -4,13 +4,13 @@ use Rattle.std.specs.Prelude.{IfErr}
 use Rattle.std.proofs.lemmas.List.Sums.{sum_by-append}
 use Rattle.elf_types.specs.declared.errors.ElfError.{ElfError}
 use Rattle.elf_types.specs.declared.errors.ElfError.TheVariants.{Memory}
-use Rattle.elf_outside.specs.declared.sources.Source.{Ghosts}
-use Rattle.elf_outside.proofs.AskLemmas.{read_rose_on}
-use Rattle.elf_object.specs.Object.{Object}
-use Rattle.elf_object.specs.Due.{home_due, homes_due}
-use Rattle.elf_descriptor.specs.State.{State}
-use Rattle.elf_descriptor.specs.Reads.{Reads, Looks}
-use Rattle.elf_descriptor.proofs.ReadsLaws.{reads_then, reads_nothing, reads_both, reads_within, reads_wider, dues_stay}
+use Rattle.command_objects.specs.elf_outside.declared.sources.Source.{Ghosts}
+use Rattle.command_objects.proofs.elf_outside.AskLemmas.{read_rose_on}
+use Rattle.command_objects.specs.elf_object.Object.{Object}
+use Rattle.command_objects.specs.elf_object.Due.{home_due, homes_due}
+use Rattle.update_plan.specs.elf_descriptor.State.{State}
+use Rattle.update_plan.specs.elf_descriptor.Reads.{Reads, Looks}
+use Rattle.update_plan.proofs.elf_descriptor.ReadsLaws.{reads_then, reads_nothing, reads_both, reads_within, reads_wider, dues_stay}
 use Rattle.object_making.specs.Making.{reading}
 
 -- a step left the object, and looked at the homes of these sections

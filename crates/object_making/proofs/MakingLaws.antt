@@ -10,17 +10,17 @@ use Rattle.elf_types.specs.declared.records.Shdr.{Shdr}
 use Rattle.elf_types.specs.declared.errors.ElfError.{ElfError}
 use Rattle.elf_types.specs.declared.errors.ElfError.TheVariants.{Memory}
 use Rattle.elf_types.specs.Answers.{first_refusal}
-use Rattle.elf_outside.specs.declared.sources.Source.{Ghosts}
-use Rattle.elf_xlate.specs.declared.content.Items.{Items}
-use Rattle.elf_xlate.specs.Headers.{shdr_fits}
-use Rattle.elf_xlate.specs.Translation.{first_unfit}
-use Rattle.elf_object.specs.Object.{Object, Section}
-use Rattle.elf_object.specs.Steps.{with_sections}
-use Rattle.elf_object.specs.Valid.{IsObject}
-use Rattle.elf_object.specs.Due.{is_loaded}
-use Rattle.elf_descriptor.specs.State.{State}
-use Rattle.elf_descriptor.specs.Reads.{Looks}
-use Rattle.elf_descriptor.proofs.EditSections.{none_more}
+use Rattle.command_objects.specs.elf_outside.declared.sources.Source.{Ghosts}
+use Rattle.command_objects.specs.elf_xlate.declared.content.Items.{Items}
+use Rattle.command_objects.specs.elf_xlate.Headers.{shdr_fits}
+use Rattle.command_objects.specs.elf_xlate.Translation.{first_unfit}
+use Rattle.command_objects.specs.elf_object.Object.{Object, Section}
+use Rattle.command_objects.specs.elf_object.Steps.{with_sections}
+use Rattle.command_objects.specs.elf_object.Valid.{IsObject}
+use Rattle.command_objects.specs.elf_object.Due.{is_loaded}
+use Rattle.update_plan.specs.elf_descriptor.State.{State}
+use Rattle.update_plan.specs.elf_descriptor.Reads.{Looks}
+use Rattle.update_plan.proofs.elf_descriptor.EditSections.{none_more}
 use Rattle.command_objects.specs.Rebuilt.{made_section}
 use Rattle.object_making.specs.Refused.{RefusedBy, UnreadBy}
 use Rattle.object_making.specs.Made.{with_more, with_last, grown_to, added_refusal}

@@ -9,23 +9,23 @@ use Rattle.elf_types.specs.declared.records.Shdr.{Shdr}
 use Rattle.elf_types.specs.declared.errors.ElfError.{ElfError}
 use Rattle.elf_types.specs.declared.errors.ElfError.TheVariants.{NoSection, TooLarge}
 use Rattle.elf_types.specs.Answers.{answered, refused_if}
-use Rattle.elf_layout.specs.declared.parts.PartAt.{PartAt}
-use Rattle.elf_layout.specs.Layout.{rounded_up, place_of, end_after, in_order_from, some_above, limit_of}
-use Rattle.elf_layout.proofs.Placed.{end_after-null}
-use Rattle.elf_object.specs.Object.{Object, section_at, is_null, is_allocated as has_alloc, occupies_file}
-use Rattle.elf_object.specs.Answers.{no_section}
-use Rattle.elf_object.specs.Joined.{file_bytes, pieces_end}
-use Rattle.elf_object.specs.Layout.{section_part, table_part}
-use Rattle.elf_object.specs.Steps.{with_ehdr, with_shdr}
-use Rattle.elf_object.specs.Calls as calls
-use Rattle.elf_object.specs.Words.{result_map}
-use Rattle.elf_object.proofs.AnswerLaws.{answered_value, answered_refusal}
-use Rattle.object_laws.proofs.PlaceLaws.{rounded_up-ge}
-use Rattle.object_laws.proofs.ImageLaws.{length-joined}
-use Rattle.object_laws.proofs.StandLaws.{file_bytes_when}
-use Rattle.elf_descriptor.specs.State.{State}
-use Rattle.elf_descriptor.specs.Edits.{stepped, StepsTo}
-use Rattle.elf_object.specs.Sections.{is_allocated, header_at}
+use Rattle.command_objects.specs.elf_layout.declared.parts.PartAt.{PartAt}
+use Rattle.command_objects.specs.elf_layout.Layout.{rounded_up, place_of, end_after, in_order_from, some_above, limit_of}
+use Rattle.command_objects.proofs.elf_layout.Placed.{end_after-null}
+use Rattle.command_objects.specs.elf_object.Object.{Object, section_at, is_null, is_allocated as has_alloc, occupies_file}
+use Rattle.command_objects.specs.elf_object.Answers.{no_section}
+use Rattle.command_objects.specs.elf_object.Joined.{file_bytes, pieces_end}
+use Rattle.command_objects.specs.elf_object.Layout.{section_part, table_part}
+use Rattle.command_objects.specs.elf_object.Steps.{with_ehdr, with_shdr}
+use Rattle.command_objects.specs.elf_object.Calls as calls
+use Rattle.command_objects.specs.elf_object.Words.{result_map}
+use Rattle.command_objects.proofs.elf_object.AnswerLaws.{answered_value, answered_refusal}
+use Rattle.update_plan.proofs.object_laws.PlaceLaws.{rounded_up-ge}
+use Rattle.update_plan.proofs.object_laws.ImageLaws.{length-joined}
+use Rattle.update_plan.proofs.object_laws.StandLaws.{file_bytes_when}
+use Rattle.update_plan.specs.elf_descriptor.State.{State}
+use Rattle.update_plan.specs.elf_descriptor.Edits.{stepped, StepsTo}
+use Rattle.command_objects.specs.elf_object.Sections.{is_allocated, header_at}
 use Rattle.command_objects.specs.Arranged.{movable, parts_from, section_from, placed_from, table_place_from, tail_refusal, arranged}
 use Rattle.object_making.specs.Placing.{is_movable, end_with, FitsBehind, MayStand, with_place, made_of, placed_state}
 

@@ -6,9 +6,9 @@ use Rattle.std.proofs.lemmas.List.{take-append-drop, drop_more, map-append, map_
 use Rattle.elf_types.specs.declared.errors.ElfError.{ElfError}
 use Rattle.elf_types.specs.declared.errors.ElfError.TheVariants.{Memory, Read, Write}
 use Rattle.elf_types.specs.Answers.{first_refusal, answered, IsRefusal}
-use Rattle.elf_object.specs.Words.{Edits}
-use Rattle.elf_object.proofs.AnswerLaws.{answered_value, answered_refusal}
-use Rattle.elf_object.proofs.StepLaws.{first_refusal-append, first_refusal-more}
+use Rattle.command_objects.specs.elf_object.Words.{Edits}
+use Rattle.command_objects.proofs.elf_object.AnswerLaws.{answered_value, answered_refusal}
+use Rattle.command_objects.proofs.elf_object.StepLaws.{first_refusal-append, first_refusal-more}
 use Rattle.object_making.specs.Refused.{RefusedBy, UnreadBy}
 
 -- ---- Two steps

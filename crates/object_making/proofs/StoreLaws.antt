@@ -10,24 +10,24 @@ use Rattle.elf_types.specs.declared.records.Part.TheVariants as part
 use Rattle.elf_types.specs.declared.errors.ElfError.{ElfError}
 use Rattle.elf_types.specs.declared.errors.ElfError.TheVariants.{NoSection, Reserved, Unfit}
 use Rattle.elf_types.specs.Answers.{refused_if, answered}
-use Rattle.elf_xlate.specs.Headers.{ehdr_fits, shdr_fits}
-use Rattle.elf_layout.specs.declared.parts.PartAt.{PartAt}
-use Rattle.elf_layout.specs.Layout.{place_of, end_after, limit_of, some_above}
-use Rattle.elf_object.specs.Blocks.{stacked, last_end, spread}
-use Rattle.elf_object.specs.Object.{Object, Section, section_at, absent_section, header_of, is_null, occupies_file, has_file_bytes}
-use Rattle.elf_object.specs.Joined.{aligned_pieces, piece_blocks, pieces_end, file_bytes}
-use Rattle.elf_object.specs.Layout.{alignment_of, section_part}
-use Rattle.elf_object.specs.Answers.{no_section, reserved}
-use Rattle.elf_object.specs.Steps.{stored_ehdr, with_ehdr, with_section, with_shdr}
-use Rattle.elf_object.specs.Calls.{update_shdr_refusal, update_ehdr_refusal}
-use Rattle.elf_object.specs.Calls as calls
-use Rattle.elf_object.specs.Valid.{IsObject}
-use Rattle.object_laws.proofs.PlaceLaws.{within_limit}
-use Rattle.object_laws.proofs.PlacedLaws.{ehdr_fits_each, ehdr_fits_all, shdr_fits_each, shdr_fits_all}
-use Rattle.object_laws.proofs.KeepLaws.{section_at_is}
-use Rattle.elf_descriptor.specs.State.{State}
-use Rattle.elf_descriptor.specs.Edits.{stepped}
-use Rattle.elf_object.specs.Sections.{is_allocated, header_at}
+use Rattle.command_objects.specs.elf_xlate.Headers.{ehdr_fits, shdr_fits}
+use Rattle.command_objects.specs.elf_layout.declared.parts.PartAt.{PartAt}
+use Rattle.command_objects.specs.elf_layout.Layout.{place_of, end_after, limit_of, some_above}
+use Rattle.command_objects.specs.elf_object.Blocks.{stacked, last_end, spread}
+use Rattle.command_objects.specs.elf_object.Object.{Object, Section, section_at, absent_section, header_of, is_null, occupies_file, has_file_bytes}
+use Rattle.command_objects.specs.elf_object.Joined.{aligned_pieces, piece_blocks, pieces_end, file_bytes}
+use Rattle.command_objects.specs.elf_object.Layout.{alignment_of, section_part}
+use Rattle.command_objects.specs.elf_object.Answers.{no_section, reserved}
+use Rattle.command_objects.specs.elf_object.Steps.{stored_ehdr, with_ehdr, with_section, with_shdr}
+use Rattle.command_objects.specs.elf_object.Calls.{update_shdr_refusal, update_ehdr_refusal}
+use Rattle.command_objects.specs.elf_object.Calls as calls
+use Rattle.command_objects.specs.elf_object.Valid.{IsObject}
+use Rattle.update_plan.proofs.object_laws.PlaceLaws.{within_limit}
+use Rattle.update_plan.proofs.object_laws.PlacedLaws.{ehdr_fits_each, ehdr_fits_all, shdr_fits_each, shdr_fits_all}
+use Rattle.update_plan.proofs.object_laws.KeepLaws.{section_at_is}
+use Rattle.update_plan.specs.elf_descriptor.State.{State}
+use Rattle.update_plan.specs.elf_descriptor.Edits.{stepped}
+use Rattle.command_objects.specs.elf_object.Sections.{is_allocated, header_at}
 use Rattle.command_objects.specs.Arranged.{parts_from, place_from, section_from, placed_from, table_place_from}
 use Rattle.update_plan.proofs.RowLaws.{ok_is}
 use Rattle.object_making.specs.Placing.{is_movable, end_below, end_with, FitsBehind, MayStand, with_place, sections_from, placed_state}

@@ -6,12 +6,12 @@ use Rattle.std.specs.Option.{option_map, SomeIff}
 use Rattle.std.proofs.lemmas.Bool.{ne_eqb, lt-ltb, le-ltb, or_left, or_right, or_from, cases_lt}
 use Rattle.std.proofs.lemmas.List.{length-map, map-append, get_or_at}
 use Rattle.std.proofs.lemmas.List.Folds.{list_any-append}
-use Rattle.elf_layout.specs.declared.parts.PartAt.{PartAt}
-use Rattle.elf_layout.specs.Layout.{rounded_up, place_of, end_after, in_order_from, positions, some_above}
-use Rattle.elf_object.specs.Object.{Object}
-use Rattle.elf_object.specs.Layout.{section_part, table_part, section_numbers}
-use Rattle.object_laws.proofs.PlaceLaws.{rounded_up-ge}
-use Rattle.object_laws.proofs.StandLaws.{length-in_order}
+use Rattle.command_objects.specs.elf_layout.declared.parts.PartAt.{PartAt}
+use Rattle.command_objects.specs.elf_layout.Layout.{rounded_up, place_of, end_after, in_order_from, positions, some_above}
+use Rattle.command_objects.specs.elf_object.Object.{Object}
+use Rattle.command_objects.specs.elf_object.Layout.{section_part, table_part, section_numbers}
+use Rattle.update_plan.proofs.object_laws.PlaceLaws.{rounded_up-ge}
+use Rattle.update_plan.proofs.object_laws.StandLaws.{length-in_order}
 use Rattle.command_objects.specs.Arranged.{movable, parts_from, place_from, table_place_from}
 use Rattle.object_making.specs.Placing.{is_movable, movable_below, end_of_parts, end_below, end_with, FitsBehind, MayStand}
 use Rattle.object_making.proofs.NumberLaws.{passing_more, passing_split, passing_position, failing_position, zero_position}

@@ -3,10 +3,10 @@
 use Rattle.std.specs.Prelude.{◌≡◌, ℕ, Bool, true, false, List, [], length, Option, IsTrue}
 use Rattle.elf_types.specs.declared.records.Class.{Class}
 use Rattle.elf_types.specs.declared.records.Order.{Order}
-use Rattle.elf_object.specs.Object.{Object}
-use Rattle.elf_object.specs.Open.{created_over}
-use Rattle.elf_object.specs.Steps.{with_layout}
-use Rattle.elf_descriptor.specs.State.{State}
+use Rattle.command_objects.specs.elf_object.Object.{Object}
+use Rattle.command_objects.specs.elf_object.Open.{created_over}
+use Rattle.command_objects.specs.elf_object.Steps.{with_layout}
+use Rattle.update_plan.specs.elf_descriptor.State.{State}
 use Rattle.command_objects.specs.Arranged.{over_base}
 
 -- a created descriptor of which nothing is held, with this object

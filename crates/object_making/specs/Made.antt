@@ -6,14 +6,14 @@ use Rattle.elf_types.specs.declared.records.Part.TheVariants as part
 use Rattle.elf_types.specs.declared.errors.ElfError.{ElfError}
 use Rattle.elf_types.specs.declared.errors.ElfError.TheVariants.{Unfit}
 use Rattle.elf_types.specs.Answers.{refused_if, first_refusal}
-use Rattle.elf_xlate.specs.declared.content.Items.{Items}
-use Rattle.elf_xlate.specs.Headers.{shdr_fits}
-use Rattle.elf_object.specs.Object.{Object, Section, new_section, occupies_file}
-use Rattle.elf_object.specs.Steps.{with_sections}
-use Rattle.elf_object.specs.Calls.{newscn_refusal, newdata_refusal, unfit_items}
-use Rattle.elf_object.specs.Calls as calls
-use Rattle.elf_descriptor.specs.State.{State}
-use Rattle.elf_descriptor.specs.Edits.{with_none, stepped}
+use Rattle.command_objects.specs.elf_xlate.declared.content.Items.{Items}
+use Rattle.command_objects.specs.elf_xlate.Headers.{shdr_fits}
+use Rattle.command_objects.specs.elf_object.Object.{Object, Section, new_section, occupies_file}
+use Rattle.command_objects.specs.elf_object.Steps.{with_sections}
+use Rattle.command_objects.specs.elf_object.Calls.{newscn_refusal, newdata_refusal, unfit_items}
+use Rattle.command_objects.specs.elf_object.Calls as calls
+use Rattle.update_plan.specs.elf_descriptor.State.{State}
+use Rattle.update_plan.specs.elf_descriptor.Edits.{with_none, stepped}
 
 -- ---- What is left
 

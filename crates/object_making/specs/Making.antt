@@ -1,11 +1,11 @@
 -- Sections that a maker makes of those of an object, one for each of some numbers.
 use Rattle.std.specs.Prelude.{◌≡◌, ℕ, Bool, List, [], ◌∷◌, length, map, IsTrue, Ok}
 use Rattle.elf_types.specs.declared.records.Shdr.{Shdr}
-use Rattle.elf_xlate.specs.declared.content.Items.{Items}
-use Rattle.elf_object.specs.Object.{Object, Section}
-use Rattle.elf_object.specs.Calls.{Call, some_memory}
-use Rattle.elf_object.specs.Due.{is_loaded}
-use Rattle.elf_descriptor.specs.State.{State}
+use Rattle.command_objects.specs.elf_xlate.declared.content.Items.{Items}
+use Rattle.command_objects.specs.elf_object.Object.{Object, Section}
+use Rattle.command_objects.specs.elf_object.Calls.{Call, some_memory}
+use Rattle.command_objects.specs.elf_object.Due.{is_loaded}
+use Rattle.update_plan.specs.elf_descriptor.State.{State}
 use Rattle.command_objects.specs.Rebuilt.{made_section}
 use Rattle.object_making.specs.Made.{with_more}
 

@@ -3,13 +3,13 @@
 use Rattle.std.specs.Prelude.{◌≡◌, ℕ, ◌-◌, ◌≤◌, Bool, true, false, not, ◌==◌, ◌&&◌, List, [], ◌∷◌, length, map, filter, Option, Some, None, if◌then◌else◌}
 use Rattle.std.specs.List.{enumerate_from, range_with_len}
 use Rattle.elf_types.specs.declared.errors.ElfError.{ElfError}
-use Rattle.elf_layout.specs.declared.parts.PartAt.{PartAt}
-use Rattle.elf_layout.specs.Layout.{place_of, end_after}
-use Rattle.elf_object.specs.Object.{Object, Section, is_null}
-use Rattle.elf_object.specs.Layout.{section_part}
-use Rattle.elf_object.specs.Steps.{with_shdr}
-use Rattle.elf_descriptor.specs.State.{State}
-use Rattle.elf_object.specs.Sections.{is_allocated, header_at}
+use Rattle.command_objects.specs.elf_layout.declared.parts.PartAt.{PartAt}
+use Rattle.command_objects.specs.elf_layout.Layout.{place_of, end_after}
+use Rattle.command_objects.specs.elf_object.Object.{Object, Section, is_null}
+use Rattle.command_objects.specs.elf_object.Layout.{section_part}
+use Rattle.command_objects.specs.elf_object.Steps.{with_shdr}
+use Rattle.update_plan.specs.elf_descriptor.State.{State}
+use Rattle.command_objects.specs.elf_object.Sections.{is_allocated, header_at}
 use Rattle.command_objects.specs.Arranged.{Rebuilt, section_from, placed_from, tail_refusal}
 
 -- ---- Which sections are placed, and the ends after them

@@ -4,18 +4,17 @@ ghost use Rattle.std.specs.Prelude.{◌≡◌, ◌+◌, ◌<◌, ◌≤◌, ◌�
 ghost use Rattle.std.specs.List.{flat_map};
 ghost use Rattle.elf_types.specs.declared.constants.TheConstants.{MAX_SECTIONS};
 ghost use Rattle.elf_types.specs.Answers.{first_refusal};
-ghost use Rattle.elf_xlate.specs.Headers.{shdr_fits};
-ghost use Rattle.elf_xlate.specs.Translation.{first_unfit};
-ghost use Rattle.elf_descriptor.specs.Reads.{Looks};
+ghost use Rattle.command_objects.specs.elf_xlate.Headers.{shdr_fits};
+ghost use Rattle.command_objects.specs.elf_xlate.Translation.{first_unfit};
+ghost use Rattle.update_plan.specs.elf_descriptor.Reads.{Looks};
 ghost use Rattle.object_making.specs.Refused.{UnreadBy};
 ghost use Rattle.object_making.specs.Made.{with_more};
 ghost use Rattle.object_making.specs.Making.{AddsMade, Extends, sections_by, reading};
 
 use crate::sections::add_section;
-use elf_descriptor::Elf;
-use elf_outside::Source;
+use command_objects::prelude::{Items, Source};
 use elf_types::{ElfError, ScnId, Shdr};
-use elf_xlate::Items;
+use update_plan::prelude::Elf;
 
 /// What makes sections of those of an object.
 ///
@@ -27,8 +26,8 @@ pub trait SectionMaker {
     ghost use Rattle.std.specs.Prelude.{ℕ, List, Option};
     ghost use Rattle.elf_types.specs.declared.records.Shdr.{Shdr};
     ghost use Rattle.elf_types.specs.declared.errors.ElfError.{ElfError};
-    ghost use Rattle.elf_xlate.specs.declared.content.Items.{Items};
-    ghost use Rattle.elf_object.specs.Object.{Object};
+    ghost use Rattle.command_objects.specs.elf_xlate.declared.content.Items.{Items};
+    ghost use Rattle.command_objects.specs.elf_object.Object.{Object};
 
     ghost header: { Self → Object → ℕ → Shdr };
 

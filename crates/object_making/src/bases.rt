@@ -2,14 +2,14 @@
 
 ghost use Rattle.std.specs.Prelude.{◌≡◌, ◌≤◌, ◌⊎◌, length, take, true, unwrap_or, IsTrue, IfSome, IfOk, IfErr};
 ghost use Rattle.elf_types.specs.declared.errors.ElfError.TheVariants.{Memory, Read};
-ghost use Rattle.elf_outside.specs.Asks.{Asks};
-ghost use Rattle.elf_object.specs.Steps.{with_layout};
+ghost use Rattle.command_objects.specs.elf_outside.Asks.{Asks};
+ghost use Rattle.command_objects.specs.elf_object.Steps.{with_layout};
 ghost use Rattle.object_making.specs.Based.{IsMade, IsMadeOver, laid_out};
 
-use elf_descriptor::Elf;
-use elf_outside::{NoSource, Source};
+use command_objects::prelude::{NoSource, Source};
 use elf_types::{Class, ElfError, LAYOUT, Octets, Order, Part};
 use std::alloc::Global;
+use update_plan::prelude::Elf;
 
 /// The first bytes of an object's base, so many. It refuses `Memory`, before it reads, and `Read`.
 /// It loads no section.

@@ -1,12 +1,12 @@
 //! The header of an object that is made.
 
 ghost use Rattle.std.specs.Prelude.{◌≡◌};
-ghost use Rattle.elf_object.specs.Calls as calls;
-ghost use Rattle.elf_descriptor.specs.Edits.{StepsTo, stepped};
+ghost use Rattle.command_objects.specs.elf_object.Calls as calls;
+ghost use Rattle.update_plan.specs.elf_descriptor.Edits.{StepsTo, stepped};
 
-use elf_descriptor::Elf;
-use elf_outside::Source;
+use command_objects::prelude::Source;
 use elf_types::{Ehdr, ElfError};
+use update_plan::prelude::Elf;
 
 /// Gives an object the header of another with a string index of its own, as `update_ehdr` stores
 /// one, and marks it dirty. It refuses as `update_ehdr` of that header: `NoSection` where the index

@@ -7,6 +7,7 @@ mod assembling;
 mod bases;
 mod headers;
 mod places;
+pub mod prelude;
 mod sections;
 mod segments;
 

@@ -3,27 +3,25 @@
 ghost use Rattle.std.specs.Prelude.{◌≡◌, ◌==◌, ◌-◌, ◌^◌, ◌<◌, ◌≤◌, ◌⊎◌, length, min, true, false, Some};
 ghost use Rattle.std.specs.Option.{SomeIff};
 ghost use Rattle.elf_types.specs.Answers.{answered};
-ghost use Rattle.elf_layout.specs.Layout.{place_of, end_after, limit_of, some_above};
-ghost use Rattle.elf_object.specs.Words.{result_map};
-ghost use Rattle.elf_object.specs.Joined.{pieces_end};
-ghost use Rattle.elf_object.specs.Layout as stated;
-ghost use Rattle.elf_object.specs.Calls as calls;
-ghost use Rattle.elf_descriptor.specs.Edits.{StepsTo, stepped};
-ghost use Rattle.elf_object.specs.Sections.{is_allocated, header_at};
+ghost use Rattle.command_objects.specs.elf_layout.Layout.{place_of, end_after, limit_of, some_above};
+ghost use Rattle.command_objects.specs.elf_object.Words.{result_map};
+ghost use Rattle.command_objects.specs.elf_object.Joined.{pieces_end};
+ghost use Rattle.command_objects.specs.elf_object.Layout as stated;
+ghost use Rattle.command_objects.specs.elf_object.Calls as calls;
+ghost use Rattle.update_plan.specs.elf_descriptor.Edits.{StepsTo, stepped};
+ghost use Rattle.command_objects.specs.elf_object.Sections.{is_allocated, header_at};
 ghost use Rattle.command_objects.specs.Arranged.{arranged, parts_from, table_place_from, tail_refusal};
 ghost use Rattle.object_making.specs.Placing.{is_movable, end_with, FitsBehind, MayStand, with_place, sections_from, made_of, arranged_refusal, placed_state, arranged_state};
 
-use elf_descriptor::Elf;
-use elf_layout::rounded_within;
-use elf_object::occupies_file;
-use elf_outside::Source;
+use command_objects::prelude::{Source, occupies_file, rounded_within};
 use elf_types::constants::SHT_NULL;
 use elf_types::{Class, Ehdr, ElfError, ScnId, Shdr};
+use update_plan::prelude::Elf;
 
 // ---- Where they stand
 
 /// The greatest place of a class.
-#[tactic(auto, unfolding(elf_layout::specs::Layout::limit_of))]
+#[tactic(auto, unfolding(command_objects::specs::Passed::limit_of))]
 fn greatest_place(class: Class) -> u64
     ensures { result ≡ limit_of class }
 {
@@ -47,7 +45,7 @@ fn table_alignment(class: Class) -> u64
 fn is_allocated(h: &Shdr) -> bool
     ensures { result ≡ is_allocated h.now }
 {
-    elf_object::is_allocated(h)
+    command_objects::prelude::elf_object_is_allocated(h)
 }
 
 /// Whether a section that is there has to be placed: it is neither `SHT_NULL` nor allocated.

@@ -1,18 +1,16 @@
 //! Sections that are added with their data.
 
 ghost use Rattle.std.specs.Prelude.{◌≡◌, ◌<◌, length, None, OnOk, IfOk, IfErr, Err};
-ghost use Rattle.elf_object.specs.Calls.{newdata_refusal};
-ghost use Rattle.elf_object.specs.Calls as calls;
-ghost use Rattle.elf_descriptor.specs.Edits.{stepped};
+ghost use Rattle.command_objects.specs.elf_object.Calls.{newdata_refusal};
+ghost use Rattle.command_objects.specs.elf_object.Calls as calls;
+ghost use Rattle.update_plan.specs.elf_descriptor.Edits.{stepped};
 ghost use Rattle.command_objects.specs.Rebuilt.{made_section};
 ghost use Rattle.object_making.specs.Refused.{RefusedBy};
 ghost use Rattle.object_making.specs.Made.{refusal_alone as stated_alone, with_last, grown_to, bare_section, bare_refusal, with_new_data, new_data_refusal, added_refusal};
 
-use elf_descriptor::Elf;
-use elf_object::occupies_file;
-use elf_outside::Source;
+use command_objects::prelude::{Items, Source, occupies_file};
 use elf_types::{DataId, ElfError, ScnId, Shdr};
-use elf_xlate::Items;
+use update_plan::prelude::Elf;
 
 /// Adds a section without data behind the others, of which there are some, and answers it.
 fn add_bare<S: Source>(elf: &mut Elf<S>, h: &Shdr) -> Result<ScnId, ElfError>

@@ -1,14 +1,14 @@
 //! Program headers that are copied.
 
 ghost use Rattle.std.specs.Prelude.{◌≡◌, length, None, OnOk, IfErr};
-ghost use Rattle.elf_object.specs.Calls.{newphdr_refusal};
-ghost use Rattle.elf_object.specs.Calls as calls;
-ghost use Rattle.elf_descriptor.specs.Edits.{stepped};
+ghost use Rattle.command_objects.specs.elf_object.Calls.{newphdr_refusal};
+ghost use Rattle.command_objects.specs.elf_object.Calls as calls;
+ghost use Rattle.update_plan.specs.elf_descriptor.Edits.{stepped};
 ghost use Rattle.object_making.specs.Refused.{RefusedBy};
 
-use elf_descriptor::Elf;
-use elf_outside::Source;
+use command_objects::prelude::Source;
 use elf_types::{ElfError, Phdr};
+use update_plan::prelude::Elf;
 
 /// Copies the program headers of an object over as many.
 fn fill_segments<S: Source>(from: &Elf<S>, to: &mut [Phdr])

@@ -4,9 +4,9 @@ use Rattle.std.specs.Prelude.{slice_get, IsSome}
 use Rattle.std.proofs.lemmas.Option.{slice_get_cases}
 use Rattle.elf_types.specs.declared.errors.ElfError.{ElfError}
 use Rattle.elf_types.specs.declared.errors.ElfError.TheVariants as error
-use Rattle.elf_object.specs.Words.{Wants, Answers}
-use Rattle.elf_object.specs.Answers.{entry_answer}
-use Rattle.elf_object.proofs.AnswerLaws.{entry_value}
+use Rattle.gelf_view.specs.elf_object.Words.{Wants, Answers}
+use Rattle.gelf_view.specs.elf_object.Answers.{entry_answer}
+use Rattle.gelf_view.proofs.elf_object.AnswerLaws.{entry_value}
 use Rattle.gelf_view.specs.Chains.{Chain, broken, IsLedBy}
 use Rattle.tool_output.specs.Stops.{stop_of}
 

@@ -2,9 +2,9 @@
 use Rattle.std.proofs.Common.{◌≡◌, ◌≢◌, ◌+◌, ◌≤◌, ℕ, Bool, List, Option, None, Result, Ok, Err, IfSome, OnOk, refl, arith}
 use Rattle.elf_types.specs.declared.errors.ElfError.{ElfError}
 use Rattle.elf_types.specs.Answers.{Follows}
-use Rattle.elf_ident.specs.declared.file_kinds.FileKind.{FileKind}
-use Rattle.elf_ident.specs.declared.file_kinds.FileKind.TheVariants.{Archive, Elf, Other}
-use Rattle.elf_ident.specs.FileKinds.{file_kind}
+use Rattle.gelf_view.specs.elf_ident.declared.file_kinds.FileKind.{FileKind}
+use Rattle.gelf_view.specs.elf_ident.declared.file_kinds.FileKind.TheVariants.{Archive, Elf, Other}
+use Rattle.gelf_view.specs.elf_ident.FileKinds.{file_kind}
 use Rattle.ar_members.proofs.Told.{told_by, told_then, told_both, told_as}
 use Rattle.tool_output.specs.declared.stops.Stop.{Stop}
 use Rattle.tool_output.specs.Stops.{stop_of}

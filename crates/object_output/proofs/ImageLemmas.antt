@@ -6,20 +6,20 @@ use Rattle.elf_types.specs.declared.errors.ElfError.{ElfError}
 use Rattle.elf_types.specs.declared.errors.ElfError.TheVariants as error
 use Rattle.elf_types.specs.Answers.{Follows}
 use Rattle.elf_types.specs.Text.{error_text}
-use Rattle.elf_outside.specs.Asks.{Asks, ReadRose}
-use Rattle.elf_outside.proofs.AskLemmas.{asks_both, asks_fewer, asks_then}
-use Rattle.elf_outside.specs.declared.sources.Source.{Ghosts as SourceGhosts}
-use Rattle.elf_outside.specs.declared.sinks.Sink.{Ghosts as SinkGhosts}
-use Rattle.elf_ident.specs.declared.file_kinds.FileKind.{FileKind}
-use Rattle.elf_ident.specs.declared.file_kinds.FileKind.TheVariants.{Archive, Elf, Other}
-use Rattle.elf_ident.specs.FileKinds.{file_kind}
-use Rattle.elf_object.specs.Object.{Object}
-use Rattle.elf_object.specs.Open.{opened}
-use Rattle.elf_object.specs.Due.{all_sections}
-use Rattle.elf_ident.specs.Front.{front_bytes, most_front_bytes}
-use Rattle.elf_ident.specs.Reading.{HasTables}
-use Rattle.elf_descriptor.specs.State.{State}
-use Rattle.elf_descriptor.specs.Begun.{IsBegun, begun_state, begun_answer, source_after}
+use Rattle.tool_output.specs.elf_outside.Asks.{Asks, ReadRose}
+use Rattle.tool_output.proofs.elf_outside.AskLemmas.{asks_both, asks_fewer, asks_then}
+use Rattle.tool_output.specs.elf_outside.declared.sources.Source.{Ghosts as SourceGhosts}
+use Rattle.tool_output.specs.elf_outside.declared.sinks.Sink.{Ghosts as SinkGhosts}
+use Rattle.gelf_view.specs.elf_ident.declared.file_kinds.FileKind.{FileKind}
+use Rattle.gelf_view.specs.elf_ident.declared.file_kinds.FileKind.TheVariants.{Archive, Elf, Other}
+use Rattle.gelf_view.specs.elf_ident.FileKinds.{file_kind}
+use Rattle.gelf_view.specs.elf_object.Object.{Object}
+use Rattle.gelf_view.specs.elf_object.Open.{opened}
+use Rattle.gelf_view.specs.elf_object.Due.{all_sections}
+use Rattle.gelf_view.specs.elf_ident.Front.{front_bytes, most_front_bytes}
+use Rattle.gelf_view.specs.elf_ident.Reading.{HasTables}
+use Rattle.gelf_view.specs.elf_descriptor.State.{State}
+use Rattle.gelf_view.specs.elf_descriptor.Begun.{IsBegun, begun_state, begun_answer, source_after}
 use Rattle.tool_output.specs.declared.stops.Stop.{Stop}
 use Rattle.tool_output.specs.declared.outputs.Outputs.{Outputs}
 use Rattle.tool_output.specs.Stops.{stop_of}

@@ -7,10 +7,10 @@ use Rattle.std.proofs.lemmas.List.{get_or-set_other, take_all}
 use Rattle.std.proofs.lemmas.List.FromFn.{length-range_with_len, get_or-range_with_len}
 use Rattle.std.proofs.lemmas.List.Sums.{sum_by_more, sum_by-take-le}
 use Rattle.std.proofs.lemmas.Option.{unwrap_or-slice_get}
-use Rattle.elf_object.specs.Object.{Object, section_at}
-use Rattle.elf_object.specs.Due.{is_loaded, home_due, homes_due, all_sections}
-use Rattle.elf_descriptor.specs.State.{State}
-use Rattle.elf_descriptor.specs.Rooms.{can_be_read_again, unloaded}
+use Rattle.gelf_view.specs.elf_object.Object.{Object, section_at}
+use Rattle.gelf_view.specs.elf_object.Due.{is_loaded, home_due, homes_due, all_sections}
+use Rattle.gelf_view.specs.elf_descriptor.State.{State}
+use Rattle.gelf_view.specs.elf_descriptor.Rooms.{can_be_read_again, unloaded}
 use Rattle.object_output.specs.Steps.{homes_left, homes_total, is_crowded, asked_again}
 use Rattle.object_output.proofs.OnceSums.{once_range, rose_at}
 use Rattle.object_output.proofs.OnceReads.{due_falls, nothing_loaded}

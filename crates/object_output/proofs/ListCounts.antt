@@ -1,10 +1,10 @@
 -- A list in items has as many as are counted.
 use Rattle.std.proofs.Common.{◌≡◌, length, refl}
 use Rattle.elf_types.specs.declared.records.Kind.TheVariants as kinds
-use Rattle.elf_xlate.specs.declared.content.Items.{Items}
-use Rattle.elf_xlate.specs.declared.content.Items.TheVariants as items
-use Rattle.elf_xlate.specs.Translation.{items_kind, items_count}
-use Rattle.elf_object.specs.Answers.{halves_of, syms_of, rels_of, relas_of, dyns_of}
+use Rattle.gelf_view.specs.elf_xlate.declared.content.Items.{Items}
+use Rattle.gelf_view.specs.elf_xlate.declared.content.Items.TheVariants as items
+use Rattle.gelf_view.specs.elf_xlate.Translation.{items_kind, items_count}
+use Rattle.gelf_view.specs.elf_object.Answers.{halves_of, syms_of, rels_of, relas_of, dyns_of}
 
 pub halves_counted : (content : Items) → items_kind content ≡ kinds.Half → length (halves_of content) ≡ items_count content
 halves_counted items.Empty is = cc

@@ -3,7 +3,7 @@ use Rattle.std.proofs.Common.{◌≡◌, ◌+◌, ◌≤◌, ℕ, Bool, true, fa
 use Rattle.std.specs.List.{sum_by}
 use Rattle.std.proofs.lemmas.List.Sums.{sum_by-cons}
 use Rattle.elf_types.specs.declared.errors.ElfError.{ElfError}
-use Rattle.elf_outside.specs.Windows.{range_of}
+use Rattle.tool_output.specs.elf_outside.Windows.{range_of}
 use Rattle.ar_members.specs.declared.headers.ArHdr.{ArHdr}
 use Rattle.ar_members.specs.Members.{Members, next_among, next_of}
 use Rattle.ar_members.specs.Archives.{Walk, first_walk, members_left, next_due, left_due}

@@ -4,17 +4,17 @@ use Rattle.elf_types.specs.declared.errors.ElfError.{ElfError}
 use Rattle.elf_types.specs.declared.errors.ElfError.TheVariants.{BadMember}
 use Rattle.elf_types.specs.Answers.{answered, stated_refusal}
 use Rattle.elf_types.specs.Text.{error_text}
-use Rattle.elf_outside.specs.Counts.{Rose}
-use Rattle.elf_outside.specs.Windows.{range_of, window_rest}
-use Rattle.elf_outside.specs.declared.sources.Source.{Ghosts as SourceGhosts}
-use Rattle.elf_outside.specs.declared.sinks.Sink.{Ghosts as SinkGhosts}
+use Rattle.tool_output.specs.elf_outside.Counts.{Rose}
+use Rattle.tool_output.specs.elf_outside.Windows.{range_of, window_rest}
+use Rattle.tool_output.specs.elf_outside.declared.sources.Source.{Ghosts as SourceGhosts}
+use Rattle.tool_output.specs.elf_outside.declared.sinks.Sink.{Ghosts as SinkGhosts}
 use Rattle.ar_members.specs.declared.headers.ArHdr.{ArHdr}
 use Rattle.ar_members.specs.Magic.{archive_refusal}
 use Rattle.ar_members.specs.Members.{Members, members, next_among, next_of}
 use Rattle.ar_members.specs.Archives.{Walk, Archive, first_walk, begun_walk, archive_rest, members_left}
 use Rattle.ar_members.proofs.RestLemmas.{archive_window_same}
 use Rattle.ar_members.proofs.Told.{told_then}
-use Rattle.elf_object.specs.Object.{Object}
+use Rattle.gelf_view.specs.elf_object.Object.{Object}
 use Rattle.tool_output.specs.declared.stops.Stop.{Stop}
 use Rattle.tool_output.specs.declared.outputs.Outputs.{Outputs}
 use Rattle.tool_output.specs.Stops.{stop_of}

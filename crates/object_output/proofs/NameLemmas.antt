@@ -4,9 +4,9 @@ use Rattle.std.proofs.lemmas.Bool.{ne_eqb}
 use Rattle.std.specs.Prelude.{filter, map, if◌then◌else◌}
 use Rattle.elf_types.specs.declared.errors.ElfError.{ElfError}
 use Rattle.elf_types.specs.declared.errors.ElfError.TheVariants as error
-use Rattle.elf_object.specs.Words.{Wants, Refusals, AnswersRead}
-use Rattle.elf_object.specs.Object.{Object, section_at}
-use Rattle.elf_object.specs.Strings.{string_answer, section_name, readable, is_name}
+use Rattle.gelf_view.specs.elf_object.Words.{Wants, Refusals, AnswersRead}
+use Rattle.gelf_view.specs.elf_object.Object.{Object, section_at}
+use Rattle.gelf_view.specs.elf_object.Strings.{string_answer, section_name, readable, is_name}
 use Rattle.tool_output.specs.Stops.{stop_of}
 use Rattle.tool_output.specs.Reports.{Report, no_report, joined, all_joined, reports_of}
 use Rattle.tool_output.proofs.ReportLemmas.{none_joined}

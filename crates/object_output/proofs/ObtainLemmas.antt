@@ -1,7 +1,7 @@
 -- A step that obtains an object, by how it ends.
 use Rattle.std.proofs.Common.{◌≡◌, ℕ, Bool, List, [], Option, Some, None, Result, Ok, Err, refl, sym, ap, subst}
-use Rattle.elf_outside.specs.declared.sinks.Sink.{Ghosts}
-use Rattle.elf_object.specs.Object.{Object}
+use Rattle.tool_output.specs.elf_outside.declared.sinks.Sink.{Ghosts}
+use Rattle.gelf_view.specs.elf_object.Object.{Object}
 use Rattle.tool_output.specs.declared.stops.Stop.{Stop}
 use Rattle.tool_output.specs.declared.outputs.Outputs.{Outputs}
 use Rattle.tool_output.specs.Names.{file_name}

@@ -7,14 +7,14 @@ use Rattle.std.proofs.lemmas.List.{get_or_past}
 use Rattle.std.proofs.lemmas.List.Sums.{sum_by-cons}
 use Rattle.elf_types.specs.declared.errors.ElfError.{ElfError}
 use Rattle.elf_types.specs.Answers.{err_of, IsRefusal}
-use Rattle.elf_outside.specs.declared.sources.Source.{Ghosts as SourceGhosts}
-use Rattle.elf_object.specs.Object.{Object, Section, section_at, piece_at, home_is_clean, absent_section}
-use Rattle.elf_object.specs.Due.{unless_refused, is_refused_unread, when_clean, when_piece_clean, is_loaded, home_due, homes_due, all_sections}
-use Rattle.elf_object.specs.Calls.{piece_reads}
-use Rattle.elf_object.specs.SymbolSections.{word_reads}
-use Rattle.elf_descriptor.specs.State.{State}
-use Rattle.elf_descriptor.specs.Reads.{Reads}
-use Rattle.elf_descriptor.proofs.ReadsLaws.{dues_stay}
+use Rattle.tool_output.specs.elf_outside.declared.sources.Source.{Ghosts as SourceGhosts}
+use Rattle.gelf_view.specs.elf_object.Object.{Object, Section, section_at, piece_at, home_is_clean, absent_section}
+use Rattle.gelf_view.specs.elf_object.Due.{unless_refused, is_refused_unread, when_clean, when_piece_clean, is_loaded, home_due, homes_due, all_sections}
+use Rattle.gelf_view.specs.elf_object.Calls.{piece_reads}
+use Rattle.gelf_view.specs.elf_object.SymbolSections.{word_reads}
+use Rattle.gelf_view.specs.elf_descriptor.State.{State}
+use Rattle.gelf_view.specs.elf_descriptor.Reads.{Reads}
+use Rattle.gelf_view.proofs.elf_descriptor.ReadsLaws.{dues_stay}
 use Rattle.gelf_view.specs.SectionNames.{name_reads}
 use Rattle.object_output.specs.Steps.{homes_left}
 use Rattle.object_output.proofs.OnceSums.{has, Once, once_none, once_one, went_outside}

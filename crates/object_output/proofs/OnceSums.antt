@@ -5,7 +5,7 @@ use Rattle.std.specs.List.{sum_by, list_any, range_with_len}
 use Rattle.std.proofs.lemmas.Bool.{eqb-true, eq-eqb}
 use Rattle.std.proofs.lemmas.List.Sums.{sum_by-append, sum_by-cons}
 use Rattle.std.proofs.lemmas.Map.Views.{Contains-from_any}
-use Rattle.elf_object.specs.Due.{with_others}
+use Rattle.gelf_view.specs.elf_object.Due.{with_others}
 
 -- whether a number is in a list
 abbrev pub has : List ℕ → ℕ → Bool

@@ -1,13 +1,13 @@
 -- A pass over the sections: each is shown, and let go where homes overlap.
 use Rattle.std.proofs.Common.{◌≡◌, ◌||◌, ◌+◌, ◌*◌, ◌<◌, ◌≤◌, Bool, false, ℕ, [], length, Result, Ok, Err, IsTrue, refl, sym, ap, ◌∙◌, subst, arith}
 use Rattle.std.specs.Prelude.{if◌then◌else◌}
-use Rattle.elf_outside.specs.Asks.{Leaves}
-use Rattle.elf_outside.specs.declared.sources.Source.{Ghosts as SourceGhosts}
-use Rattle.elf_outside.specs.declared.sinks.Sink.{Ghosts as SinkGhosts}
-use Rattle.elf_object.specs.Object.{Object}
-use Rattle.elf_object.specs.Due.{home_due}
-use Rattle.elf_descriptor.specs.State.{State}
-use Rattle.elf_descriptor.specs.Rooms.{unloaded}
+use Rattle.tool_output.specs.elf_outside.Asks.{Leaves}
+use Rattle.tool_output.specs.elf_outside.declared.sources.Source.{Ghosts as SourceGhosts}
+use Rattle.tool_output.specs.elf_outside.declared.sinks.Sink.{Ghosts as SinkGhosts}
+use Rattle.gelf_view.specs.elf_object.Object.{Object}
+use Rattle.gelf_view.specs.elf_object.Due.{home_due}
+use Rattle.gelf_view.specs.elf_descriptor.State.{State}
+use Rattle.gelf_view.specs.elf_descriptor.Rooms.{unloaded}
 use Rattle.tool_output.specs.declared.outputs.Outputs.{Outputs}
 use Rattle.tool_output.specs.Reports.{Report, joined}
 use Rattle.object_output.specs.Steps.{homes_left, is_crowded, asked_again, ReportsElf, ElfOver}

@@ -4,15 +4,15 @@ use Rattle.std.specs.Prelude.{slice_get, IsSome}
 use Rattle.elf_types.specs.declared.errors.ElfError.{ElfError}
 use Rattle.elf_types.specs.declared.errors.ElfError.TheVariants as error
 use Rattle.elf_types.specs.Answers.{IsRefusal}
-use Rattle.elf_outside.specs.Asks.{ReadRose}
-use Rattle.elf_outside.specs.Counts.{Rose}
-use Rattle.elf_outside.specs.declared.sources.Source.{Ghosts as SourceGhosts}
-use Rattle.elf_object.specs.Words.{Wants, Answers}
-use Rattle.elf_object.specs.Object.{Object}
-use Rattle.elf_object.specs.Answers.{entry_answer}
-use Rattle.elf_object.specs.Calls.{Call}
-use Rattle.elf_descriptor.specs.State.{State}
-use Rattle.elf_descriptor.specs.Reads.{Queries}
+use Rattle.tool_output.specs.elf_outside.Asks.{ReadRose}
+use Rattle.tool_output.specs.elf_outside.Counts.{Rose}
+use Rattle.tool_output.specs.elf_outside.declared.sources.Source.{Ghosts as SourceGhosts}
+use Rattle.gelf_view.specs.elf_object.Words.{Wants, Answers}
+use Rattle.gelf_view.specs.elf_object.Object.{Object}
+use Rattle.gelf_view.specs.elf_object.Answers.{entry_answer}
+use Rattle.gelf_view.specs.elf_object.Calls.{Call}
+use Rattle.gelf_view.specs.elf_descriptor.State.{State}
+use Rattle.gelf_view.specs.elf_descriptor.Reads.{Queries}
 use Rattle.tool_output.specs.declared.stops.Stop.{Stop}
 use Rattle.tool_output.specs.Steps.{OnRead, OnWrite}
 use Rattle.tool_output.specs.declared.stops.Stop.TheVariants.{Read, Write, Memory}

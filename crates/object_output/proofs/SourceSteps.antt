@@ -1,10 +1,10 @@
 -- Steps over a source and the outputs, one after another.
 use Rattle.std.proofs.Common.{◌≡◌, inl, inr, ◌||◌, ◌≤◌, ℕ, Bool, false, List, Option, Some, None, Result, Ok, Err, IfSome, refl, sym, ◌∙◌, arith}
 use Rattle.elf_types.specs.declared.errors.ElfError.{ElfError}
-use Rattle.elf_outside.specs.Asks.{Asks, Leaves}
-use Rattle.elf_outside.specs.Counts.{Rose}
-use Rattle.elf_outside.specs.declared.sources.Source.{Ghosts as SourceGhosts}
-use Rattle.elf_outside.specs.declared.sinks.Sink.{Ghosts as SinkGhosts}
+use Rattle.tool_output.specs.elf_outside.Asks.{Asks, Leaves}
+use Rattle.tool_output.specs.elf_outside.Counts.{Rose}
+use Rattle.tool_output.specs.elf_outside.declared.sources.Source.{Ghosts as SourceGhosts}
+use Rattle.tool_output.specs.elf_outside.declared.sinks.Sink.{Ghosts as SinkGhosts}
 use Rattle.ar_members.proofs.Told.{told_by, told_both, told_as}
 use Rattle.tool_output.specs.declared.stops.Stop.{Stop}
 use Rattle.tool_output.specs.declared.stops.Stop.TheVariants.{Read, Write, Memory}

@@ -11,7 +11,7 @@ use Rattle.ar_members.specs.declared.headers.TheConstants.{FIRST}
 use Rattle.ar_members.specs.Archives.{Walk, first_walk, members_left, left_due}
 use Rattle.ar_members.specs.Magic.{archive_refusal}
 use Rattle.ar_members.specs.Members.{Members, members}
-use Rattle.elf_object.specs.Object.{Object}
+use Rattle.gelf_view.specs.elf_object.Object.{Object}
 use Rattle.tool_output.specs.Names.{Name, file_name, member_name}
 use Rattle.tool_output.specs.Reports.{Report, no_report, refusal_report, joined, reports_of}
 use Rattle.object_output.specs.Looks.{Looks}

@@ -1,8 +1,8 @@
 -- What a tool says of a file, an image or an archive by its first bytes.
 use Rattle.std.specs.Prelude.{ℕ, ◌+◌, List}
-use Rattle.elf_ident.specs.declared.file_kinds.FileKind.{FileKind}
-use Rattle.elf_ident.specs.declared.file_kinds.FileKind.TheVariants.{Archive, Elf, Other}
-use Rattle.elf_ident.specs.FileKinds.{file_kind}
+use Rattle.gelf_view.specs.elf_ident.declared.file_kinds.FileKind.{FileKind}
+use Rattle.gelf_view.specs.elf_ident.declared.file_kinds.FileKind.TheVariants.{Archive, Elf, Other}
+use Rattle.gelf_view.specs.elf_ident.FileKinds.{file_kind}
 use Rattle.tool_output.specs.Names.{Name}
 use Rattle.tool_output.specs.Reports.{Report}
 

@@ -3,12 +3,12 @@ use Rattle.std.specs.Prelude.{ℕ, ◌+◌, ◌*◌, List, Result, Ok, Err, if�
 use Rattle.elf_types.specs.declared.errors.ElfError.{ElfError}
 use Rattle.elf_types.specs.declared.errors.ElfError.TheVariants.{Magic}
 use Rattle.elf_types.specs.Text.{error_text}
-use Rattle.elf_ident.specs.declared.file_kinds.FileKind.{FileKind}
-use Rattle.elf_ident.specs.declared.file_kinds.FileKind.TheVariants.{Archive, Elf, Other}
-use Rattle.elf_ident.specs.FileKinds.{file_kind}
-use Rattle.elf_ident.specs.Front.{front_bytes}
-use Rattle.elf_object.specs.Object.{Object}
-use Rattle.elf_object.specs.Open.{opened}
+use Rattle.gelf_view.specs.elf_ident.declared.file_kinds.FileKind.{FileKind}
+use Rattle.gelf_view.specs.elf_ident.declared.file_kinds.FileKind.TheVariants.{Archive, Elf, Other}
+use Rattle.gelf_view.specs.elf_ident.FileKinds.{file_kind}
+use Rattle.gelf_view.specs.elf_ident.Front.{front_bytes}
+use Rattle.gelf_view.specs.elf_object.Object.{Object}
+use Rattle.gelf_view.specs.elf_object.Open.{opened}
 use Rattle.tool_output.specs.Names.{Name}
 use Rattle.tool_output.specs.Reports.{Report, refusal_report}
 use Rattle.object_output.specs.Steps.{homes_total, asked_again}

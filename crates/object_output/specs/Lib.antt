@@ -1,3 +1,14 @@
+pub use Rattle.gelf_view.specs.elf_descriptor
+pub use Rattle.gelf_view.specs.elf_ident
+pub use Rattle.gelf_view.specs.elf_layout
+pub use Rattle.gelf_view.specs.elf_object
+pub use Rattle.tool_output.specs.elf_outside
+pub use Rattle.gelf_view.specs.elf_xlate
+pub use Rattle.gelf_view.specs as gelf_view
+pub use Rattle.gelf_view.specs.object_laws
+pub use Rattle.gelf_view.specs.section_data
+pub use Rattle.gelf_view.specs.strtab_build
+pub use Rattle.tool_output.specs as tool_output
 pub mod Steps
 pub mod Answers
 pub mod Refusals
@@ -9,3 +20,4 @@ pub mod Files
 pub mod Sections
 pub mod Symbols
 pub mod Obtains
+pub mod Passed

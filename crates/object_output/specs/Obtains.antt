@@ -1,7 +1,7 @@
 -- A step that obtains an object, or says why there is none.
 use Rattle.std.specs.Prelude.{ℕ, List, Option, Some, None, Result, Ok, Err, IfOk}
-use Rattle.elf_outside.specs.declared.sinks.Sink.{Ghosts}
-use Rattle.elf_object.specs.Object.{Object}
+use Rattle.tool_output.specs.elf_outside.declared.sinks.Sink.{Ghosts}
+use Rattle.gelf_view.specs.elf_object.Object.{Object}
 use Rattle.tool_output.specs.declared.stops.Stop.{Stop}
 use Rattle.tool_output.specs.declared.outputs.Outputs.{Outputs}
 use Rattle.tool_output.specs.Made.{Complaint, complaint_report}

@@ -1,8 +1,8 @@
 -- The sections of an object, by number and by name (gABI chapter 4, "Sections", sh_name).
 use Rattle.std.specs.Prelude.{◌++◌, ℕ, List, filter, Bool, true, false, Option, Some, None, codes}
-use Rattle.elf_object.specs.Object.{Object}
-use Rattle.elf_object.specs.Due.{all_sections}
-use Rattle.elf_object.specs.Strings.{section_name, is_name}
+use Rattle.gelf_view.specs.elf_object.Object.{Object}
+use Rattle.gelf_view.specs.elf_object.Due.{all_sections}
+use Rattle.gelf_view.specs.elf_object.Strings.{section_name, is_name}
 use Rattle.tool_output.specs.Reports.{Report, no_report}
 
 -- a name as it is shown: in square brackets, or that there is none

@@ -1,9 +1,9 @@
 -- What the public call of a tool does: it gives the report on an object on two outputs.
 use Rattle.std.specs.Prelude.{◌≡◌, ℕ, Bool, IsTrue, Result, IfOk}
-use Rattle.elf_outside.specs.declared.sources.Source.{Ghosts as SourceGhosts}
-use Rattle.elf_outside.specs.declared.sinks.Sink.{Ghosts as SinkGhosts}
-use Rattle.elf_object.specs.Object.{Object}
-use Rattle.elf_descriptor.specs.State.{State}
+use Rattle.tool_output.specs.elf_outside.declared.sources.Source.{Ghosts as SourceGhosts}
+use Rattle.tool_output.specs.elf_outside.declared.sinks.Sink.{Ghosts as SinkGhosts}
+use Rattle.gelf_view.specs.elf_object.Object.{Object}
+use Rattle.gelf_view.specs.elf_descriptor.State.{State}
 use Rattle.tool_output.specs.declared.stops.Stop.{Stop}
 use Rattle.tool_output.specs.Reports.{Report}
 use Rattle.tool_output.specs.Steps.{Ended, OnRead, OnWrite, LeavesSinks, SinkRose}

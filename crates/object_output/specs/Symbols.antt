@@ -1,8 +1,8 @@
 -- The sections of symbols (gABI chapter 4, "Symbol Table", st_shndx).
 use Rattle.std.specs.Prelude.{ℕ, Option}
 use Rattle.elf_types.specs.declared.records.Sym.{Sym}
-use Rattle.elf_object.specs.Object.{Object}
-use Rattle.elf_object.specs.SymbolSections.{place_of_symbol}
+use Rattle.gelf_view.specs.elf_object.Object.{Object}
+use Rattle.gelf_view.specs.elf_object.SymbolSections.{place_of_symbol}
 use Rattle.gelf_view.specs.declared.symbols.SymPlace.{SymPlace}
 use Rattle.gelf_view.specs.declared.symbols.SymPlace.TheVariants.{Special, Section}
 use Rattle.object_output.specs.Answers.{value_of}

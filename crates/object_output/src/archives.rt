@@ -10,8 +10,8 @@ ghost use Rattle.object_output.specs.Archives.{member_asks, left_asks, archive_a
 
 use crate::tools::{ObjectTool, refuse};
 use ar_members::{Ar, ArHdr};
-use elf_outside::{Sink, Source};
 use std::alloc::Global;
+use tool_output::prelude::{Sink, Source};
 use tool_output::{FileName, Outputs, Stop};
 
 /// Gives a tool's report on a member of an archive, under `LIB[MEMBER]`, and hands the archive back

@@ -1,17 +1,17 @@
 //! Objects whose sections overlap: there, what goes over the sections lets each go again.
 
 ghost use Rattle.std.specs.Prelude.{◌≡◌, ◌<◌, [], length, if◌then◌else◌};
-ghost use Rattle.elf_object.specs.Object.{section_at};
-ghost use Rattle.elf_object.specs.Due.{home_due};
-ghost use Rattle.elf_descriptor.specs.Rooms.{unloaded};
+ghost use Rattle.gelf_view.specs.elf_object.Object.{section_at};
+ghost use Rattle.gelf_view.specs.elf_object.Due.{home_due};
+ghost use Rattle.gelf_view.specs.elf_descriptor.Rooms.{unloaded};
 ghost use Rattle.object_output.specs.Steps.{is_crowded};
 
-use elf_descriptor::Elf;
-use elf_outside::Source;
 use elf_types::ScnId;
+use gelf_view::prelude::Elf;
+use tool_output::prelude::Source;
 
 /// Whether the home of a section that is there is out of the file.
-#[tactic(auto, unfolding(elf_descriptor::specs::Homes::out_answer))]
+#[tactic(auto, unfolding(gelf_view::specs::Passed::out_answer))]
 pub fn is_out<S: Source>(elf: &Elf<S>, s: ScnId) -> bool
     requires { s.0 < length elf.now.o.sections }
     ensures { result ≡ (section_at elf.now.o s.0).home.out }
@@ -23,7 +23,7 @@ pub fn is_out<S: Source>(elf: &Elf<S>, s: ScnId) -> bool
 }
 
 /// The length of the home of a section that is there.
-#[tactic(auto, unfolding(elf_object::specs::Calls::home_answer))]
+#[tactic(auto, unfolding(gelf_view::specs::Passed::home_answer))]
 fn home_len<S: Source>(elf: &Elf<S>, s: ScnId) -> u64
     requires { s.0 < length elf.now.o.sections }
     ensures { result ≡ (section_at elf.now.o s.0).home.len }

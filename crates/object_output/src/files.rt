@@ -9,9 +9,9 @@ ghost use Rattle.object_output.specs.Files.{file_report, file_asks};
 
 use crate::archives::show_archive;
 use crate::tools::{ObjectTool, refuse};
-use elf_ident::{FileKind, kind_of_source};
-use elf_outside::{Sink, Source};
+use gelf_view::prelude::{FileKind, kind_of_source};
 use std::alloc::Global;
+use tool_output::prelude::{Sink, Source};
 use tool_output::{FileName, Outputs, Stop};
 
 /// Gives a tool's report on what a file holds, under its name, and hands the source back. An

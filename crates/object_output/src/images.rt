@@ -2,16 +2,15 @@
 
 ghost use Rattle.std.specs.Prelude.{◌≡◌, ◌≤◌, ◌+◌, IfOk, IfSome, is_some};
 ghost use Rattle.elf_types.specs.Answers.{Follows};
-ghost use Rattle.elf_outside.specs.Asks.{Asks};
-ghost use Rattle.elf_ident.specs.Front.{front_bytes, most_front_bytes};
-ghost use Rattle.elf_descriptor.specs.Begun.{IsBegun, begun_answer, source_after};
+ghost use Rattle.tool_output.specs.elf_outside.Asks.{Asks};
+ghost use Rattle.gelf_view.specs.elf_ident.Front.{front_bytes, most_front_bytes};
+ghost use Rattle.gelf_view.specs.elf_descriptor.Begun.{IsBegun, begun_answer, source_after};
 ghost use Rattle.object_output.specs.Images.{file_object};
 
-use elf_descriptor::Elf;
-use elf_ident::{FileKind, kind_of_source};
-use elf_outside::Source;
 use elf_types::ElfError;
+use gelf_view::prelude::{Elf, FileKind, kind_of_source};
 use std::alloc::Global;
+use tool_output::prelude::Source;
 
 /// Begins over what a file holds, for a command that takes one image and no archive: an archive is
 /// refused as `Magic`. It asks for at most eight bytes and the front's. With a refusal it hands the

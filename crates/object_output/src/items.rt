@@ -1,15 +1,14 @@
 //! An item of a section's data, or a program header, that is there.
 
 ghost use Rattle.std.specs.Prelude.{◌≡◌, ◌<◌, length, slice_get, slice_index_or, IsTrue, IsSome, IfOk, Some, None};
-ghost use Rattle.elf_object.specs.Answers.{items_at, lend_refusal};
+ghost use Rattle.gelf_view.specs.elf_object.Answers.{items_at, lend_refusal};
 ghost use Rattle.tool_output.specs.Stops.{stop_of};
 ghost use Rattle.object_output.specs.Steps.{ReadsElf};
 
-use elf_descriptor::Elf;
-use elf_outside::Source;
 use elf_types::{DataId, ElfError, Phdr};
-use section_data::Item;
+use gelf_view::prelude::{Elf, Item};
 use tool_output::Stop;
+use tool_output::prelude::Source;
 
 /// The stop of an error that is no refusal.
 pub fn stop_for(e: ElfError) -> Stop
@@ -38,7 +37,7 @@ pub fn item_there<S: Source, T: Item>(elf: &mut Elf<S>, d: DataId, i: u64) -> Re
 }
 
 /// The present program header `i`, which is there.
-#[tactic(auto, unfolding(elf_object::specs::Calls::phdr_answer))]
+#[tactic(auto, unfolding(gelf_view::specs::Passed::phdr_answer))]
 pub fn phdr_at<S: Source>(elf: &Elf<S>, i: u32) -> Phdr
     requires { i < length elf.now.o.phdrs }
     ensures { result ≡ slice_index_or elf.now.o.phdrs i result }

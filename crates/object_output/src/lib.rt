@@ -11,6 +11,7 @@ pub mod files;
 pub mod images;
 pub mod items;
 pub mod names;
+pub mod prelude;
 pub mod sections;
 pub mod symbols;
 pub mod tools;

@@ -3,18 +3,18 @@
 ghost use Rattle.std.specs.Prelude.{◌≡◌, ◌<◌, length, IsTrue, IfOk};
 ghost use Rattle.std.specs.Borrow.{sem};
 ghost use Rattle.std.specs.Option.{option_copied};
-ghost use Rattle.elf_object.specs.Strings as strings;
-ghost use Rattle.elf_descriptor.specs.Rests.{Rests};
+ghost use Rattle.gelf_view.specs.elf_object.Strings as strings;
+ghost use Rattle.gelf_view.specs.elf_descriptor.Rests.{Rests};
 ghost use Rattle.tool_output.specs.Reports.{reports_of};
 ghost use Rattle.object_output.specs.Steps.{ReportsOver, ReadsElf, Learns};
 ghost use Rattle.object_output.specs.Sections.{bracketed, report_if, sections_named};
 
 use crate::items::stop_for;
 use crate::sections::{SectionTool, each_section};
-use elf_descriptor::Elf;
-use elf_outside::{Sink, Source};
 use elf_types::{ElfError, Octets, ScnId, put_bytes, put_text};
+use gelf_view::prelude::Elf;
 use gelf_view::strptr;
+use tool_output::prelude::{Sink, Source};
 use tool_output::{Line, Outputs, Stop};
 
 /// A name as it is shown: in square brackets, or `<none>` where there is none.

@@ -1,19 +1,19 @@
 //! The sections of an object, one after another.
 
 ghost use Rattle.std.specs.Prelude.{◌≡◌, ◌<◌, ℕ, length};
-ghost use Rattle.elf_object.specs.Object.{Object, section_at};
-ghost use Rattle.elf_object.specs.Due.{all_sections};
+ghost use Rattle.gelf_view.specs.elf_object.Object.{Object, section_at};
+ghost use Rattle.gelf_view.specs.elf_object.Due.{all_sections};
 ghost use Rattle.tool_output.specs.Reports.{Report, reports_of};
 ghost use Rattle.object_output.specs.Steps.{ReportsElf, ReportsOver};
 
 use crate::crowded::{is_crowded, let_go};
-use elf_descriptor::Elf;
-use elf_outside::{Sink, Source};
 use elf_types::{ScnId, Shdr};
+use gelf_view::prelude::Elf;
+use tool_output::prelude::{Sink, Source};
 use tool_output::{Outputs, Stop};
 
 /// The present header of a section that is there.
-#[tactic(auto, unfolding(elf_object::specs::Calls::shdr_answer))]
+#[tactic(auto, unfolding(gelf_view::specs::Passed::shdr_answer))]
 pub fn section_header<S: Source>(elf: &Elf<S>, s: ScnId) -> Shdr
     requires { s.0 < length elf.now.o.sections }
     ensures { result ≡ (section_at elf.now.o s.0).header }

@@ -6,11 +6,11 @@ ghost use Rattle.gelf_view.specs.Calls.{IsTable};
 ghost use Rattle.object_output.specs.Steps.{Learns};
 ghost use Rattle.object_output.specs.Symbols.{symbol_place};
 
-use elf_descriptor::Elf;
-use elf_outside::Source;
 use elf_types::{ScnId, Sym};
 use gelf_view::SymPlace;
+use gelf_view::prelude::Elf;
 use tool_output::Stop;
+use tool_output::prelude::Source;
 
 /// The section of symbol `i` of a section, which was looked at, or None where its extended index
 /// can not be told. `table` is the table of extended indexes of the section's symbols, where there

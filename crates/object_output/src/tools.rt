@@ -1,8 +1,8 @@
 //! A tool that says something of an object.
 
 ghost use Rattle.std.specs.Prelude.{◌≡◌, ◌≤◌, ◌+◌, ℕ, List, false, IfSome, OnOk};
-ghost use Rattle.elf_ident.specs.Front.{front_bytes};
-ghost use Rattle.elf_object.specs.Object.{Object};
+ghost use Rattle.gelf_view.specs.elf_ident.Front.{front_bytes};
+ghost use Rattle.gelf_view.specs.elf_object.Object.{Object};
 ghost use Rattle.tool_output.specs.Names.{Name};
 ghost use Rattle.tool_output.specs.Reports.{Report};
 ghost use Rattle.tool_output.specs.Sources.{ReportsOn};
@@ -12,10 +12,10 @@ ghost use Rattle.object_output.specs.Shows.{ShowsOver};
 ghost use Rattle.object_output.specs.Looks.{Looks};
 ghost use Rattle.object_output.specs.Images.{image_report, image_asks};
 
-use elf_descriptor::Elf;
-use elf_outside::{Sink, Source};
 use elf_types::{ElfError, Octets};
+use gelf_view::prelude::Elf;
 use std::alloc::Global;
+use tool_output::prelude::{Sink, Source};
 use tool_output::{FileName, Message, Outputs, Stop};
 
 /// What a command does with each image of the files that it names.

@@ -5,15 +5,15 @@ use Rattle.elf_types.specs.declared.errors.ElfError.{ElfError}
 use Rattle.elf_types.specs.Answers.{◌>>=◌}
 use Rattle.elf_outside.specs.declared.sinks.Sink.{Ghosts as SinkGhosts}
 use Rattle.elf_outside.specs.declared.file_sets.Files.{Ghosts as FilesGhosts}
-use Rattle.elf_object.specs.Object.{Object}
-use Rattle.tool_output.specs.declared.stops.Stop.{Stop}
-use Rattle.tool_output.specs.declared.outputs.Outputs.{Outputs}
-use Rattle.tool_output.specs.Reports.{Report}
-use Rattle.tool_output.specs.Statuses.{refused_status}
-use Rattle.tool_output.specs.Files.{IsWithin}
-use Rattle.tool_output.specs.Outcomes.{Outcome, report_outcome, write_of, Does}
-use Rattle.tool_output.specs.Made.{Done, Complaint, made_file, made, written_outcome, outcome_with}
-use Rattle.object_output.specs.Images.{file_object}
+use Rattle.command_outcomes.specs.elf_object.Object.{Object}
+use Rattle.object_files.specs.tool_output.declared.stops.Stop.{Stop}
+use Rattle.object_files.specs.tool_output.declared.outputs.Outputs.{Outputs}
+use Rattle.object_files.specs.tool_output.Reports.{Report}
+use Rattle.object_files.specs.tool_output.Statuses.{refused_status}
+use Rattle.object_files.specs.tool_output.Files.{IsWithin}
+use Rattle.object_files.specs.tool_output.Outcomes.{Outcome, report_outcome, write_of, Does}
+use Rattle.object_files.specs.tool_output.Made.{Done, Complaint, made_file, made, written_outcome, outcome_with}
+use Rattle.command_outcomes.specs.object_output.Images.{file_object}
 use Rattle.object_files.specs.Edits.{edited_outcome}
 use Rattle.object_files.proofs.ChangeSteps.{other_write}
 use Rattle.command_outcomes.specs.Files.{bytes_named, object_named}

@@ -10,38 +10,38 @@ use Rattle.elf_outside.specs.Counts.{Rose}
 use Rattle.elf_outside.specs.declared.sources.Source.{Ghosts as SourceGhosts}
 use Rattle.elf_outside.specs.declared.sinks.Sink.{Ghosts as SinkGhosts}
 use Rattle.elf_outside.specs.declared.file_sets.Files.{Ghosts as FilesGhosts}
-use Rattle.elf_object.specs.Object.{Object}
-use Rattle.elf_object.specs.Image.{image, image_length}
-use Rattle.elf_object.specs.Layout.{placed}
-use Rattle.elf_object.specs.Due.{update_to_due}
-use Rattle.elf_object.specs.Valid.{IsObject}
-use Rattle.elf_object.specs.Refusal.{refusal}
-use Rattle.elf_object.specs.Calls as calls
-use Rattle.elf_object.specs.Words.{Updates}
-use Rattle.elf_object.proofs.RefusalLaws.{update_refuses}
-use Rattle.object_laws.proofs.TornLaws.{placed_stays}
-use Rattle.elf_descriptor.specs.State.{State}
-use Rattle.elf_descriptor.specs.Edits.{flagged}
-use Rattle.command_objects.specs.Files.{file_of}
-use Rattle.tool_output.specs.declared.stops.Stop.{Stop}
-use Rattle.tool_output.specs.declared.stops.Stop.TheVariants.{Read, Write, Memory}
-use Rattle.tool_output.specs.declared.outputs.Outputs.{Outputs}
-use Rattle.tool_output.specs.Statuses.{refused_status}
-use Rattle.tool_output.specs.Steps.{LeavesOutputs}
-use Rattle.tool_output.specs.Names.{file_name}
-use Rattle.tool_output.specs.Reports.{Report, Reports, no_report, refusal_report}
-use Rattle.tool_output.specs.Files.{IsWithin, LeavesFilesBy}
-use Rattle.tool_output.specs.Outcomes.{Outcome, Does}
-use Rattle.tool_output.specs.Made.{Done, Complaint, made_file, made, complaint, of_file, written_outcome, outcome_with}
-use Rattle.tool_output.proofs.FileLemmas.{totals_none, only_reads_none}
-use Rattle.tool_output.proofs.MadeLemmas.{report_done}
-use Rattle.tool_output.proofs.OutcomeLemmas.{nothing_done}
-use Rattle.tool_output.proofs.StepLemmas.{keeps_none}
-use Rattle.tool_output.proofs.UnderWayLemmas.{shown_none}
-use Rattle.object_output.specs.Images.{file_object}
-use Rattle.object_output.specs.Refusals.{Refuses}
-use Rattle.object_output.specs.Steps.{SourceRose}
-use Rattle.object_output.proofs.SourceSteps.{leaves_then}
+use Rattle.command_outcomes.specs.elf_object.Object.{Object}
+use Rattle.command_outcomes.specs.elf_object.Image.{image, image_length}
+use Rattle.command_outcomes.specs.elf_object.Layout.{placed}
+use Rattle.command_outcomes.specs.elf_object.Due.{update_to_due}
+use Rattle.command_outcomes.specs.elf_object.Valid.{IsObject}
+use Rattle.command_outcomes.specs.elf_object.Refusal.{refusal}
+use Rattle.command_outcomes.specs.elf_object.Calls as calls
+use Rattle.command_outcomes.specs.elf_object.Words.{Updates}
+use Rattle.command_outcomes.proofs.elf_object.RefusalLaws.{update_refuses}
+use Rattle.update_plan.proofs.object_laws.TornLaws.{placed_stays}
+use Rattle.update_plan.specs.elf_descriptor.State.{State}
+use Rattle.update_plan.specs.elf_descriptor.Edits.{flagged}
+use Rattle.command_outcomes.specs.command_objects.Files.{file_of}
+use Rattle.object_files.specs.tool_output.declared.stops.Stop.{Stop}
+use Rattle.object_files.specs.tool_output.declared.stops.Stop.TheVariants.{Read, Write, Memory}
+use Rattle.object_files.specs.tool_output.declared.outputs.Outputs.{Outputs}
+use Rattle.object_files.specs.tool_output.Statuses.{refused_status}
+use Rattle.object_files.specs.tool_output.Steps.{LeavesOutputs}
+use Rattle.object_files.specs.tool_output.Names.{file_name}
+use Rattle.object_files.specs.tool_output.Reports.{Report, Reports, no_report, refusal_report}
+use Rattle.object_files.specs.tool_output.Files.{IsWithin, LeavesFilesBy}
+use Rattle.object_files.specs.tool_output.Outcomes.{Outcome, Does}
+use Rattle.object_files.specs.tool_output.Made.{Done, Complaint, made_file, made, complaint, of_file, written_outcome, outcome_with}
+use Rattle.object_files.proofs.tool_output.FileLemmas.{totals_none, only_reads_none}
+use Rattle.object_files.proofs.tool_output.MadeLemmas.{report_done}
+use Rattle.object_files.proofs.tool_output.OutcomeLemmas.{nothing_done}
+use Rattle.object_files.proofs.tool_output.StepLemmas.{keeps_none}
+use Rattle.object_files.proofs.tool_output.UnderWayLemmas.{shown_none}
+use Rattle.command_outcomes.specs.object_output.Images.{file_object}
+use Rattle.command_outcomes.specs.object_output.Refusals.{Refuses}
+use Rattle.command_outcomes.specs.object_output.Steps.{SourceRose}
+use Rattle.command_outcomes.proofs.object_output.SourceSteps.{leaves_then}
 use Rattle.object_files.specs.Making.{ReadsFrom}
 use Rattle.object_files.specs.Edits.{unbounded, EditsFile}
 use Rattle.object_writing.specs.Writes.{written_done, image_done, WritesFile}

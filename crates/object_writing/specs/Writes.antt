@@ -7,17 +7,17 @@ use Rattle.elf_outside.specs.Names.{Map}
 use Rattle.elf_outside.specs.declared.sources.Source.{Ghosts as SourceGhosts}
 use Rattle.elf_outside.specs.declared.sinks.Sink.{Ghosts as SinkGhosts}
 use Rattle.elf_outside.specs.declared.file_sets.Files.{Ghosts as FilesGhosts}
-use Rattle.elf_object.specs.Object.{Object}
-use Rattle.elf_descriptor.specs.State.{State}
-use Rattle.command_objects.specs.Files.{file_of}
+use Rattle.command_outcomes.specs.elf_object.Object.{Object}
+use Rattle.update_plan.specs.elf_descriptor.State.{State}
+use Rattle.command_outcomes.specs.command_objects.Files.{file_of}
 use Rattle.command_outcomes.specs.Files.{object_named}
-use Rattle.tool_output.specs.declared.stops.Stop.{Stop}
-use Rattle.tool_output.specs.declared.outputs.Outputs.{Outputs}
-use Rattle.tool_output.specs.Statuses.{refused_status}
-use Rattle.tool_output.specs.Files.{LeavesFilesBy}
-use Rattle.tool_output.specs.Outcomes.{Outcome, Does}
-use Rattle.tool_output.specs.Made.{Done, Complaint, made, of_file}
-use Rattle.object_output.specs.Steps.{SourceRose}
+use Rattle.object_files.specs.tool_output.declared.stops.Stop.{Stop}
+use Rattle.object_files.specs.tool_output.declared.outputs.Outputs.{Outputs}
+use Rattle.object_files.specs.tool_output.Statuses.{refused_status}
+use Rattle.object_files.specs.tool_output.Files.{LeavesFilesBy}
+use Rattle.object_files.specs.tool_output.Outcomes.{Outcome, Does}
+use Rattle.object_files.specs.tool_output.Made.{Done, Complaint, made, of_file}
+use Rattle.command_outcomes.specs.object_output.Steps.{SourceRose}
 
 -- an object that was made of a file is written, or refused
 abbrev pub written_done : List ℕ → List ℕ → Object → Result Done Complaint

@@ -1,18 +1,18 @@
 //! The image of an open file, and the new file that a command makes of it.
 
 ghost use Rattle.std.specs.Prelude.{◌≡◌, ℕ, List, Result, false};
-ghost use Rattle.elf_object.specs.Object.{Object, is_dirty};
-ghost use Rattle.object_output.specs.Images.{file_object};
-ghost use Rattle.tool_output.specs.Made.{Done, Complaint, written_outcome};
+ghost use Rattle.command_outcomes.specs.elf_object.Object.{Object, is_dirty};
+ghost use Rattle.command_outcomes.specs.object_output.Images.{file_object};
+ghost use Rattle.object_files.specs.tool_output.Made.{Done, Complaint, written_outcome};
 ghost use Rattle.object_writing.specs.Writes.{WritesFile, image_done};
 
 use crate::refusing::refuse_for;
-use elf_descriptor::Elf;
+use command_outcomes::prelude::begin_image;
 use elf_outside::{Files, Sink, Source};
 use object_files::FileEdit;
-use object_output::begin_image;
+use object_files::prelude::{Outputs, Stop};
 use std::alloc::Global;
-use tool_output::{Outputs, Stop};
+use update_plan::prelude::Elf;
 
 /// A command that writes a new file by the image of an open one, or says why it writes none.
 ///

@@ -5,6 +5,7 @@
 
 pub mod edits;
 pub mod named;
+pub mod prelude;
 pub mod refusing;
 pub mod writing;
 

@@ -1,18 +1,18 @@
 //! A command that writes a new file by the image of the file that it names.
 
 ghost use Rattle.std.specs.Prelude.{◌≡◌, ℕ, List, None, IsTrue};
-ghost use Rattle.object_output.specs.Images.{file_object};
-ghost use Rattle.tool_output.specs.Files.{LeavesFiles};
-ghost use Rattle.tool_output.specs.Made.{written_outcome};
-ghost use Rattle.tool_output.specs.Outcomes.{write_of, Does};
-ghost use Rattle.tool_output.specs.Statuses.{refused_status};
+ghost use Rattle.command_outcomes.specs.object_output.Images.{file_object};
+ghost use Rattle.object_files.specs.tool_output.Files.{LeavesFiles};
+ghost use Rattle.object_files.specs.tool_output.Made.{written_outcome};
+ghost use Rattle.object_files.specs.tool_output.Outcomes.{write_of, Does};
+ghost use Rattle.object_files.specs.tool_output.Statuses.{refused_status};
 ghost use Rattle.object_writing.specs.Writes.{image_done, named_done};
 
 use crate::edits::{ImageCommand, ImageEdit};
 use elf_outside::{Files, Sink};
 use object_files::edit_file;
+use object_files::prelude::{Outputs, Stop};
 use std::alloc::Global;
-use tool_output::{Outputs, Stop};
 
 /// Opens a file, does a command with its image and closes it; a name that is not there, and what is
 /// no image, has its message. The command writes no file of that name. The answer tells whether it

@@ -1,11 +1,11 @@
 //! The message of a file that is refused.
 
-ghost use Rattle.tool_output.specs.Names.{file_name};
-ghost use Rattle.object_output.specs.Refusals.{Refuses};
+ghost use Rattle.object_files.specs.tool_output.Names.{file_name};
+ghost use Rattle.command_outcomes.specs.object_output.Refusals.{Refuses};
 
 use elf_outside::Sink;
 use elf_types::ElfError;
-use tool_output::{FileName, Message, Outputs, Stop};
+use object_files::prelude::{FileName, Message, Outputs, Stop};
 
 /// Refuses a file for an error of the library, or stops where the error is no refusal.
 pub fn refuse_for<O: Sink, E: Sink>(

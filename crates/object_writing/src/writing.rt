@@ -1,14 +1,14 @@
 //! An object, and the new file of its image.
 
-ghost use Rattle.tool_output.specs.Made.{written_outcome};
+ghost use Rattle.object_files.specs.tool_output.Made.{written_outcome};
 ghost use Rattle.object_writing.specs.Writes.{written_done, WritesFile};
 
 use crate::refusing::refuse_for;
-use elf_descriptor::Elf;
 use elf_outside::{Files, Sink, Source};
+use object_files::prelude::{Outputs, Stop};
 use object_files::write_image;
 use std::alloc::Global;
-use tool_output::{Outputs, Stop};
+use update_plan::prelude::Elf;
 use update_plan::update_null;
 
 /// Writes the image of an object to the new file `out`, or the message of a command that says why

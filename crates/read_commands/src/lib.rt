@@ -7,6 +7,7 @@
 mod commands;
 pub mod files;
 mod objects;
+pub mod prelude;
 pub mod titled_nm;
 pub mod titles;
 

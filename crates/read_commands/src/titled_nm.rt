@@ -13,10 +13,10 @@ ghost use Rattle.nm_tool.specs.Tool.{nm_report};
 ghost use Rattle.read_commands.specs.Titles.{titled_report};
 
 use crate::titles::{Title, Titled, show_title};
-use elf_descriptor::Elf;
 use elf_ident::{Front, read_front};
 use elf_outside::{Sink, Source};
 use nm_tool::NmTool;
+use object_output::prelude::Elf;
 use object_output::{ObjectTool, refuse};
 use std::alloc::Global;
 use tool_output::{FileName, Outputs, Stop};

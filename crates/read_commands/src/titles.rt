@@ -5,10 +5,10 @@ ghost use Rattle.tool_output.specs.Reports.{Reports};
 ghost use Rattle.tool_output.specs.Steps.{LeavesOutputs};
 ghost use Rattle.read_commands.specs.Titles.{title_if, file_title, name_title, title_report, titled_report};
 
-use elf_descriptor::Elf;
 use elf_outside::{Sink, Source};
 use elf_types::{ElfError, Octets, put_text};
 use object_output::ObjectTool;
+use object_output::prelude::Elf;
 use tool_output::{FileName, Line, Outputs, Stop};
 
 /// The form of the line before what is shown of an image.

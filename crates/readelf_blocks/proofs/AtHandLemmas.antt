@@ -12,8 +12,8 @@ use Rattle.elf_xlate.specs.declared.content.Items.{Items}
 use Rattle.elf_xlate.specs.Translation.{is_whole}
 use Rattle.elf_object.specs.Answers.{items_at, entry_answer, syms_of}
 use Rattle.elf_object.specs.Calls.{sym_answer}
-use Rattle.elf_descriptor.specs.State.{State}
-use Rattle.section_data.specs.Held.{items_of_bytes}
+use Rattle.object_output.specs.elf_descriptor.State.{State}
+use Rattle.object_output.specs.section_data.Held.{items_of_bytes}
 use Rattle.readelf_blocks.specs.RelocationLines.{symbol_in}
 use Rattle.object_output.specs.Answers.{value_of}
 use Rattle.bytes_at_hand.specs.Strings.{HoldsStrings}

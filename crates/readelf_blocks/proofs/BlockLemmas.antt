@@ -9,8 +9,8 @@ use Rattle.elf_object.specs.Answers.{items_at}
 use Rattle.elf_object.specs.Strings.{readable, string_answer}
 use Rattle.elf_types.specs.declared.records.Sym.{Sym}
 use Rattle.elf_xlate.specs.declared.content.Items.{Items}
-use Rattle.elf_descriptor.specs.State.{State}
-use Rattle.gelf_view.specs.Records.{string_front}
+use Rattle.object_output.specs.elf_descriptor.State.{State}
+use Rattle.object_output.specs.gelf_view.Records.{string_front}
 use Rattle.tool_output.specs.Lines.{numbered_lines}
 use Rattle.tool_output.specs.Reports.{shown, joined}
 use Rattle.tool_output.proofs.UnderWayLemmas.{shown_append}

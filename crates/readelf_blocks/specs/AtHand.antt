@@ -7,8 +7,8 @@ use Rattle.elf_types.specs.declared.records.Sym.{Sym}
 use Rattle.elf_xlate.specs.declared.content.Items.{Items}
 use Rattle.elf_xlate.specs.Translation.{is_whole}
 use Rattle.elf_object.specs.Answers.{items_at, syms_of}
-use Rattle.elf_descriptor.specs.State.{State}
-use Rattle.section_data.specs.Held.{items_of_bytes}
+use Rattle.object_output.specs.elf_descriptor.State.{State}
+use Rattle.object_output.specs.section_data.Held.{items_of_bytes}
 use Rattle.bytes_at_hand.specs.Strings.{HoldsStrings}
 use Rattle.readelf_blocks.specs.RelocationLines.{symbol_in}
 use Rattle.readelf_rows.specs.declared.links.Table.{Table}

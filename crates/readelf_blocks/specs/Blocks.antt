@@ -9,8 +9,8 @@ use Rattle.elf_types.specs.declared.records.Sym.{Sym}
 use Rattle.elf_xlate.specs.declared.content.Items.{Items}
 use Rattle.elf_xlate.specs.Translation.{is_whole}
 use Rattle.elf_object.specs.Object.{Object}
-use Rattle.section_data.specs.Held.{items_of_bytes}
-use Rattle.gelf_view.specs.Records.{string_front}
+use Rattle.object_output.specs.section_data.Held.{items_of_bytes}
+use Rattle.object_output.specs.gelf_view.Records.{string_front}
 use Rattle.tool_output.specs.Lines.{numbered_lines}
 use Rattle.readelf_blocks.specs.RelocationLines.{relocation_name, relocation_line, without_addend}
 use Rattle.readelf_blocks.specs.AtHand.{symbol_of}

@@ -6,11 +6,10 @@ ghost use Rattle.object_output.specs.Steps.{ReadsElf};
 ghost use Rattle.readelf_blocks.specs.AtHand.{IsAtHand};
 
 use bytes_at_hand::{item_bytes, load, string_bytes};
-use elf_descriptor::Elf;
 use elf_outside::Source;
 use elf_types::{Class, Order, Sym};
+use object_output::prelude::{Elf, Item};
 use readelf_rows::Table;
-use section_data::Item;
 use tool_output::Stop;
 
 /// The bytes of a table of relocations, of the symbols that it names and of their names.

@@ -16,7 +16,7 @@ use crate::relocation_lines::{Entry, RelocationLine};
 use bytes_at_hand::{item_of, most_items, string_from};
 use elf_outside::Sink;
 use elf_types::{ElfError, List, Rel, Rela, Sym};
-use section_data::Item;
+use object_output::prelude::Item;
 use std::alloc::Global;
 use tool_output::{Outputs, Stop};
 

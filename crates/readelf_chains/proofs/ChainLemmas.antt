@@ -10,10 +10,10 @@ use Rattle.elf_outside.specs.declared.sinks.Sink.{Ghosts as SinkGhosts}
 use Rattle.elf_object.specs.Words.{Wants, Answers, IsLike, AlikeBytes}
 use Rattle.elf_object.specs.Object.{Object}
 use Rattle.elf_object.specs.Answers.{count_at, lend_refusal}
-use Rattle.gelf_view.proofs.PieceBytes.{bytes_count}
-use Rattle.elf_descriptor.specs.State.{State}
-use Rattle.gelf_view.specs.Calls.{first_place, first_entry_answer, bytes_answer}
-use Rattle.gelf_view.specs.Chains.{Chain, ended, broken, leading}
+use Rattle.object_output.proofs.gelf_view.PieceBytes.{bytes_count}
+use Rattle.object_output.specs.elf_descriptor.State.{State}
+use Rattle.object_output.specs.gelf_view.Calls.{first_place, first_entry_answer, bytes_answer}
+use Rattle.object_output.specs.gelf_view.Chains.{Chain, ended, broken, leading}
 use Rattle.tool_output.specs.declared.stops.Stop.{Stop}
 use Rattle.tool_output.specs.declared.outputs.Outputs.{Outputs}
 use Rattle.tool_output.specs.Names.{Name}

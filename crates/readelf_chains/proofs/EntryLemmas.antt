@@ -4,7 +4,7 @@ use Rattle.std.specs.Prelude.{if◌then◌else◌, IsTrue}
 use Rattle.elf_outside.specs.declared.sources.Source.{Ghosts as SourceGhosts}
 use Rattle.elf_outside.specs.declared.sinks.Sink.{Ghosts as SinkGhosts}
 use Rattle.elf_object.specs.Object.{Object}
-use Rattle.elf_descriptor.specs.State.{State}
+use Rattle.object_output.specs.elf_descriptor.State.{State}
 use Rattle.tool_output.specs.declared.stops.Stop.{Stop}
 use Rattle.tool_output.specs.declared.outputs.Outputs.{Outputs}
 use Rattle.object_output.specs.Steps.{LeavesElf, ReportsElf, ElfUnderWay}
@@ -12,7 +12,7 @@ use Rattle.object_output.proofs.ElfSteps.{elf_goes_on, elf_stops_at, elf_after}
 use Rattle.readelf_chains.proofs.ChainLemmas.{at_start, elf_ends_with}
 use Rattle.elf_types.specs.declared.errors.ElfError.{ElfError}
 use Rattle.elf_types.specs.Text.{error_text}
-use Rattle.gelf_view.specs.Chains.{Chain, ended, broken, leading, entry_then, next_place}
+use Rattle.object_output.specs.gelf_view.Chains.{Chain, ended, broken, leading, entry_then, next_place}
 use Rattle.tool_output.specs.Names.{Name}
 use Rattle.tool_output.specs.Messages.{in_section}
 use Rattle.tool_output.specs.Reports.{Report, no_report, joined}

@@ -4,9 +4,9 @@ use Rattle.std.specs.Prelude.{take_while, if◌then◌else◌}
 use Rattle.std.proofs.lemmas.List.Sums.{take_while-cons}
 use Rattle.elf_object.specs.Object.{Object}
 use Rattle.elf_object.specs.Strings.{has_nul}
-use Rattle.gelf_view.specs.Records.{string_front}
-use Rattle.gelf_view.specs.declared.notes.NoteAt.{NoteAt}
-use Rattle.gelf_view.specs.Chains.{notes, ended, broken, leading}
+use Rattle.object_output.specs.gelf_view.Records.{string_front}
+use Rattle.object_output.specs.gelf_view.declared.notes.NoteAt.{NoteAt}
+use Rattle.object_output.specs.gelf_view.Chains.{notes, ended, broken, leading}
 use Rattle.elf_types.specs.declared.errors.ElfError.{ElfError}
 use Rattle.elf_types.specs.Text.{error_text}
 use Rattle.tool_output.specs.Names.{Name}

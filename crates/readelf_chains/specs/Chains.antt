@@ -8,8 +8,8 @@ use Rattle.elf_types.specs.Text.{error_text}
 use Rattle.elf_object.specs.Object.{Object}
 use Rattle.elf_object.specs.Answers.{bytes_of, items_at, lend_refusal}
 use Rattle.elf_object.specs.Strings.{section_name}
-use Rattle.gelf_view.specs.Calls.{first_place}
-use Rattle.gelf_view.specs.Chains.{Chain}
+use Rattle.object_output.specs.gelf_view.Calls.{first_place}
+use Rattle.object_output.specs.gelf_view.Chains.{Chain}
 use Rattle.tool_output.specs.Names.{Name}
 use Rattle.tool_output.specs.Messages.{in_section}
 use Rattle.tool_output.specs.Reports.{Report, no_report, shown, joined, reports_of}

@@ -1,9 +1,9 @@
 -- The lines of the version definitions (the part `V`), a format of GNU.
 use Rattle.std.specs.Prelude.{◌++◌, ℕ, List, Option, codes}
 use Rattle.elf_object.specs.Object.{Object}
-use Rattle.gelf_view.specs.declared.versions.Verdef.{Verdef}
-use Rattle.gelf_view.specs.declared.versions.Verdaux.{Verdaux}
-use Rattle.gelf_view.specs.Chains.{verdefs, verdauxs, first_aux}
+use Rattle.object_output.specs.gelf_view.declared.versions.Verdef.{Verdef}
+use Rattle.object_output.specs.gelf_view.declared.versions.Verdaux.{Verdaux}
+use Rattle.object_output.specs.gelf_view.Chains.{verdefs, verdauxs, first_aux}
 use Rattle.tool_output.specs.Names.{Name}
 use Rattle.tool_output.specs.Reports.{Report}
 use Rattle.object_output.specs.Sections.{bracketed}

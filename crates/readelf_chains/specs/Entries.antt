@@ -1,8 +1,8 @@
 -- The entries of a section of version definitions or needs, each with its list of names.
 use Rattle.std.specs.Prelude.{ℕ, List, [], ◌∷◌, length, Option, Some, None, if◌then◌else◌}
 use Rattle.elf_object.specs.Object.{Object}
-use Rattle.gelf_view.specs.Calls.{first_place}
-use Rattle.gelf_view.specs.Chains.{Chain, ended}
+use Rattle.object_output.specs.gelf_view.Calls.{first_place}
+use Rattle.object_output.specs.gelf_view.Chains.{Chain, ended}
 use Rattle.tool_output.specs.Names.{Name}
 use Rattle.tool_output.specs.Reports.{Report, no_report, shown, joined}
 use Rattle.readelf_chains.specs.Chains.{bad_report, chain_report, section_bytes}

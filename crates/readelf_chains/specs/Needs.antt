@@ -1,9 +1,9 @@
 -- The lines of the version needs (the part `V`), a format of GNU.
 use Rattle.std.specs.Prelude.{◌++◌, ℕ, List, Option, codes}
 use Rattle.elf_object.specs.Object.{Object}
-use Rattle.gelf_view.specs.declared.versions.Verneed.{Verneed}
-use Rattle.gelf_view.specs.declared.versions.Vernaux.{Vernaux}
-use Rattle.gelf_view.specs.Chains.{verneeds, vernauxs, first_aux}
+use Rattle.object_output.specs.gelf_view.declared.versions.Verneed.{Verneed}
+use Rattle.object_output.specs.gelf_view.declared.versions.Vernaux.{Vernaux}
+use Rattle.object_output.specs.gelf_view.Chains.{verneeds, vernauxs, first_aux}
 use Rattle.tool_output.specs.Names.{Name}
 use Rattle.tool_output.specs.Reports.{Report}
 use Rattle.object_output.specs.Sections.{bracketed}

@@ -3,8 +3,8 @@ use Rattle.std.specs.Prelude.{◌++◌, ◌==◌, ℕ, List, [], ◌∷◌, take
 use Rattle.elf_types.specs.declared.constants.TheConstants.{SHT_NOTE}
 use Rattle.elf_types.specs.Text.{hex}
 use Rattle.elf_object.specs.Object.{Object}
-use Rattle.gelf_view.specs.declared.notes.NoteAt.{NoteAt}
-use Rattle.gelf_view.specs.Chains.{notes}
+use Rattle.object_output.specs.gelf_view.declared.notes.NoteAt.{NoteAt}
+use Rattle.object_output.specs.gelf_view.Chains.{notes}
 use Rattle.tool_output.specs.Names.{Name}
 use Rattle.tool_output.specs.Reports.{Report, shown}
 use Rattle.readelf_rows.specs.Fields.{decimal_column}

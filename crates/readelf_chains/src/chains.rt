@@ -14,10 +14,9 @@ ghost use Rattle.object_output.specs.Steps.{ReportsElf};
 ghost use Rattle.readelf_rows.specs.Data.{refused};
 ghost use Rattle.readelf_chains.specs.Chains.{HasRecords, chain_title, chain_lines, bytes_report};
 
-use elf_descriptor::Elf;
 use elf_outside::{Sink, Source};
 use elf_types::{DataId, ElfError, Octets, ScnId, put_text};
-use gelf_view::first_entry;
+use object_output::prelude::{Elf, first_entry};
 use object_output::section_name;
 use readelf_rows::put_data_title;
 use tool_output::{FileName, InSection, Line, Message, Outputs, Stop};

@@ -6,11 +6,10 @@ ghost use Rattle.readelf_chains.specs.Definitions.{verdef_line, verdaux_line, ve
 
 use crate::chains::{Records, show_records};
 use crate::entries::{Aux, Entry, show_entries, show_names};
-use elf_descriptor::Elf;
 use elf_outside::{Sink, Source};
 use elf_types::{ElfError, Octets, ScnId, put_text};
-use gelf_view::{Verdaux, Verdef};
 use object_output::Bracketed;
+use object_output::prelude::{Elf, Verdaux, Verdef};
 use readelf_rows::{links_of, put_decimal_column, put_hex_column};
 use tool_output::{FileName, Line, Outputs, Stop};
 

@@ -13,10 +13,9 @@ ghost use Rattle.readelf_chains.specs.Chains.{chain_report};
 ghost use Rattle.readelf_chains.specs.Entries.{entries_by, entries_report};
 
 use crate::chains::refuse_records;
-use elf_descriptor::Elf;
 use elf_outside::{Sink, Source};
 use elf_types::{DataId, ElfError, Octets, ScnId};
-use gelf_view::{AuxPlace, VersionEntry, VersionName};
+use object_output::prelude::{AuxPlace, Elf, VersionEntry, VersionName};
 use object_output::string_at;
 use tool_output::{FileName, Line, Outputs, Stop};
 

@@ -10,10 +10,9 @@ ghost use Rattle.readelf_chains.specs.Needs.{verneed_line, vernaux_numbers, vern
 
 use crate::chains::{Records, show_records};
 use crate::entries::{Aux, Entry, show_entries, show_names};
-use elf_descriptor::Elf;
 use elf_outside::{Sink, Source};
 use elf_types::{ElfError, Octets, ScnId, put_text};
-use gelf_view::{Vernaux, Verneed};
+use object_output::prelude::{Elf, Vernaux, Verneed};
 use object_output::{Bracketed, string_at};
 use readelf_rows::{links_of, put_decimal_column, put_hex_column};
 use tool_output::{FileName, Line, Outputs, Stop};

@@ -6,9 +6,9 @@ ghost use Rattle.elf_types.specs.Writers.{WantsMemory};
 ghost use Rattle.object_output.specs.Steps.{ReportsOver};
 ghost use Rattle.readelf_headers.specs.Sections.{section_start, section_places, section_numbers, section_line, sections_title, section_row, sections_report};
 
-use elf_descriptor::Elf;
 use elf_outside::{Sink, Source};
 use elf_types::{ElfError, Octets, ScnId, Shdr, put_text, section_type_name};
+use object_output::prelude::Elf;
 use object_output::{Bracketed, SectionTool, each_section, section_header, section_name};
 use readelf_rows::{
     put_counted_line, put_decimal_column, put_hex_column, put_name_or_hex, put_row_start,

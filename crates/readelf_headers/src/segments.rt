@@ -7,13 +7,13 @@ ghost use Rattle.tool_output.specs.Reports.{Reports, shown};
 ghost use Rattle.tool_output.specs.Steps.{LeavesOutputs};
 ghost use Rattle.readelf_headers.specs.Segments.{flag_letter, other_flags, flags_text, flags_column, segment_start, segment_places, segment_sizes, segment_end, phdr_line, count_line, segments_report};
 
-use elf_descriptor::Elf;
 use elf_outside::{Sink, Source};
 use elf_types::constants::{PF_R, PF_W, PF_X};
 use elf_types::{
     ElfError, Octets, Phdr, put_bytes, put_decimal, put_hex, put_text, segment_type_name,
 };
 use object_output::phdr_at;
+use object_output::prelude::Elf;
 use readelf_rows::{put_hex_column, put_name_or_hex};
 use tool_output::{Line, Outputs, Stop};
 

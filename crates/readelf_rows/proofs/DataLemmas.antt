@@ -5,10 +5,10 @@ use Rattle.elf_types.specs.declared.errors.ElfError.{ElfError}
 use Rattle.elf_types.specs.declared.errors.ElfError.TheVariants.{OutOfFile}
 use Rattle.elf_types.specs.Text.{error_text}
 use Rattle.elf_types.specs.Kinds.{is_compressed}
-use Rattle.elf_object.specs.Object.{Object, section_at}
-use Rattle.tool_output.specs.Names.{Name}
-use Rattle.tool_output.specs.Messages.{in_section}
-use Rattle.tool_output.specs.Reports.{Report, no_report}
+use Rattle.object_output.specs.elf_object.Object.{Object, section_at}
+use Rattle.object_output.specs.tool_output.Names.{Name}
+use Rattle.object_output.specs.tool_output.Messages.{in_section}
+use Rattle.object_output.specs.tool_output.Reports.{Report, no_report}
 use Rattle.object_output.specs.Sections.{report_if}
 use Rattle.readelf_rows.specs.Data.{refused, if_plain, if_told, plain_report}
 

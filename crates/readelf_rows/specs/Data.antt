@@ -5,11 +5,11 @@ use Rattle.elf_types.specs.declared.errors.ElfError.{ElfError}
 use Rattle.elf_types.specs.declared.errors.ElfError.TheVariants.{OutOfFile}
 use Rattle.elf_types.specs.Text.{error_text}
 use Rattle.elf_types.specs.Kinds.{is_compressed}
-use Rattle.elf_object.specs.Object.{Object, section_at}
-use Rattle.elf_object.specs.Due.{all_sections}
-use Rattle.tool_output.specs.Names.{Name}
-use Rattle.tool_output.specs.Messages.{in_section}
-use Rattle.tool_output.specs.Reports.{Report, refusal_report, reports_of}
+use Rattle.object_output.specs.elf_object.Object.{Object, section_at}
+use Rattle.object_output.specs.elf_object.Due.{all_sections}
+use Rattle.object_output.specs.tool_output.Names.{Name}
+use Rattle.object_output.specs.tool_output.Messages.{in_section}
+use Rattle.object_output.specs.tool_output.Reports.{Report, refusal_report, reports_of}
 use Rattle.object_output.specs.Sections.{bracketed, report_if}
 
 -- ---- What stands in place of the lines

@@ -1,8 +1,8 @@
 -- The sections that the rows of a table name (gABI chapter 4, "Sections", sh_link): the strings of
 -- symbols and of dynamic entries stand in the linked section, and the symbols of relocations too.
 use Rattle.std.specs.Prelude.{◌≡◌, ℕ, List, Option}
-use Rattle.elf_object.specs.Object.{Object, section_at}
-use Rattle.elf_object.specs.Strings.{string_answer, readable}
+use Rattle.object_output.specs.elf_object.Object.{Object, section_at}
+use Rattle.object_output.specs.elf_object.Strings.{string_answer, readable}
 use Rattle.readelf_rows.specs.declared.links.Links.{Links}
 
 -- those of a section are its link and the link of that one

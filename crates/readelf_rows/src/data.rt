@@ -4,17 +4,17 @@
 ghost use Rattle.std.specs.Prelude.{◌≡◌, ◌++◌, ◌==◌, ◌<◌, ℕ, Bool as TheBool, length, OnOk, IfErr};
 ghost use Rattle.std.specs.Option.{option_copied};
 ghost use Rattle.elf_types.specs.Writers.{WantsMemory};
-ghost use Rattle.elf_object.specs.Object.{Object, section_at};
-ghost use Rattle.tool_output.specs.Names.{Name};
-ghost use Rattle.tool_output.specs.Reports.{Report};
+ghost use Rattle.object_output.specs.elf_object.Object.{Object, section_at};
+ghost use Rattle.object_output.specs.tool_output.Names.{Name};
+ghost use Rattle.object_output.specs.tool_output.Reports.{Report};
 ghost use Rattle.object_output.specs.Steps.{ReportsElf, ReportsOver};
 ghost use Rattle.readelf_rows.specs.Data.{if_plain, plain_report, each_plain, data_title};
 
-use elf_descriptor::Elf;
-use elf_outside::{Sink, Source};
 use elf_types::{ElfError, Octets, ScnId, is_compressed, put_decimal, put_text};
+use object_output::prelude::{
+    Elf, FileName, InSection, Line, Message, Outputs, Sink, Source, Stop,
+};
 use object_output::{Bracketed, SectionTool, each_section, is_out, section_header};
-use tool_output::{FileName, InSection, Line, Message, Outputs, Stop};
 
 /// What is said of the data of the sections of some types.
 ///

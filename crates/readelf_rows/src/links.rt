@@ -1,12 +1,11 @@
 //! The sections that the rows of a table name, looked for once a table.
 
 ghost use Rattle.std.specs.Prelude.{◌≡◌, ◌<◌, length};
-ghost use Rattle.elf_object.specs.Object.{section_at};
+ghost use Rattle.object_output.specs.elf_object.Object.{section_at};
 ghost use Rattle.readelf_rows.specs.Links.{AreLinks};
 
-use elf_descriptor::Elf;
-use elf_outside::Source;
 use elf_types::ScnId;
+use object_output::prelude::{Elf, Source};
 use object_output::section_header;
 
 /// The sections that the rows of a table name.
@@ -32,7 +31,7 @@ pub struct Table {
 }
 
 /// The section to which a section links, or 0 where it is not there.
-#[tactic(auto, unfolding(elf_object::specs::Calls::shdr_answer))]
+#[tactic(auto, unfolding(object_output::specs::Passed::shdr_answer))]
 fn link_of<S: Source>(elf: &Elf<S>, s: ScnId) -> u32
     ensures { result ≡ (section_at elf.now.o s.0).header.link }
 {

@@ -2,7 +2,7 @@
 use Rattle.std.proofs.Common.{◌≡◌, ◌++◌, ◌∷◌, [], ℕ, List, Option, Some, None, sym, ap, ◌∙◌, append_assoc}
 use Rattle.std.specs.Prelude.{codes}
 use Rattle.elf_types.specs.declared.records.Sym.{Sym}
-use Rattle.gelf_view.specs.declared.symbols.SymPlace.{SymPlace}
+use Rattle.object_output.specs.gelf_view.declared.symbols.SymPlace.{SymPlace}
 use Rattle.object_output.specs.Sections.{bracketed}
 use Rattle.readelf_symbols.specs.SymbolLines.{place_text, symbol_start, symbol_names, symbol_end, symbol_line}
 use Rattle.readelf_symbols.specs.Fronts.{symbol_front}

@@ -1,7 +1,7 @@
 -- Texts that are written from their end into a buffer, and the text before the name of a symbol.
 use Rattle.std.specs.Prelude.{◌≡◌, ◌+◌, ◌++◌, ℕ, List, length, drop, Option, codes}
 use Rattle.elf_types.specs.declared.records.Sym.{Sym}
-use Rattle.gelf_view.specs.declared.symbols.SymPlace.{SymPlace}
+use Rattle.object_output.specs.gelf_view.declared.symbols.SymPlace.{SymPlace}
 use Rattle.readelf_symbols.specs.SymbolLines.{symbol_start, symbol_names, place_text}
 
 -- A text was written before the place `end`: it begins at `at`, and what stood from `end` on still

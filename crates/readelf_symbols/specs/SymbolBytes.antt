@@ -5,10 +5,10 @@ use Rattle.elf_types.specs.declared.records.Kind.TheVariants as kinds
 use Rattle.elf_types.specs.declared.records.Sym.{Sym}
 use Rattle.elf_types.specs.declared.constants.TheConstants.{SHN_LORESERVE, SHN_XINDEX}
 use Rattle.elf_object.specs.Answers.{syms_of}
-use Rattle.elf_descriptor.specs.State.{State}
-use Rattle.gelf_view.specs.Records.{string_front}
-use Rattle.gelf_view.specs.declared.symbols.SymPlace.{SymPlace}
-use Rattle.gelf_view.specs.declared.symbols.SymPlace.TheVariants.{Special, Section}
+use Rattle.object_output.specs.elf_descriptor.State.{State}
+use Rattle.object_output.specs.gelf_view.Records.{string_front}
+use Rattle.object_output.specs.gelf_view.declared.symbols.SymPlace.{SymPlace}
+use Rattle.object_output.specs.gelf_view.declared.symbols.SymPlace.TheVariants.{Special, Section}
 use Rattle.bytes_at_hand.specs.Items.{AreItems, held_items}
 use Rattle.bytes_at_hand.specs.Strings.{HoldsStrings}
 use Rattle.readelf_rows.specs.declared.links.Table.{Table}

@@ -4,8 +4,8 @@ use Rattle.elf_types.specs.declared.records.Sym.{Sym}
 use Rattle.elf_types.specs.declared.constants.TheConstants.{SHN_UNDEF, SHN_ABS, SHN_COMMON}
 use Rattle.elf_types.specs.Names.{symbol_type_name_of, binding_name_of, visibility_name_of}
 use Rattle.elf_types.specs.Text.{hex}
-use Rattle.gelf_view.specs.declared.symbols.SymPlace.{SymPlace}
-use Rattle.gelf_view.specs.declared.symbols.SymPlace.TheVariants.{Special, Section}
+use Rattle.object_output.specs.gelf_view.declared.symbols.SymPlace.{SymPlace}
+use Rattle.object_output.specs.gelf_view.declared.symbols.SymPlace.TheVariants.{Special, Section}
 use Rattle.object_output.specs.Sections.{bracketed}
 use Rattle.readelf_rows.specs.Fields.{hex_column, decimal_column, name_column, row_start}
 

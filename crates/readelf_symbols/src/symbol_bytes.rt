@@ -14,11 +14,10 @@ ghost use Rattle.readelf_symbols.specs.SymbolBytes.{plain_place, bytes_row, symb
 
 use crate::symbol_lines::SymbolLine;
 use bytes_at_hand::{ItemBytes, item_of, items_at_hand, most_items, string_bytes, string_from};
-use elf_descriptor::Elf;
 use elf_outside::{Sink, Source};
 use elf_types::Sym;
 use elf_types::constants::{SHN_LORESERVE, SHN_XINDEX};
-use gelf_view::SymPlace;
+use object_output::prelude::{Elf, SymPlace};
 use readelf_rows::Table;
 use tool_output::{Outputs, Stop};
 

@@ -17,7 +17,7 @@ use elf_types::{
     ElfError, Octets, Sym, bind, binding_name, put_bytes, put_text, stt, symbol_type_name, vis,
     visibility_name,
 };
-use gelf_view::SymPlace;
+use object_output::prelude::SymPlace;
 use tool_output::Line;
 
 /// What stands before the name of a symbol takes at most so many bytes.

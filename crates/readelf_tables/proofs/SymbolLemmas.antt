@@ -14,9 +14,9 @@ use Rattle.elf_object.specs.Answers.{items_at, syms_of}
 use Rattle.elf_object.specs.Calls.{word_answer}
 use Rattle.elf_object.specs.Strings.{string_answer, symbol_name, readable}
 use Rattle.elf_object.specs.SymbolSections.{shndx_table, extended_index, place_of_symbol}
-use Rattle.elf_descriptor.specs.State.{State}
-use Rattle.gelf_view.specs.declared.symbols.SymPlace.{SymPlace}
-use Rattle.gelf_view.specs.declared.symbols.SymPlace.TheVariants.{Special, Section}
+use Rattle.object_output.specs.elf_descriptor.State.{State}
+use Rattle.object_output.specs.gelf_view.declared.symbols.SymPlace.{SymPlace}
+use Rattle.object_output.specs.gelf_view.declared.symbols.SymPlace.TheVariants.{Special, Section}
 use Rattle.tool_output.specs.Lines.{numbered_lines}
 use Rattle.tool_output.specs.Reports.{shown}
 use Rattle.object_output.specs.Answers.{value_of}

@@ -6,7 +6,7 @@ use Rattle.elf_types.specs.declared.constants.TheConstants.{SHT_SYMTAB, SHT_DYNS
 use Rattle.elf_object.specs.Object.{Object}
 use Rattle.elf_object.specs.Answers.{items_at, syms_of, lend_refusal}
 use Rattle.elf_object.specs.Strings.{symbol_name}
-use Rattle.gelf_view.specs.Calls.{IsTable}
+use Rattle.object_output.specs.gelf_view.Calls.{IsTable}
 use Rattle.tool_output.specs.Names.{Name}
 use Rattle.tool_output.specs.Reports.{Report}
 use Rattle.object_output.specs.Symbols.{symbol_place}

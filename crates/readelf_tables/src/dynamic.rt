@@ -10,10 +10,10 @@ ghost use Rattle.readelf_rows.specs.Links.{AreLinks};
 ghost use Rattle.readelf_tables.specs.Dynamic.{names_string, dyn_start, dyn_name_line, dyn_value_line, dyn_row, dynamic_title, dynamic_of_section, holds_dynamic, dynamic_report};
 
 use crate::tables::{Row, Rows, show_each, show_table};
-use elf_descriptor::Elf;
 use elf_outside::{Sink, Source};
 use elf_types::constants::SHT_DYNAMIC;
 use elf_types::{Dyn, ElfError, Octets, ScnId, put_hex, put_text, tag_name};
+use object_output::prelude::Elf;
 use object_output::{Bracketed, string_at};
 use readelf_rows::{
     Links, SectionPart, Table, each_plain, links_of, put_name_or_hex, put_row_start,

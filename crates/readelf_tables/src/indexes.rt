@@ -9,9 +9,9 @@ ghost use Rattle.readelf_tables.specs.Constants.{index_bits};
 ghost use Rattle.readelf_tables.specs.Indexes.{hidden_text, index_line, index_row, indexes_title, indexes_of_section};
 
 use crate::tables::{Row, Rows, show_each, show_table};
-use elf_descriptor::Elf;
 use elf_outside::{Sink, Source};
 use elf_types::{ElfError, Octets, ScnId, put_text};
+use object_output::prelude::Elf;
 use readelf_rows::{Links, Table, links_of, put_decimal_column, put_row_start};
 use tool_output::{FileName, Line, Outputs, Stop};
 

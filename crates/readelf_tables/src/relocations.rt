@@ -14,11 +14,10 @@ ghost use Rattle.readelf_tables.specs.Tables.{HasRows};
 ghost use Rattle.readelf_tables.specs.Relocations.{rel_row, rela_row, relocations_title, rels_of_section, relas_of_section, relocations_of_section, holds_relocations, relocations_report};
 
 use crate::tables::{Row, Rows, show_each, show_table};
-use elf_descriptor::Elf;
 use elf_outside::{Sink, Source};
 use elf_types::constants::{SHT_REL, SHT_RELA};
 use elf_types::{DataId, Rel, Rela, ScnId, Sym};
-use gelf_view::sym;
+use object_output::prelude::{Elf, sym};
 use object_output::string_at;
 use readelf_blocks::{Entry, Relocation, RelocationLine, load_table, show_blocks, table_at_hand};
 use readelf_rows::{Links, SectionPart, Table, each_plain, is_of_type, links_of};

@@ -17,11 +17,10 @@ ghost use Rattle.readelf_tables.specs.Symbols.{SymbolsFit, symbol_row, symbols_t
 
 use crate::tables::{Row, Rows, show_table};
 use bytes_at_hand::{is_past, load, strings_end};
-use elf_descriptor::Elf;
 use elf_outside::{Sink, Source};
 use elf_types::constants::{SHT_DYNSYM, SHT_SYMTAB};
 use elf_types::{DataId, ScnId, Sym};
-use gelf_view::{SymPlace, shndx_table};
+use object_output::prelude::{Elf, SymPlace, shndx_table};
 use object_output::{item_there, string_at, symbol_place};
 use readelf_rows::{Links, SectionPart, Table, each_plain, links_of};
 use readelf_symbols::{SymbolLine, show_symbol_bytes, symbols_at_hand};

@@ -15,13 +15,11 @@ ghost use Rattle.readelf_rows.specs.declared.links.Links.{Links as TheLinks};
 ghost use Rattle.readelf_rows.specs.Data.{if_told};
 ghost use Rattle.readelf_tables.specs.Tables.{table_title, table_lines, row_at, HasRows};
 
-use elf_descriptor::Elf;
 use elf_outside::{Sink, Source};
 use elf_types::{DataId, ElfError, Octets, ScnId, put_decimal, put_text};
-use gelf_view::item_count;
+use object_output::prelude::{Elf, Item, item_count};
 use object_output::{item_there, section_name};
 use readelf_rows::{Links, Table, put_data_title};
-use section_data::Item;
 use tool_output::{FileName, Line, Message, Outputs, Stop};
 
 /// An item that has a row in a table.

@@ -7,8 +7,8 @@ ghost use Rattle.object_output.specs.Shows.{ShowsOver};
 ghost use Rattle.readelf_tool.specs.Parts.{is_asked, reads_sections, letter_report, letter_part, readelf_report, shows_sections, goes_over, passes_of, readelf_looks};
 
 use crate::versions::show_versions;
-use elf_descriptor::Elf;
 use elf_outside::{Sink, Source};
+use object_output::prelude::Elf;
 use object_output::{ObjectTool, show_object};
 use readelf_chains::show_notes;
 use readelf_headers::{show_header, show_sections, show_segments};

@@ -5,10 +5,10 @@ ghost use Rattle.std.specs.Prelude.{◌<◌};
 ghost use Rattle.object_output.specs.Steps.{ReportsOver};
 ghost use Rattle.readelf_tool.specs.Versions.{versions_of_section, holds_versions, versions_report};
 
-use elf_descriptor::Elf;
 use elf_outside::{Sink, Source};
 use elf_types::ScnId;
 use elf_types::constants::{SHT_GNU_VERDEF, SHT_GNU_VERNEED, SHT_GNU_VERSYM};
+use object_output::prelude::Elf;
 use readelf_chains::{show_definitions, show_needs};
 use readelf_rows::{SectionPart, each_plain, is_of_type};
 use readelf_tables::show_indexes;

@@ -17,10 +17,10 @@ use Rattle.elf_object.specs.Calls.{Call, data_answer, replace_refusal, unfit_ite
 use Rattle.elf_object.specs.Calls as calls
 use Rattle.elf_object.proofs.AnswerLaws.{answered_refusal}
 use Rattle.elf_object.proofs.RefusalLaws.{Refuses, test_refuses, first_refuses}
-use Rattle.elf_descriptor.specs.State.{State}
-use Rattle.elf_descriptor.specs.Edits.{stepped}
-use Rattle.elf_descriptor.specs.Reads.{Looks}
-use Rattle.elf_descriptor.specs.Rests.{GivesItems}
+use Rattle.object_writing.specs.elf_descriptor.State.{State}
+use Rattle.object_writing.specs.elf_descriptor.Edits.{stepped}
+use Rattle.object_writing.specs.elf_descriptor.Reads.{Looks}
+use Rattle.object_writing.specs.elf_descriptor.Rests.{GivesItems}
 use Rattle.elf_object.specs.Sections.{edited}
 use Rattle.hash_model.specs.BuiltHashes.{hash_refusal, gnu_order_answer}
 use Rattle.hash_model.specs.Listed.{listed_names}

@@ -12,8 +12,8 @@ use Rattle.elf_object.specs.Answers.{part_refusal}
 use Rattle.elf_object.specs.Steps.{with_layout, with_flags}
 use Rattle.elf_object.specs.Calls.{flag_refusal}
 use Rattle.elf_object.specs.Calls as calls
-use Rattle.elf_descriptor.specs.State.{State}
-use Rattle.elf_descriptor.specs.Edits.{flagged}
+use Rattle.object_writing.specs.elf_descriptor.State.{State}
+use Rattle.object_writing.specs.elf_descriptor.Edits.{flagged}
 use Rattle.command_objects.specs.Rehashed.{dynamic_symbols, gnu_section, sysv_section, laid_out, or_fault, RehashFault, rehashed, rehashed_at}
 use Rattle.command_objects.specs.Rehashed.RehashFault.{NoDynamicHash, Refused}
 use Rattle.rehash_tool.specs.Steps.{both_hashes, Turns}

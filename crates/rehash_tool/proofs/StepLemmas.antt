@@ -9,8 +9,8 @@ use Rattle.elf_outside.specs.Asks.{ReadRose}
 use Rattle.elf_outside.proofs.AskLemmas.{read_rose_before, read_rose_on}
 use Rattle.elf_object.specs.Words.{Wants, Answers, AnswersRead, Refusals}
 use Rattle.elf_object.specs.Object.{Object}
-use Rattle.elf_descriptor.specs.State.{State}
-use Rattle.elf_descriptor.specs.Reads.{Reads}
+use Rattle.object_writing.specs.elf_descriptor.State.{State}
+use Rattle.object_writing.specs.elf_descriptor.Reads.{Reads}
 use Rattle.rehash_tool.specs.Steps.{Keeps, Gives, Turns, IsTurned}
 
 -- ---- Answers

@@ -7,7 +7,7 @@ use Rattle.elf_outside.specs.declared.sources.Source.{Ghosts as SourceGhosts}
 use Rattle.elf_outside.specs.declared.sinks.Sink.{Ghosts as SinkGhosts}
 use Rattle.elf_outside.specs.declared.file_sets.Files.{Ghosts as FilesGhosts}
 use Rattle.elf_object.specs.Object.{Object}
-use Rattle.elf_descriptor.specs.State.{State}
+use Rattle.object_writing.specs.elf_descriptor.State.{State}
 use Rattle.command_objects.specs.Rehashed.{RehashFault, rehashed}
 use Rattle.command_objects.specs.Rehashed.RehashFault.{Refused}
 use Rattle.tool_output.specs.declared.stops.Stop.{Stop}
@@ -16,8 +16,8 @@ use Rattle.tool_output.specs.Steps.{LeavesOutputs}
 use Rattle.tool_output.specs.Names.{file_name}
 use Rattle.tool_output.specs.Reports.{Reports, refusal_report}
 use Rattle.tool_output.specs.Made.{Done, Complaint, complaint, written_outcome}
-use Rattle.object_output.specs.Refusals.{Refuses}
-use Rattle.object_output.specs.Steps.{SourceRose}
+use Rattle.command_outcomes.specs.object_output.Refusals.{Refuses}
+use Rattle.command_outcomes.specs.object_output.Steps.{SourceRose}
 use Rattle.command_outcomes.specs.Copy.{rehash_text}
 use Rattle.object_writing.specs.Writes.{WritesFile}
 use Rattle.object_writing.proofs.WriteLemmas.{outputs_leave, said_done, refused_writes, written_then}

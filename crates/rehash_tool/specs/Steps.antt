@@ -8,7 +8,7 @@ use Rattle.elf_outside.specs.Asks.{Leaves, ReadRose}
 use Rattle.elf_object.specs.Object.{Object}
 use Rattle.elf_object.specs.Answers.{bytes_of, words_of}
 use Rattle.elf_object.specs.Calls.{data_answer, replace}
-use Rattle.elf_descriptor.specs.State.{State}
+use Rattle.object_writing.specs.elf_descriptor.State.{State}
 use Rattle.elf_object.specs.Sections.{edited}
 use Rattle.hash_model.specs.BuiltHashes.{GnuShape, gnu_order_answer, build_gnu_answer, build_sysv_answer}
 use Rattle.hash_model.specs.Reordered.{reordered, reorder_refusal}

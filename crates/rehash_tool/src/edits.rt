@@ -5,9 +5,9 @@ ghost use Rattle.command_objects.specs.Rehashed.{rehashed};
 ghost use Rattle.rehash_tool.specs.Writes.{rehashed_done};
 
 use crate::writing::write_rehashed;
-use elf_descriptor::Elf;
 use elf_outside::{Files, Sink, Source};
 use object_writing::ImageCommand;
+use object_writing::prelude::Elf;
 use std::alloc::Global;
 use tool_output::{Outputs, Stop};
 

@@ -4,9 +4,9 @@ ghost use Rattle.std.specs.Prelude.{◌≡◌, true};
 ghost use Rattle.elf_object.specs.Steps.{with_layout};
 ghost use Rattle.command_objects.specs.Rehashed.{laid_out};
 
-use elf_descriptor::Elf;
 use elf_outside::Source;
 use elf_types::{LAYOUT, Part};
+use object_writing::prelude::Elf;
 
 /// The layout of an object becomes the caller's.
 fn set_layout<S: Source>(elf: &mut Elf<S>)

@@ -7,9 +7,9 @@ ghost use Rattle.rehash_tool.specs.Steps.{both_hashes, words_laid_out, IsRehashe
 use crate::layouts::lay_out;
 use crate::sections::{dynamic_symbols, gnu_section, sysv_section};
 use crate::steps::{with_gnu_there, with_sysv_there};
-use elf_descriptor::Elf;
 use elf_outside::Source;
 use elf_types::{ElfError, ScnId};
+use object_writing::prelude::Elf;
 
 /// Builds the hash section of words anew, where there is one, and lays the object out.
 fn rehash_words<S: Source>(elf: &mut Elf<S>, s: ScnId, words: Option<u32>) -> Result<(), ElfError>

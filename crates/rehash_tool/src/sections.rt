@@ -8,10 +8,10 @@ ghost use Rattle.elf_object.specs.Sections.{is_of};
 ghost use Rattle.command_objects.specs.Rehashed.{dynamic_symbols, gnu_section, sysv_section};
 ghost use Rattle.rehash_tool.specs.Sections.{is_sought};
 
-use elf_descriptor::Elf;
 use elf_outside::Source;
 use elf_types::constants::{SHT_DYNSYM, SHT_GNU_HASH, SHT_HASH};
 use elf_types::{Class, Kind, ScnId, Shdr, kind_of};
+use object_writing::prelude::Elf;
 
 /// A section that rehash looks for.
 #[derive(Clone, Copy)]

@@ -11,12 +11,12 @@ ghost use Rattle.rehash_tool.specs.Sections.{IsUsable};
 ghost use Rattle.rehash_tool.specs.Steps.{kept_shape, kept_nbucket, built_gnu, sorted_gnu, shaped_gnu, built_sysv, Gives, Turns};
 
 use crate::shapes::{nbucket_of, shape_of};
-use elf_descriptor::Elf;
 use elf_outside::Source;
 use elf_types::{Class, DataId, ElfError, Order, ScnId, Words};
 use elf_xlate::Items;
 use hash_build::{GnuShape, build_gnu, build_sysv, gnu_order};
 use hash_order::reorder;
+use object_writing::prelude::Elf;
 
 // ---- What is kept
 

@@ -10,8 +10,8 @@ ghost use Rattle.rehash_tool.specs.Writes.{done_by, rehashed_done};
 ghost use Rattle.command_objects.specs.Rehashed.{rehashed};
 
 use crate::rehashing::rehash;
-use elf_descriptor::Elf;
 use elf_outside::{Files, Sink, Source};
+use object_writing::prelude::Elf;
 use object_writing::{refuse_for, write_object};
 use std::alloc::Global;
 use tool_output::{FileName, Message, Outputs, Stop};

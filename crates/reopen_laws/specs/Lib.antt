@@ -1,3 +1,4 @@
+pub use Rattle.calls_tool.specs as calls_tool
 pub mod Phdrs
 pub mod Scripts
 pub mod Written

@@ -20,11 +20,11 @@ use Rattle.tool_text.specs.declared.commands.CallsOutput.{CallsOutput}
 use Rattle.tool_text.specs.declared.commands.CallsOutput.TheVariants.{To, InPlace}
 use Rattle.object_output.specs.Images.{object_by, file_object}
 use Rattle.calls_script.specs.declared.calls.Call.{Call}
-use Rattle.calls_tool.specs.declared.scripts.BadLine.{BadLine}
-use Rattle.calls_tool.specs.Runs.{stated_calls}
-use Rattle.calls_tool.specs.Scripts.{script_calls, calls_or_text}
-use Rattle.calls_update.specs.Updates.{write_by, updated_writes, updated_outcome, updated_by}
-use Rattle.edit_commands.specs.Calls.{script_of, updated_held, updated_script, calls_update_outcome}
+use Rattle.reopen_laws.specs.calls_tool.declared.scripts.BadLine.{BadLine}
+use Rattle.reopen_laws.specs.calls_tool.Runs.{stated_calls}
+use Rattle.reopen_laws.specs.calls_tool.Scripts.{script_calls, calls_or_text}
+use Rattle.elfkit_run.specs.calls_update.Updates.{write_by, updated_writes, updated_outcome, updated_by}
+use Rattle.elfkit_run.specs.edit_commands.Calls.{script_of, updated_held, updated_script, calls_update_outcome}
 use Rattle.reopen_laws.specs.Scripts.{CallsReopen}
 use Rattle.reopen_laws.specs.Written.{reopened}
 use Rattle.run_laws.proofs.Written.{nothing_found, only_found}

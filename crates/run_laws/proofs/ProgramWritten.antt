@@ -21,14 +21,14 @@ use Rattle.tool_text.specs.declared.commands.StripOptions.{StripOptions}
 use Rattle.tool_text.specs.declared.commands.Request.{Request}
 use Rattle.tool_text.specs.declared.commands.Request.TheVariants.{Run, Tell}
 use Rattle.tool_text.specs.Reading.{reading}
-use Rattle.read_commands.specs.Objects.{objects_outcome}
-use Rattle.read_commands.specs.Readelf.{readelf_outcome}
-use Rattle.read_commands.specs.Nm.{nm_outcome}
-use Rattle.read_commands.specs.Size.{size_outcome, behind}
-use Rattle.read_commands.specs.Strings.{strings_outcome}
-use Rattle.read_commands.specs.Lines.{lines_outcome}
-use Rattle.read_commands.specs.Elflint.{elflint_outcome}
-use Rattle.edit_commands.specs.Calls.{calls_outcome}
+use Rattle.elfkit_run.specs.read_commands.Objects.{objects_outcome}
+use Rattle.elfkit_run.specs.read_commands.Readelf.{readelf_outcome}
+use Rattle.elfkit_run.specs.read_commands.Nm.{nm_outcome}
+use Rattle.elfkit_run.specs.read_commands.Size.{size_outcome, behind}
+use Rattle.elfkit_run.specs.read_commands.Strings.{strings_outcome}
+use Rattle.elfkit_run.specs.read_commands.Lines.{lines_outcome}
+use Rattle.elfkit_run.specs.read_commands.Elflint.{elflint_outcome}
+use Rattle.elfkit_run.specs.edit_commands.Calls.{calls_outcome}
 use Rattle.command_outcomes.specs.Files.{object_named, bytes_of_each}
 use Rattle.command_outcomes.specs.Strip.{or_complaint, strip_done, strip_outcome, unstrip_complaint, unstrip_done, unstrip_outcome}
 use Rattle.command_outcomes.specs.Copy.{changes_with, copy_text, copy_done, copy_outcome, rehash_text, rehash_done, rehash_outcome}

@@ -8,7 +8,7 @@ use Rattle.std.proofs.lemmas.Bool.{leb-true}
 use Rattle.std.proofs.lemmas.List.{set-get_or, length-set}
 use Rattle.std.proofs.lemmas.List.Elements.{All-nil, All-cons, All-set, All-push, All-get_or}
 use Rattle.elf_types.specs.declared.constants.TheConstants.{MAX_PIECES, MAX_PIECE_ALIGN}
-use Rattle.elf_xlate.specs.declared.content.Items.{Items}
+use Rattle.elf_object.specs.elf_xlate.declared.content.Items.{Items}
 use Rattle.elf_object.specs.Object.{Home, Piece, home_piece}
 use Rattle.elf_object.specs.Steps.{own_piece}
 use Rattle.elf_object.specs.Calls.{is_piece_align}

@@ -6,10 +6,10 @@ use Rattle.elf_types.specs.declared.records.Class.{Class}
 use Rattle.elf_types.specs.declared.records.Order.{Order}
 use Rattle.elf_types.specs.declared.records.Kind.{Kind}
 use Rattle.elf_types.specs.declared.records.Kind.TheVariants as kinds
-use Rattle.elf_xlate.specs.declared.content.Items.{Items}
-use Rattle.elf_xlate.specs.declared.content.Items.TheVariants as items
-use Rattle.elf_xlate.specs.Items.{item_size}
-use Rattle.elf_xlate.specs.Translation.{items_kind, items_count, is_whole, decoded}
+use Rattle.elf_object.specs.elf_xlate.declared.content.Items.{Items}
+use Rattle.elf_object.specs.elf_xlate.declared.content.Items.TheVariants as items
+use Rattle.elf_object.specs.elf_xlate.Items.{item_size}
+use Rattle.elf_object.specs.elf_xlate.Translation.{items_kind, items_count, is_whole, decoded}
 use Rattle.elf_object.specs.Answers.{bytes_of, entry_at}
 use Rattle.section_data.specs.Views.{CellView, IsCell}
 use Rattle.section_data.specs.Held.{piece_in, kind_in, count_in, ready, piece_holds_items, items_in, raw_items, is_at_hand, cell_is_loaded, or_empty, items_of_bytes, TellsItem}

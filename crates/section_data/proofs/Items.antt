@@ -9,11 +9,11 @@ use Rattle.elf_types.specs.declared.records.Order.{Order}
 use Rattle.elf_types.specs.declared.records.Kind.{Kind}
 use Rattle.elf_types.specs.declared.records.Kind.TheVariants as kinds
 use Rattle.elf_types.specs.declared.errors.ElfError.TheVariants.{NoEntry}
-use Rattle.elf_xlate.specs.declared.content.Items.{Items}
-use Rattle.elf_xlate.specs.Items.{item_size}
-use Rattle.elf_xlate.specs.Translation.{items_of, listed, is_whole, decoded}
-use Rattle.elf_xlate.proofs.Pieces.{length_items_of}
-use Rattle.elf_xlate.proofs.Decoded.{whole_is, item_there, item_past}
+use Rattle.elf_object.specs.elf_xlate.declared.content.Items.{Items}
+use Rattle.elf_object.specs.elf_xlate.Items.{item_size}
+use Rattle.elf_object.specs.elf_xlate.Translation.{items_of, listed, is_whole, decoded}
+use Rattle.elf_object.proofs.elf_xlate.Pieces.{length_items_of}
+use Rattle.elf_object.proofs.elf_xlate.Decoded.{whole_is, item_there, item_past}
 use Rattle.elf_object.specs.Answers.{entry_at}
 use Rattle.section_data.specs.Held.{or_empty, items_of_bytes}
 

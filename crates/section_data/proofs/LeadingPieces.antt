@@ -8,8 +8,8 @@ use Rattle.elf_types.specs.declared.records.Class.{Class}
 use Rattle.elf_types.specs.declared.records.Kind.{Kind}
 use Rattle.elf_types.specs.declared.records.Kind.TheVariants as kinds
 use Rattle.elf_types.specs.declared.constants.TheConstants.{MAX_PIECES}
-use Rattle.elf_xlate.specs.declared.content.Items.{Items}
-use Rattle.elf_xlate.specs.Translation.{items_kind, items_count, file_size}
+use Rattle.elf_object.specs.elf_xlate.declared.content.Items.{Items}
+use Rattle.elf_object.specs.elf_xlate.Translation.{items_kind, items_count, file_size}
 use Rattle.elf_object.specs.Object.{Home, Piece}
 use Rattle.elf_object.specs.Answers.{same_kind}
 use Rattle.elf_object.proofs.RunningEnds.{first_place}

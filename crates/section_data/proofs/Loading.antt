@@ -5,9 +5,9 @@ use Rattle.std.proofs.lemmas.Bool.{lt-ltb, ltb-false, eqb-true}
 use Rattle.elf_types.specs.declared.errors.ElfError.{ElfError}
 use Rattle.elf_types.specs.declared.errors.ElfError.TheVariants.{Memory, Read, OutOfFile}
 use Rattle.elf_types.specs.Answers.{answered, refused_if}
-use Rattle.elf_xlate.specs.declared.content.Items.{Items}
-use Rattle.elf_xlate.specs.declared.content.Items.TheVariants as items
-use Rattle.elf_xlate.specs.Translation.{decoded}
+use Rattle.elf_object.specs.elf_xlate.declared.content.Items.{Items}
+use Rattle.elf_object.specs.elf_xlate.declared.content.Items.TheVariants as items
+use Rattle.elf_object.specs.elf_xlate.Translation.{decoded}
 use Rattle.std.specs.Option.{option_map, option_and_then}
 use Rattle.elf_types.specs.declared.records.Class.{Class}
 use Rattle.elf_types.specs.declared.records.Order.{Order}

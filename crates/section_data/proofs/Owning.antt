@@ -9,9 +9,9 @@ use Rattle.elf_types.specs.declared.records.Kind.{Kind}
 use Rattle.elf_types.specs.declared.errors.ElfError.{ElfError}
 use Rattle.elf_types.specs.declared.errors.ElfError.TheVariants.{OutOfFile, Ragged}
 use Rattle.elf_types.specs.Answers.{refused_if, first_refusal, answered}
-use Rattle.elf_xlate.specs.declared.content.Items.{Items}
-use Rattle.elf_xlate.specs.Translation.{items_kind, decoded}
-use Rattle.elf_xlate.proofs.Decoded.{decoded_kind}
+use Rattle.elf_object.specs.elf_xlate.declared.content.Items.{Items}
+use Rattle.elf_object.specs.elf_xlate.Translation.{items_kind, decoded}
+use Rattle.elf_object.proofs.elf_xlate.Decoded.{decoded_kind}
 use Rattle.elf_object.specs.Words.{Answers}
 use Rattle.elf_object.specs.Object.{Piece, home_piece}
 use Rattle.elf_object.specs.Open.{home_bytes}

@@ -6,11 +6,11 @@ use Rattle.elf_types.specs.declared.records.Class.{Class}
 use Rattle.elf_types.specs.declared.errors.ElfError.{ElfError}
 use Rattle.elf_types.specs.declared.errors.ElfError.TheVariants.{Memory, Read, OutOfFile, Ragged}
 use Rattle.elf_types.specs.Answers.{answered, refused_if, first_refusal, IsRefusal}
-use Rattle.elf_outside.specs.Asks.{Asks}
-use Rattle.elf_outside.specs.declared.sources.Source.{Ghosts}
-use Rattle.elf_outside.proofs.AskLemmas.{read_rose_refused}
-use Rattle.elf_xlate.specs.declared.content.Items.{Items}
-use Rattle.elf_xlate.specs.Translation.{is_whole}
+use Rattle.elf_object.specs.elf_outside.Asks.{Asks}
+use Rattle.elf_object.specs.elf_outside.declared.sources.Source.{Ghosts}
+use Rattle.elf_object.proofs.elf_outside.AskLemmas.{read_rose_refused}
+use Rattle.elf_object.specs.elf_xlate.declared.content.Items.{Items}
+use Rattle.elf_object.specs.elf_xlate.Translation.{is_whole}
 use Rattle.elf_object.specs.Words.{Answers}
 use Rattle.section_data.specs.Views.{CellView}
 use Rattle.section_data.specs.Held.{piece_in, ready, piece_holds_items, is_ragged}

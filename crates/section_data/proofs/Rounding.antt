@@ -4,7 +4,7 @@ use Rattle.std.specs.Prelude.{nat_lt}
 use Rattle.std.proofs.Math.Nat.{mod-lt, mod_self, mod-eq_of_lt, mod-add-mod, add-mod-mod, div-add-mod, zero-mod}
 use Rattle.std.proofs.lemmas.Nat.{mul-mod_first}
 use Rattle.std.proofs.lemmas.Bool.{ltb-true, ltb-false}
-use Rattle.elf_layout.specs.Layout.{rounded_up}
+use Rattle.elf_object.specs.elf_layout.Layout.{rounded_up}
 
 -- ---- Multiples
 

@@ -10,9 +10,9 @@ use Rattle.std.proofs.lemmas.List.Folds.{list_all-append, list_all_more}
 use Rattle.elf_types.specs.declared.records.Class.{Class}
 use Rattle.elf_types.specs.declared.records.Kind.{Kind}
 use Rattle.elf_types.specs.declared.records.Kind.TheVariants as kinds
-use Rattle.elf_xlate.specs.declared.content.Items.{Items}
-use Rattle.elf_xlate.specs.Translation.{items_kind, items_count, file_size}
-use Rattle.elf_layout.specs.Layout.{rounded_up}
+use Rattle.elf_object.specs.elf_xlate.declared.content.Items.{Items}
+use Rattle.elf_object.specs.elf_xlate.Translation.{items_kind, items_count, file_size}
+use Rattle.elf_object.specs.elf_layout.Layout.{rounded_up}
 use Rattle.elf_object.specs.Object.{Piece, home_piece}
 use Rattle.elf_object.specs.Answers.{same_kind}
 use Rattle.section_data.specs.declared.spans.Span.{Span}

@@ -3,9 +3,9 @@ use Rattle.std.proofs.Common.{◌≡◌, ℕ, ◌+◌, ◌<◌, ◌≤◌, List,
 use Rattle.std.proofs.Math.Seq.{drop-cons}
 use Rattle.elf_types.specs.declared.records.Class.{Class}
 use Rattle.elf_types.specs.declared.records.Order.{Order}
-use Rattle.elf_xlate.specs.declared.content.Items.{Items}
-use Rattle.elf_xlate.proofs.Lengths.{length_encoded}
-use Rattle.elf_layout.specs.Layout.{rounded_up}
+use Rattle.elf_object.specs.elf_xlate.declared.content.Items.{Items}
+use Rattle.elf_object.proofs.elf_xlate.Lengths.{length_encoded}
+use Rattle.elf_object.specs.elf_layout.Layout.{rounded_up}
 use Rattle.elf_object.specs.Blocks.{stacked, last_end, block_end}
 use Rattle.elf_object.specs.Object.{Object, Piece, section_at, home_piece}
 use Rattle.elf_object.specs.Joined.{piece_bytes, aligned_pieces, piece_blocks, pieces_end}

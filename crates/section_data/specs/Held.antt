@@ -4,10 +4,10 @@ use Rattle.std.specs.Option.{option_and_then}
 use Rattle.elf_types.specs.declared.records.Class.{Class}
 use Rattle.elf_types.specs.declared.records.Order.{Order}
 use Rattle.elf_types.specs.declared.records.Kind.{Kind}
-use Rattle.elf_xlate.specs.declared.content.Items.{Items}
-use Rattle.elf_xlate.specs.declared.content.Items.TheVariants as items
-use Rattle.elf_xlate.specs.Items.{item_size}
-use Rattle.elf_xlate.specs.Translation.{decoded, items_kind, items_count, is_whole}
+use Rattle.elf_object.specs.elf_xlate.declared.content.Items.{Items}
+use Rattle.elf_object.specs.elf_xlate.declared.content.Items.TheVariants as items
+use Rattle.elf_object.specs.elf_xlate.Items.{item_size}
+use Rattle.elf_object.specs.elf_xlate.Translation.{decoded, items_kind, items_count, is_whole}
 use Rattle.elf_object.specs.Object.{Piece}
 use Rattle.elf_object.specs.Answers.{entry_at}
 use Rattle.elf_object.specs.Open.{home_bytes}

@@ -5,9 +5,9 @@ use Rattle.std.specs.Option.{option_map}
 use Rattle.std.specs.declared.alloc.Global.{Global}
 use Rattle.elf_types.specs.declared.records.Kind.TheVariants as kinds
 use Rattle.elf_types.specs.declared.constants.TheConstants.{MAX_PIECES}
-use Rattle.elf_xlate.specs.declared.content.Items.{Items}
-use Rattle.elf_xlate.specs.declared.content.Items.TheVariants.{Bytes}
-use Rattle.elf_xlate.specs.Translation.{items_kind}
+use Rattle.elf_object.specs.elf_xlate.declared.content.Items.{Items}
+use Rattle.elf_object.specs.elf_xlate.declared.content.Items.TheVariants.{Bytes}
+use Rattle.elf_object.specs.elf_xlate.Translation.{items_kind}
 use Rattle.elf_object.specs.Object.{Home, Piece}
 use Rattle.elf_object.specs.Answers.{bytes_of}
 use Rattle.section_data.specs.declared.held.HomeItems.{HomeItems}

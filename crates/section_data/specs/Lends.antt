@@ -8,8 +8,8 @@ use Rattle.elf_types.specs.declared.records.Class.{Class}
 use Rattle.elf_types.specs.declared.records.Order.{Order}
 use Rattle.elf_types.specs.declared.errors.ElfError.{ElfError}
 use Rattle.section_data.specs.Leaves.{Owns, Stays}
-use Rattle.elf_xlate.specs.declared.content.Items.{Items}
-use Rattle.elf_xlate.specs.contracts.content.Items.{the_row as items_row}
+use Rattle.elf_object.specs.elf_xlate.declared.content.Items.{Items}
+use Rattle.elf_object.specs.elf_xlate.contracts.content.Items.{the_row as items_row}
 use Rattle.elf_object.specs.Object.{Piece}
 use Rattle.section_data.specs.contracts.piece.Piece.{the_row as piece_row}
 use Rattle.section_data.specs.contracts.cell.Cell.{the_row as cell_row}

@@ -7,8 +7,8 @@ use Rattle.elf_types.specs.declared.errors.ElfError.{ElfError}
 use Rattle.elf_types.specs.declared.errors.ElfError.TheVariants.{NoData, WrongKind, OutOfFile, Ragged, TooMany, BadAlign, Unfit}
 use Rattle.elf_types.specs.declared.constants.TheConstants.{MAX_PIECES}
 use Rattle.elf_types.specs.Answers.{refused_if, first_refusal}
-use Rattle.elf_xlate.specs.declared.content.Items.{Items}
-use Rattle.elf_xlate.specs.Translation.{first_unfit}
+use Rattle.elf_object.specs.elf_xlate.declared.content.Items.{Items}
+use Rattle.elf_object.specs.elf_xlate.Translation.{first_unfit}
 use Rattle.elf_object.specs.Words.{Wants}
 use Rattle.elf_object.specs.Answers.{same_kind, no_entry}
 use Rattle.elf_object.specs.Calls.{is_piece_align}

@@ -2,8 +2,8 @@
 -- alignment divides (gABI chapter 4, "Sections"; elf_newdata).
 use Rattle.std.specs.Prelude.{ℕ, ◌+◌, List, [], ◌∷◌, None, Some, if◌then◌else◌}
 use Rattle.elf_types.specs.declared.records.Class.{Class}
-use Rattle.elf_xlate.specs.Translation.{file_size, items_kind, items_count}
-use Rattle.elf_layout.specs.Layout.{rounded_up}
+use Rattle.elf_object.specs.elf_xlate.Translation.{file_size, items_kind, items_count}
+use Rattle.elf_object.specs.elf_layout.Layout.{rounded_up}
 use Rattle.elf_object.specs.Object.{Piece}
 use Rattle.section_data.specs.Views.{CellView}
 

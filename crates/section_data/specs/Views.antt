@@ -5,7 +5,7 @@ use Rattle.std.specs.Prelude.{◌≡◌, ℕ, ◌+◌, ◌≤◌, Bool, true, fa
 use Rattle.elf_types.specs.declared.records.Kind.{Kind}
 use Rattle.elf_types.specs.declared.records.Kind.TheVariants as kinds
 use Rattle.elf_types.specs.declared.constants.TheConstants.{MAX_PIECES}
-use Rattle.elf_xlate.specs.declared.content.Items.{Items}
+use Rattle.elf_object.specs.elf_xlate.declared.content.Items.{Items}
 use Rattle.elf_object.specs.Object.{Home, Piece, no_home, home_piece}
 use Rattle.elf_object.specs.Valid.{IsPiece, OthersOwn}
 

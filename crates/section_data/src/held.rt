@@ -4,7 +4,7 @@ ghost use Rattle.std.specs.Prelude.{◌≡◌};
 ghost use Rattle.section_data.specs.Kept.{is_holding};
 
 use crate::room::Room;
-use elf_xlate::Items;
+use elf_object::prelude::Items;
 
 /// What is held of a home's items in memory form.
 #[derive(Drop)]

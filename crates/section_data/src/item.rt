@@ -4,15 +4,17 @@ ghost use Rattle.std.specs.Prelude.{◌≡◌, ℕ, ◌*◌, ◌/◌, ◌%◌, �
 ghost use Rattle.std.specs.Option.{option_map};
 ghost use Rattle.elf_types.specs.declared.records.Class.{Class as TheClass};
 ghost use Rattle.elf_types.specs.declared.records.Order.{Order as TheOrder};
-ghost use Rattle.elf_xlate.specs.Items.{item_size, half_of, word_of, addr_of, sym_of, rel_of, rela_of, dyn_of};
-ghost use Rattle.elf_xlate.specs.Translation.{decoded, listed, is_whole};
+ghost use Rattle.elf_object.specs.elf_xlate.Items.{item_size, half_of, word_of, addr_of, sym_of, rel_of, rela_of, dyn_of};
+ghost use Rattle.elf_object.specs.elf_xlate.Translation.{decoded, listed, is_whole};
 ghost use Rattle.elf_object.specs.Answers.{entry_at};
-ghost use Rattle.elf_xlate.proofs.ListedItems.{half_decoded, half_sized, word_decoded, word_sized, addr_decoded, addr_sized, sym_decoded, sym_sized, rel_decoded, rel_sized, rela_decoded, rela_sized, dyn_decoded, dyn_sized};
+ghost use Rattle.elf_object.proofs.elf_xlate.ListedItems.{half_decoded, half_sized, word_decoded, word_sized, addr_decoded, addr_sized, sym_decoded, sym_sized, rel_decoded, rel_sized, rela_decoded, rela_sized, dyn_decoded, dyn_sized};
 ghost use Rattle.section_data.specs.Held.{items_of_bytes};
 
 use crate::listed::Listed;
+use elf_object::prelude::{
+    get_addr, get_dyn, get_half, get_rel, get_rela, get_sym, get_word, item_size,
+};
 use elf_types::{Class, Dyn, ElfError, Kind, List, Order, Rel, Rela, Sym};
-use elf_xlate::{get_addr, get_dyn, get_half, get_rel, get_rela, get_sym, get_word, item_size};
 
 /// A type whose items are told one by one.
 pub trait Item: Listed + Copy + Drop {

@@ -17,6 +17,7 @@ mod kept;
 mod listed;
 mod others;
 mod piece;
+pub mod prelude;
 mod raw;
 mod room;
 mod spans;

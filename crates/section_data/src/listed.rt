@@ -4,14 +4,14 @@ ghost use Rattle.std.specs.Prelude.{◌≡◌, List, length, refl};
 ghost use Rattle.std.specs.Borrow.{sem};
 ghost use Rattle.elf_types.specs.declared.records.Kind.{Kind as TheKind};
 ghost use Rattle.elf_types.specs.declared.records.Kind.TheVariants as kinds;
-ghost use Rattle.elf_xlate.specs.declared.content.Items.{Items as TheItems};
-ghost use Rattle.elf_xlate.specs.declared.content.Items.TheVariants as items;
-ghost use Rattle.elf_xlate.specs.Translation.{items_kind, items_count};
+ghost use Rattle.elf_object.specs.elf_xlate.declared.content.Items.{Items as TheItems};
+ghost use Rattle.elf_object.specs.elf_xlate.declared.content.Items.TheVariants as items;
+ghost use Rattle.elf_object.specs.elf_xlate.Translation.{items_kind, items_count};
 ghost use Rattle.elf_object.specs.Answers.{bytes_of, halves_of, words_of, addrs_of, syms_of, rels_of, relas_of, dyns_of};
 ghost use Rattle.section_data.specs.Lends.{LendsList};
 
+use elf_object::prelude::Items;
 use elf_types::{Dyn, Kind, List, Rel, Rela, Sym};
-use elf_xlate::Items;
 
 /// A type whose lists are the items of a kind.
 pub trait Listed {

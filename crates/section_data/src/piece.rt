@@ -2,14 +2,14 @@
 
 ghost use Rattle.std.specs.Prelude.{◌≡◌, IsTrue, IsSome, IfSome, Some, is_some, length, true};
 ghost use Rattle.std.specs.Borrow.{sem};
-ghost use Rattle.elf_xlate.specs.Translation.{items_kind, items_count};
+ghost use Rattle.elf_object.specs.elf_xlate.Translation.{items_kind, items_count};
 ghost use Rattle.elf_object.specs.Calls.{is_piece_align};
 ghost use Rattle.elf_object.specs.Object.{home_piece};
 ghost use Rattle.elf_object.specs.Steps.{own_piece};
 
 use crate::listed::Listed;
+use elf_object::prelude::Items;
 use elf_types::List;
-use elf_xlate::Items;
 use std::marker::Model;
 use std::mem;
 

@@ -1,12 +1,12 @@
 //! The bytes of a home, once they are read.
 
 ghost use Rattle.std.specs.Prelude.{◌≡◌, ◌≤◌, length, take};
-ghost use Rattle.elf_xlate.specs.declared.content.Items.TheVariants as items;
+ghost use Rattle.elf_object.specs.elf_xlate.declared.content.Items.TheVariants as items;
 ghost use Rattle.elf_object.specs.Answers.{bytes_of};
 ghost use Rattle.section_data.specs.Nuls.{IsLastEnd, IsEndedFront};
 
+use elf_object::prelude::Items;
 use elf_types::Octets;
-use elf_xlate::Items;
 use memchr::memrchr;
 use std::marker::Model;
 
@@ -20,7 +20,7 @@ pub(crate) struct RawBytes {
 }
 
 impl Model for RawBytes {
-    ghost use Rattle.elf_xlate.specs.declared.content.Items.{Items as TheItems};
+    ghost use Rattle.elf_object.specs.elf_xlate.declared.content.Items.{Items as TheItems};
     ghost use Rattle.elf_object.specs.Answers.{bytes_of as bytes_in};
     ghost use Rattle.section_data.specs.Nuls.{IsEndNoted};
 

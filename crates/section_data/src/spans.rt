@@ -2,11 +2,11 @@
 
 ghost use Rattle.std.specs.Prelude.{◌≡◌, ◌+◌, ◌%◌, ◌<◌, ◌≤◌, ◌∷◌, [], ℕ, length, IfSome};
 ghost use Rattle.std.specs.Option.{SomeIff};
-ghost use Rattle.elf_layout.specs.Layout.{rounded_up};
+ghost use Rattle.elf_object.specs.elf_layout.Layout.{rounded_up};
 ghost use Rattle.section_data.specs.Spans.{OwnsBytes, IsSpan, span_end};
 
 use crate::piece::Piece;
-use elf_layout::rounded_within;
+use elf_object::prelude::rounded_within;
 use elf_types::Kind;
 
 /// What a run of pieces that hold bytes does to the end before it, whatever that end is.

@@ -2,8 +2,8 @@
 
 ghost use Rattle.std.specs.Prelude.{◌≡◌, Bool, true};
 ghost use Rattle.elf_types.specs.declared.records.Class.{Class as TheClass};
-ghost use Rattle.elf_xlate.specs.Fields.{fits, fits_signed};
-ghost use Rattle.elf_xlate.specs.Items.{info_fits, sym_fits, rel_fits, rela_fits, dyn_fits};
+ghost use Rattle.elf_object.specs.elf_xlate.Fields.{fits, fits_signed};
+ghost use Rattle.elf_object.specs.elf_xlate.Items.{info_fits, sym_fits, rel_fits, rela_fits, dyn_fits};
 
 use crate::item::Item;
 use elf_types::{Class, Dyn, Rel, Rela, Sym};
@@ -79,7 +79,7 @@ impl Storable for u64 {
 impl Storable for Sym {
     ghost fitting = { sym_fits };
 
-    #[tactic(auto, unfolding(elf_xlate::specs::Items::sym_fits))]
+    #[tactic(auto, unfolding(elf_object::specs::Passed::sym_fits))]
     fn fits(&self, class: Class) -> bool {
         number_fits(class, self.value) && number_fits(class, self.size)
     }
@@ -88,7 +88,7 @@ impl Storable for Sym {
 impl Storable for Rel {
     ghost fitting = { rel_fits };
 
-    #[tactic(auto, unfolding(elf_xlate::specs::Items::rel_fits))]
+    #[tactic(auto, unfolding(elf_object::specs::Passed::rel_fits))]
     fn fits(&self, class: Class) -> bool {
         number_fits(class, self.offset) && info_fits(class, self.sym, self.rtype)
     }
@@ -97,7 +97,7 @@ impl Storable for Rel {
 impl Storable for Rela {
     ghost fitting = { rela_fits };
 
-    #[tactic(auto, unfolding(elf_xlate::specs::Items::rela_fits))]
+    #[tactic(auto, unfolding(elf_object::specs::Passed::rela_fits))]
     fn fits(&self, class: Class) -> bool {
         number_fits(class, self.offset)
             && info_fits(class, self.sym, self.rtype)
@@ -108,7 +108,7 @@ impl Storable for Rela {
 impl Storable for Dyn {
     ghost fitting = { dyn_fits };
 
-    #[tactic(auto, unfolding(elf_xlate::specs::Items::dyn_fits))]
+    #[tactic(auto, unfolding(elf_object::specs::Passed::dyn_fits))]
     fn fits(&self, class: Class) -> bool {
         signed_fits(class, self.tag) && number_fits(class, self.val)
     }

@@ -4,9 +4,9 @@ ghost use Rattle.std.specs.Prelude.{◌≡◌, ◌+◌, ◌<◌, ◌≤◌, [], 
 ghost use Rattle.std.specs.Option.{option_map};
 ghost use Rattle.elf_types.specs.declared.errors.ElfError.TheVariants.{Memory, Read};
 ghost use Rattle.elf_types.specs.declared.records.Kind.TheVariants as kinds;
-ghost use Rattle.elf_xlate.specs.declared.content.Items.TheVariants as items;
-ghost use Rattle.elf_xlate.specs.Translation.{items_kind};
-ghost use Rattle.elf_outside.specs.Asks.{Asks};
+ghost use Rattle.elf_object.specs.elf_xlate.declared.content.Items.TheVariants as items;
+ghost use Rattle.elf_object.specs.elf_xlate.Translation.{items_kind};
+ghost use Rattle.elf_object.specs.elf_outside.Asks.{Asks};
 ghost use Rattle.elf_object.specs.Answers.{bytes_of};
 ghost use Rattle.section_data.specs.declared.held.HomeItems.TheVariants.{Nothing};
 ghost use Rattle.section_data.specs.Leaves.{bytes_or_none};
@@ -18,10 +18,8 @@ use crate::others::Others;
 use crate::piece::Piece;
 use crate::raw::RawBytes;
 use crate::room::Room;
-use elf_outside::Source;
-use elf_outside::reads::read;
+use elf_object::prelude::{Items, Source, read};
 use elf_types::{ElfError, Octets};
-use elf_xlate::Items;
 use std::alloc::Global;
 use std::mem;
 

@@ -2,8 +2,8 @@
 use Rattle.std.proofs.Common.{◌≡◌, ℕ, zero, suc, false, List, [], ◌∷◌, Option, refl, ap, ◌∙◌}
 use Rattle.std.specs.Prelude.{is_some}
 use Rattle.std.specs.List.{list_any}
-use Rattle.elf_xlate.specs.declared.content.Items.{Items}
-use Rattle.elf_object.specs.Object.{Piece, home_piece}
+use Rattle.section_data.specs.elf_xlate.declared.content.Items.{Items}
+use Rattle.section_data.specs.elf_object.Object.{Piece, home_piece}
 use Rattle.section_data.specs.Views.{CellView, piece_of}
 use Rattle.section_data.specs.Held.{piece_in, piece_holds_items}
 use Rattle.section_data.proofs.Holdings.{ready_clean}

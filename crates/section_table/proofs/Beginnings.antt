@@ -9,8 +9,8 @@ use Rattle.std.proofs.lemmas.List.{length-map, length-replicate, get_or_past, ge
 use Rattle.std.proofs.lemmas.List.FromFn.{fill_by_all, length-enumerate_from, get_or-enumerate_from}
 use Rattle.elf_types.specs.declared.constants.TheConstants.{MAX_SECTIONS}
 use Rattle.elf_types.specs.declared.records.Shdr.{Shdr}
-use Rattle.elf_ident.specs.Front.{zero_shdr}
-use Rattle.elf_object.specs.Open.{home_of}
+use Rattle.section_data.specs.elf_ident.Front.{zero_shdr}
+use Rattle.section_data.specs.elf_object.Open.{home_of}
 use Rattle.section_data.specs.Views.{CellView, opened_cell}
 use Rattle.section_table.specs.Sections.{SectionView, absent_scn, section_in, opened_scn, opened_scns, reopened_scn, AreNumbered, cell_by, section_by, sections_view, unmade, IsSections}
 

@@ -6,8 +6,8 @@ use Rattle.std.proofs.lemmas.List.{length-set, length_push, get_or-set_same, get
 use Rattle.std.proofs.lemmas.List.Sums.{sum_by-set, get_or-le-sum_by}
 use Rattle.elf_types.specs.declared.constants.TheConstants.{MAX_SECTIONS}
 use Rattle.elf_types.specs.declared.records.Shdr.{Shdr}
-use Rattle.elf_ident.specs.Front.{zero_shdr}
-use Rattle.elf_object.specs.Open.{home_of}
+use Rattle.section_data.specs.elf_ident.Front.{zero_shdr}
+use Rattle.section_data.specs.elf_object.Open.{home_of}
 use Rattle.section_data.specs.Views.{CellView, opened_cell, new_cell}
 use Rattle.section_table.specs.Sections.{SectionView, cell_by, section_by, sections_view, unmade, IsSections, Makes}
 use Rattle.section_table.proofs.Views.{listed_same}

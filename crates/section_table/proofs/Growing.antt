@@ -8,7 +8,7 @@ use Rattle.std.proofs.lemmas.List.FromFn.{map-range_with_len_more}
 use Rattle.std.proofs.lemmas.List.Sums.{sum_by_push}
 use Rattle.elf_types.specs.declared.constants.TheConstants.{MAX_SECTIONS}
 use Rattle.elf_types.specs.declared.records.Shdr.{Shdr}
-use Rattle.elf_ident.specs.Front.{zero_shdr}
+use Rattle.section_data.specs.elf_ident.Front.{zero_shdr}
 use Rattle.section_data.specs.Views.{CellView, new_cell}
 use Rattle.section_table.specs.Sections.{SectionView, cell_by, section_by, sections_view, IsSections}
 use Rattle.section_table.proofs.Views.{listed_same}

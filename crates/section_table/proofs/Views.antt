@@ -5,8 +5,8 @@ use Rattle.std.proofs.lemmas.Bool.{eqb-true, eqb-false}
 use Rattle.std.proofs.lemmas.List.{length-set, get_or-set_same, get_or-set_other, get_or_read}
 use Rattle.std.proofs.lemmas.List.FromFn.{length-map-range_with_len, get_or-map-range_with_len, fill_by_all}
 use Rattle.elf_types.specs.declared.records.Shdr.{Shdr}
-use Rattle.elf_ident.specs.Front.{zero_shdr}
-use Rattle.elf_object.specs.Open.{home_of}
+use Rattle.section_data.specs.elf_ident.Front.{zero_shdr}
+use Rattle.section_data.specs.elf_object.Open.{home_of}
 use Rattle.section_data.specs.Views.{CellView, opened_cell, new_cell}
 use Rattle.section_table.specs.Sections.{SectionView, absent_scn, section_in, IsAsOpened, cell_by, section_by, sections_view, IsSections}
 

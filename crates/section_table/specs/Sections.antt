@@ -4,9 +4,9 @@ use Rattle.std.specs.Prelude.{◌≡◌, ◌≢◌, ◌⊎◌, ℕ, zero, suc, �
 use Rattle.std.specs.List.{range_with_len, enumerate_from, count_by}
 use Rattle.elf_types.specs.declared.constants.TheConstants.{MAX_SECTIONS}
 use Rattle.elf_types.specs.declared.records.Shdr.{Shdr}
-use Rattle.elf_ident.specs.Front.{zero_shdr}
-use Rattle.elf_object.specs.Object.{home_piece}
-use Rattle.elf_object.specs.Open.{home_of}
+use Rattle.section_data.specs.elf_ident.Front.{zero_shdr}
+use Rattle.section_data.specs.elf_object.Object.{home_piece}
+use Rattle.section_data.specs.elf_object.Open.{home_of}
 use Rattle.section_data.specs.Views.{CellView, opened_cell, new_cell}
 use Rattle.section_table.specs.declared.at.CellAt.{CellAt}
 use Rattle.section_table.specs.declared.at.CellAt.TheVariants.{Made, Unread}

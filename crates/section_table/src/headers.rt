@@ -3,7 +3,7 @@
 ghost use Rattle.std.specs.Prelude.{◌≡◌, ◌*◌, ◌<◌, ◌≤◌, ◌++◌, ◌∷◌, [], length, slice_index_or, slice_set, OnOk, OnErr, IfOk, IfErr, vec_capacity};
 ghost use Rattle.elf_types.specs.declared.constants.TheConstants.{MAX_SECTIONS};
 ghost use Rattle.elf_types.specs.declared.errors.ElfError.TheVariants.{Memory};
-ghost use Rattle.elf_ident.specs.Front.{zero_shdr};
+ghost use Rattle.section_data.specs.elf_ident.Front.{zero_shdr};
 ghost use Rattle.section_table.specs.Tables.{present};
 
 use crate::lists::{make_room, put_last};

@@ -10,6 +10,7 @@ mod at;
 mod headers;
 mod lists;
 mod making;
+pub mod prelude;
 mod sections;
 mod tables;
 

@@ -2,7 +2,7 @@
 
 ghost use Rattle.std.specs.Prelude.{◌≡◌, ◌<◌, ◌≤◌, length, slice_index_or, vec_capacity};
 ghost use Rattle.elf_types.specs.declared.constants.TheConstants.{MAX_SECTIONS};
-ghost use Rattle.elf_ident.specs.Front.{zero_shdr};
+ghost use Rattle.section_data.specs.elf_ident.Front.{zero_shdr};
 ghost use Rattle.section_table.specs.Sections.{Makes};
 
 use crate::headers::Headers;

@@ -12,7 +12,7 @@ use Rattle.elf_outside.specs.declared.file_sets.Files.{Ghosts as FilesGhosts}
 use Rattle.elf_object.specs.Object.{Object}
 use Rattle.elf_object.specs.Open.{opened}
 use Rattle.elf_object.specs.Image.{image}
-use Rattle.elf_descriptor.specs.State.{State}
+use Rattle.image_generate.specs.elf_descriptor.State.{State}
 use Rattle.command_objects.specs.Files.{file_of}
 use Rattle.command_objects.specs.Generated.{generated_and_shifted, told_lines}
 use Rattle.tool_output.specs.declared.stops.Stop.{Stop}
@@ -30,7 +30,7 @@ use Rattle.tool_output.proofs.StepLemmas.{writes_stop, writes_then, keeps_none, 
 use Rattle.tool_output.proofs.FileLemmas.{only_reads_none, totals_none, totals_then, leaves_stop, leaves_stop_by}
 use Rattle.tool_output.proofs.OutcomeLemmas.{reads_done}
 use Rattle.tool_output.proofs.MadeLemmas.{never_read}
-use Rattle.object_output.specs.Images.{object_report, image_report}
+use Rattle.command_outcomes.specs.object_output.Images.{object_report, image_report}
 use Rattle.object_files.specs.Edits.{unbounded, edited_outcome, EditsFile}
 use Rattle.object_files.proofs.SaidLemmas.{said_after}
 use Rattle.command_outcomes.specs.Selftest.{selftest_done, selftest_outcome}

@@ -13,8 +13,8 @@ use Rattle.elf_object.specs.Answers.{items_at, syms_of, lend_refusal}
 use Rattle.elf_object.specs.Runs.{more_sym}
 use Rattle.elf_object.specs.Steps.{with_own}
 use Rattle.elf_object.specs.Words.{Wants, Answers}
-use Rattle.elf_descriptor.specs.State.{State}
-use Rattle.elf_descriptor.specs.Lends.{IsLent}
+use Rattle.image_generate.specs.elf_descriptor.State.{State}
+use Rattle.image_generate.specs.elf_descriptor.Lends.{IsLent}
 use Rattle.command_objects.specs.Generated.{generated, generated_and_shifted}
 use Rattle.command_laws.proofs.GeneratedObject.{lends_symbols, shifted_by}
 use Rattle.image_generate.specs.Stages.{StandsFor}

@@ -12,8 +12,8 @@ use Rattle.elf_object.specs.Words.{Answers}
 use Rattle.elf_object.specs.Answers.{items_at, count_at, lend_refusal}
 use Rattle.elf_object.specs.Due.{unless_refused, when_clean, when_piece_clean}
 use Rattle.elf_object.proofs.AnswerLaws.{answered_value, answered_refusal, lend_kind}
-use Rattle.elf_descriptor.specs.State.{State}
-use Rattle.elf_descriptor.specs.Reads.{Looks, wanted}
+use Rattle.image_generate.specs.elf_descriptor.State.{State}
+use Rattle.image_generate.specs.elf_descriptor.Reads.{Looks, wanted}
 use Rattle.symbol_lookup.specs.Lookups as calls
 use Rattle.symbol_lookup.specs.Lookups.{linear_needs, linear_refusal, link_of, table_homes}
 use Rattle.hash_model.specs.Listed.{find_linear_answer}
@@ -22,12 +22,12 @@ use Rattle.tool_output.specs.declared.stops.Stop.{Stop}
 use Rattle.tool_output.specs.Names.{Name}
 use Rattle.tool_output.specs.Reports.{shown, refusal_report}
 use Rattle.tool_output.specs.Stops.{stop_of}
-use Rattle.object_output.specs.Steps.{Learns}
-use Rattle.object_output.proofs.OnceSums.{Once, once_others}
-use Rattle.object_output.proofs.OnceReads.{once_unless, once_piece, once_clean}
-use Rattle.object_output.proofs.QueryLemmas.{settled_by, reads_stop, plain_is, plain_stops}
-use Rattle.object_output.proofs.LearnLemmas.{learns_by}
-use Rattle.object_output.proofs.ListCounts.{syms_counted}
+use Rattle.command_outcomes.specs.object_output.Steps.{Learns}
+use Rattle.command_outcomes.proofs.object_output.OnceSums.{Once, once_others}
+use Rattle.command_outcomes.proofs.object_output.OnceReads.{once_unless, once_piece, once_clean}
+use Rattle.command_outcomes.proofs.object_output.QueryLemmas.{settled_by, reads_stop, plain_is, plain_stops}
+use Rattle.command_outcomes.proofs.object_output.LearnLemmas.{learns_by}
+use Rattle.command_outcomes.proofs.object_output.ListCounts.{syms_counted}
 use Rattle.selftest_tool.specs.Told.{number_line, found_line, lines_text, value_sum, symbols_told, first_named, told_report}
 
 -- ---- The lookup

@@ -13,7 +13,7 @@ use Rattle.command_objects.specs.Generated.{line_of, found_text, told_lines}
 use Rattle.tool_output.specs.Names.{Name, file_name}
 use Rattle.tool_output.specs.Reports.{Report, shown, refusal_report}
 use Rattle.tool_output.specs.Outcomes.{Outcome, report_outcome}
-use Rattle.object_output.specs.Images.{image_report}
+use Rattle.command_outcomes.specs.object_output.Images.{image_report}
 
 -- ---- The lines
 

@@ -4,6 +4,7 @@
 
 mod lines;
 mod making;
+pub mod prelude;
 mod selftest;
 mod telling;
 mod values;

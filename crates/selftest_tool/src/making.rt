@@ -5,10 +5,10 @@ ghost use Rattle.elf_object.specs.Runs.{more_sym};
 ghost use Rattle.command_objects.specs.Generated.{generated, generated_and_shifted};
 ghost use Rattle.image_generate.specs.Stages.{StandsFor};
 
-use elf_descriptor::Elf;
 use elf_outside::NoSource;
 use elf_types::{DataId, ElfError, Sym, Syms};
 use image_generate::generate;
+use image_generate::prelude::Elf;
 use std::alloc::Global;
 
 /// Adds a number to the value of a symbol, modulo its range.

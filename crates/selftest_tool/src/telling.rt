@@ -5,21 +5,21 @@ ghost use Rattle.elf_types.specs.declared.records.Kind.TheVariants as kinds;
 ghost use Rattle.elf_object.specs.Answers.{lend_refusal};
 ghost use Rattle.command_objects.specs.Generated.{numbered_name};
 ghost use Rattle.tool_output.specs.Reports.{shown};
-ghost use Rattle.object_output.specs.Looks.{looks_over};
-ghost use Rattle.object_output.specs.Steps.{Learns, ReportsElf};
+ghost use Rattle.command_outcomes.specs.object_output.Looks.{looks_over};
+ghost use Rattle.command_outcomes.specs.object_output.Steps.{Learns, ReportsElf};
 ghost use Rattle.selftest_tool.specs.Told.{value_sum, symbols_told, first_named, lines_text, told_report, told_outcome};
 
 use crate::lines::FiveLines;
 use crate::values::sum_values;
-use elf_descriptor::Elf;
+use command_outcomes::prelude::{ObjectTool, stop_for};
 use elf_outside::{Files, Sink, Source};
 use elf_types::{DataId, ScnId, Sym};
-use gelf_view::item_count;
 use image_generate::numbered_name;
+use image_generate::prelude::Elf;
 use object_files::FileEdit;
-use object_output::{ObjectTool, stop_for};
 use std::alloc::Global;
 use symbol_lookup::find_linear;
+use symbol_lookup::prelude::item_count;
 use tool_output::{FileName, Message, Outputs, Stop};
 
 /// The first symbol with a name, among those of section `n + 1`, which are there. It stops by

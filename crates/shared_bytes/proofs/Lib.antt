@@ -1,3 +1,4 @@
+pub use Rattle.elf_xlate.proofs as elf_xlate
 pub mod StretchLaws
 pub mod PartLaws
 pub mod ShareLaws

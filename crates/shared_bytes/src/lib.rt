@@ -8,6 +8,7 @@ mod comparing;
 mod copying;
 mod parts;
 mod pieces;
+pub mod prelude;
 mod sharing;
 mod stretches;
 mod texts;

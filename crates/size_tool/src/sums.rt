@@ -4,10 +4,10 @@ ghost use Rattle.std.specs.Prelude.{◌≡◌, ◌+◌, ◌<◌, ◌≤◌, ◌^
 ghost use Rattle.elf_object.specs.Sections.{is_allocated};
 ghost use Rattle.size_tool.specs.Sums.{is_bss, is_fixed, is_text, is_data, size_if, header_sums, sums_of, with_section, AreWithin};
 
-use elf_descriptor::Elf;
 use elf_outside::Source;
 use elf_types::constants::{SHF_ALLOC, SHF_EXECINSTR, SHF_WRITE, SHT_NOBITS};
 use elf_types::{ScnId, Shdr};
+use object_output::prelude::Elf;
 use object_output::section_header;
 
 /// The sums of an object. As many sections of any size as there can be pass 64 bits.

@@ -19,7 +19,7 @@ use Rattle.elf_object.proofs.PassedLaws.{passed_two}
 use Rattle.object_laws.proofs.OpenLaws.{front_known}
 use Rattle.split_laws.proofs.Whole.{begun_of}
 use Rattle.tool_output.specs.Made.{complaint, of_file}
-use Rattle.object_output.specs.Images.{object_by, file_object}
+use Rattle.command_outcomes.specs.object_output.Images.{object_by, file_object}
 use Rattle.command_outcomes.specs.Files.{bytes_named, object_named}
 
 -- no file begins with both magics

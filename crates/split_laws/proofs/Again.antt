@@ -22,10 +22,10 @@ use Rattle.elf_object.specs.Image.{image}
 use Rattle.elf_object.specs.Settled.{settled_section, settled_over}
 use Rattle.elf_object.specs.Valid.{IsObject, as_opened}
 use Rattle.elf_object.proofs.SettledSections.{section_at-settled}
-use Rattle.object_laws.specs.Laws.{ReopenLaw}
-use Rattle.object_laws.proofs.ImageLaws.{section_at-placed, joined-none, placed-dirty}
-use Rattle.object_laws.proofs.SettledLaws.{settle-dirty}
-use Rattle.object_laws.proofs.StandLaws.{where_some, section_count-placed, joined-placed, file_bytes_when}
+use Rattle.strip_laws.specs.object_laws.Laws.{ReopenLaw}
+use Rattle.strip_laws.proofs.object_laws.ImageLaws.{section_at-placed, joined-none, placed-dirty}
+use Rattle.strip_laws.proofs.object_laws.SettledLaws.{settle-dirty}
+use Rattle.strip_laws.proofs.object_laws.StandLaws.{where_some, section_count-placed, joined-placed, file_bytes_when}
 use Rattle.elf_object.specs.Sections.{header_at}
 use Rattle.command_objects.specs.Rebuilt.{made_section}
 use Rattle.command_objects.specs.Files.{file_of}

@@ -9,7 +9,7 @@ use Rattle.elf_object.specs.Object.{Object, Section, section_at}
 use Rattle.elf_object.specs.Answers.{entry_answer}
 use Rattle.elf_object.specs.Calls.{phdr_answer}
 use Rattle.elf_object.specs.Strings.{string_answer, readable, section_name}
-use Rattle.gelf_view.specs.declared.symbols.SymPlace.TheVariants as special
+use Rattle.symbol_lookup.specs.gelf_view.declared.symbols.SymPlace.TheVariants as special
 use Rattle.split_laws.specs.Getters.{AlikeImagesAnswerAlike}
 use Rattle.split_laws.proofs.AlikeSections.{IsAlike, link_same, alike_of, zeroth_empty, opened_untouched}
 use Rattle.split_laws.proofs.Getters.{pieces_same, kind_same, align_same, data_same, raw_same, string_same, half_same, word_same, addr_same, sym_same, rel_same, rela_same, dyn_same, note_same, first_entry_same, verdef_same, verdaux_same, verneed_same, vernaux_same, flags_same}

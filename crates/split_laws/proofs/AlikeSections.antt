@@ -10,8 +10,8 @@ use Rattle.elf_types.specs.declared.records.Shdr.{Shdr}
 use Rattle.elf_ident.specs.Front.{zero_shdr}
 use Rattle.elf_object.specs.Object.{Object, Section, home_piece, absent_section, section_at, occupies_file}
 use Rattle.elf_object.specs.Open.{home_len, home_of, home_bytes, opened_section, begun, opened}
-use Rattle.object_laws.proofs.OpenLaws.{home_inside}
-use Rattle.object_laws.proofs.StandLaws.{section_at-past}
+use Rattle.strip_laws.proofs.object_laws.OpenLaws.{home_inside}
+use Rattle.strip_laws.proofs.object_laws.StandLaws.{section_at-past}
 use Rattle.elf_object.specs.Sections.{is_program, header_at}
 use Rattle.command_objects.specs.KeepingLaws.{SameSection, SameButPlaces}
 use Rattle.split_laws.proofs.Inside.{none_out}

@@ -16,9 +16,9 @@ use Rattle.elf_object.specs.Layout.{places_of, placed_shdr}
 use Rattle.elf_object.specs.Calls.{newphdr_refusal}
 use Rattle.elf_object.specs.Settled.{settled_section, settle}
 use Rattle.elf_object.specs.Valid.{as_opened}
-use Rattle.object_laws.specs.Laws.{ReopenLaw}
-use Rattle.object_laws.proofs.OpenLaws.{opened_is, opened_phdrs}
-use Rattle.object_laws.proofs.StandLaws.{section_at-past}
+use Rattle.strip_laws.specs.object_laws.Laws.{ReopenLaw}
+use Rattle.strip_laws.proofs.object_laws.OpenLaws.{opened_is, opened_phdrs}
+use Rattle.strip_laws.proofs.object_laws.StandLaws.{section_at-past}
 use Rattle.elf_object.specs.Sections.{is_allocated, is_program, header_at, is_among}
 use Rattle.command_objects.specs.Arranged.{Rebuilt}
 use Rattle.command_objects.specs.Split.{allocated, combine_fault, unstripped}

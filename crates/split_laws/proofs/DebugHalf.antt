@@ -18,8 +18,8 @@ use Rattle.elf_object.specs.Layout.{section_numbers}
 use Rattle.elf_object.specs.Calls.{newphdr_refusal}
 use Rattle.elf_object.specs.Valid.{as_opened}
 use Rattle.elf_object.proofs.PassedLaws.{none_first, none_rest}
-use Rattle.object_laws.specs.Laws.{ReopenLaw}
-use Rattle.object_laws.proofs.OpenLaws.{opened_is, opened_phdrs}
+use Rattle.strip_laws.specs.object_laws.Laws.{ReopenLaw}
+use Rattle.strip_laws.proofs.object_laws.OpenLaws.{opened_is, opened_phdrs}
 use Rattle.elf_object.specs.Sections.{header_at}
 use Rattle.command_objects.specs.Arranged.{over_base}
 use Rattle.command_objects.specs.Rebuilt.{made_section, index_refusal}

@@ -19,9 +19,9 @@ use Rattle.elf_object.specs.Object.{Object, Section, section_at, occupies_file}
 use Rattle.elf_object.specs.Joined.{file_bytes}
 use Rattle.elf_object.specs.Layout.{section_part, table_part}
 use Rattle.elf_object.specs.Steps.{stored_ehdr, with_ehdr}
-use Rattle.object_laws.proofs.ImageLaws.{joined-none}
-use Rattle.object_laws.proofs.PlaceLaws.{in_order}
-use Rattle.object_laws.proofs.StandLaws.{file_bytes_when, length-in_order}
+use Rattle.strip_laws.proofs.object_laws.ImageLaws.{joined-none}
+use Rattle.strip_laws.proofs.object_laws.PlaceLaws.{in_order}
+use Rattle.strip_laws.proofs.object_laws.StandLaws.{file_bytes_when, length-in_order}
 use Rattle.elf_object.specs.Sections.{is_allocated}
 use Rattle.command_objects.specs.Arranged.{movable, table_parts, parts_from, place_from, table_place_from, section_from, placed_from}
 use Rattle.strip_laws.proofs.MadeSections.{header_made, made_bytes, bytes_encoded, section_placed, section_moved}

@@ -19,10 +19,10 @@ use Rattle.elf_object.specs.Joined.{aligned_pieces, piece_blocks, pieces_end}
 use Rattle.elf_object.specs.Answers.{content, or_empty, items_at, kind_at, piece_count, same_kind, no_content, piece_refusal, part_refusal, data_refusal, raw_refusal, lend_refusal, flag_bits, flags_of, bytes_of, halves_of, words_of, addrs_of, syms_of, rels_of, relas_of, dyns_of, entry_answer}
 use Rattle.elf_object.specs.Calls.{pieces_answer, piece_kind_answer, piece_align_answer, flags_answer, data_answer, raw_answer, half_answer, word_answer, addr_answer, sym_answer, rel_answer, rela_answer, dyn_answer}
 use Rattle.elf_object.specs.Strings.{holds_strings, piece_over, has_nul, bytes_from, string_refusal_unread, string_refusal, string_answer}
-use Rattle.gelf_view.specs.declared.notes.NoteAt.{NoteAt}
-use Rattle.gelf_view.specs.Notes.{note_align, note_at}
-use Rattle.gelf_view.specs.Versions.{verdef_at, verdaux_at, verneed_at, vernaux_at}
-use Rattle.gelf_view.specs.Calls.{bytes_answer, note_found, note_answer, first_place, first_entry_answer, verdef_answer, verdaux_answer, verneed_answer, vernaux_answer}
+use Rattle.symbol_lookup.specs.gelf_view.declared.notes.NoteAt.{NoteAt}
+use Rattle.symbol_lookup.specs.gelf_view.Notes.{note_align, note_at}
+use Rattle.symbol_lookup.specs.gelf_view.Versions.{verdef_at, verdaux_at, verneed_at, vernaux_at}
+use Rattle.symbol_lookup.specs.gelf_view.Calls.{bytes_answer, note_found, note_answer, first_place, first_entry_answer, verdef_answer, verdaux_answer, verneed_answer, vernaux_answer}
 use Rattle.split_laws.proofs.AlikeSections.{bare, IsAlike, IsUntouched}
 
 -- ---- What is looked at in a section

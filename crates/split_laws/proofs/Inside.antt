@@ -13,10 +13,10 @@ use Rattle.elf_object.specs.Object.{Object, Section, section_at, occupies_file}
 use Rattle.elf_object.specs.Open.{home_len, home_of, opened_section, opened}
 use Rattle.elf_object.specs.Answers.{raw_refusal}
 use Rattle.elf_object.specs.Valid.{IsObject, as_opened}
-use Rattle.object_laws.specs.Laws.{ReopenLaw}
-use Rattle.object_laws.proofs.ByteLaws.{image_are}
-use Rattle.object_laws.proofs.KeepLaws.{section_at_is}
-use Rattle.object_laws.proofs.OpenLaws.{opened_is}
+use Rattle.strip_laws.specs.object_laws.Laws.{ReopenLaw}
+use Rattle.strip_laws.proofs.object_laws.ByteLaws.{image_are}
+use Rattle.strip_laws.proofs.object_laws.KeepLaws.{section_at_is}
+use Rattle.strip_laws.proofs.object_laws.OpenLaws.{opened_is}
 use Rattle.elf_object.specs.Sections.{header_at}
 use Rattle.command_objects.specs.Followed.{kept_sections}
 use Rattle.command_objects.specs.Rebuilt.{rebuilt_items}

@@ -12,10 +12,10 @@ use Rattle.elf_object.specs.Open.{begun, opened}
 use Rattle.elf_object.specs.Image.{image_length, image}
 use Rattle.elf_object.specs.Layout.{section_part, table_part, parts_of, places_of}
 use Rattle.elf_object.specs.Refusal.{placing_refusal, refusal}
-use Rattle.object_laws.proofs.ImageLaws.{length-image}
-use Rattle.object_laws.proofs.PlaceLaws.{Pairs, ends_within, standing_apart}
-use Rattle.object_laws.proofs.PlacedLaws.{update_passes}
-use Rattle.object_laws.proofs.StandLaws.{row_left}
+use Rattle.strip_laws.proofs.object_laws.ImageLaws.{length-image}
+use Rattle.strip_laws.proofs.object_laws.PlaceLaws.{Pairs, ends_within, standing_apart}
+use Rattle.strip_laws.proofs.object_laws.PlacedLaws.{update_passes}
+use Rattle.strip_laws.proofs.object_laws.StandLaws.{row_left}
 use Rattle.command_objects.specs.Arranged.{movable}
 use Rattle.split_laws.specs.Halves.{origin_number}
 use Rattle.split_laws.proofs.Extents.{tail_row}

@@ -11,7 +11,7 @@ use Rattle.elf_types.specs.declared.errors.ElfError.TheVariants.{Overlap, TooLar
 use Rattle.elf_layout.specs.declared.parts.PartAt.{PartAt}
 use Rattle.elf_layout.specs.Layout.{in_order_from, end_after, is_too_large, limit_of, overlap_refusal, refusal_within, refusal_of}
 use Rattle.elf_layout.specs.Meeting.{has_bytes, end_of, meets, inserted_by, sorted_by, parts_by_position, first_met, overlap_of}
-use Rattle.object_laws.proofs.PlaceLaws.{Pairs, IsBehind, AreInOrder, behind_apart}
+use Rattle.strip_laws.proofs.object_laws.PlaceLaws.{Pairs, IsBehind, AreInOrder, behind_apart}
 
 -- no byte in common
 abbrev pub NoneShared : PartAt → PartAt → Type 0

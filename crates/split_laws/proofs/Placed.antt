@@ -21,7 +21,7 @@ use Rattle.elf_object.specs.Sections.{is_allocated, is_program, header_at}
 use Rattle.command_objects.specs.Arranged.{base_end, tail_of, over_base, movable, parts_from, place_from, table_place_from, section_from, placed_from}
 use Rattle.command_objects.specs.Rebuilt.{made_section, assembled}
 use Rattle.command_objects.specs.KeepingLaws.{SameHeader}
-use Rattle.object_laws.proofs.StandLaws.{section_at-past}
+use Rattle.strip_laws.proofs.object_laws.StandLaws.{section_at-past}
 use Rattle.strip_laws.proofs.KeptLaws.{IsInRange, numbers_in_range}
 use Rattle.strip_laws.proofs.MadeSections.{section_placed, section_unmoved}
 

@@ -15,8 +15,8 @@ use Rattle.elf_layout.specs.Layout.{in_order_from}
 use Rattle.elf_layout.specs.Meeting.{has_bytes}
 use Rattle.elf_object.specs.Object.{Object, Section, section_at, occupies_file, is_null}
 use Rattle.elf_object.specs.Layout.{header_part, segments_part, section_part, table_part, parts_of}
-use Rattle.object_laws.proofs.PlaceLaws.{Pairs}
-use Rattle.object_laws.proofs.StandLaws.{length-row}
+use Rattle.strip_laws.proofs.object_laws.PlaceLaws.{Pairs}
+use Rattle.strip_laws.proofs.object_laws.StandLaws.{length-row}
 use Rattle.elf_object.specs.Sections.{is_allocated, is_program, header_at}
 use Rattle.command_objects.specs.Followed.{followed_header}
 use Rattle.command_objects.specs.Arranged.{base_end, movable, place_from, placed_from}

@@ -11,9 +11,9 @@ use Rattle.elf_object.specs.Open.{created_over}
 use Rattle.elf_object.specs.Layout.{parts_of}
 use Rattle.elf_object.specs.Refusal.{placing_refusal, refusal}
 use Rattle.elf_object.specs.Steps.{with_ehdr, with_phdrs}
-use Rattle.object_laws.specs.Laws.{ReopenLaw}
-use Rattle.object_laws.proofs.OpenLaws.{opened_is}
-use Rattle.object_laws.proofs.PlaceLaws.{Pairs}
+use Rattle.strip_laws.specs.object_laws.Laws.{ReopenLaw}
+use Rattle.strip_laws.proofs.object_laws.OpenLaws.{opened_is}
+use Rattle.strip_laws.proofs.object_laws.PlaceLaws.{Pairs}
 use Rattle.elf_object.specs.Sections.{is_program}
 use Rattle.command_objects.specs.Arranged.{Rebuilt, base_end, tail_of, over_base, placed_from, tail_refusal, arranged}
 use Rattle.command_objects.specs.Rebuilt.{assembled}

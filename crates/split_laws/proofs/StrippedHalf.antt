@@ -23,8 +23,8 @@ use Rattle.elf_object.specs.Steps.{with_ehdr, with_phdrs}
 use Rattle.elf_object.specs.Answers.{raw_refusal, data_refusal}
 use Rattle.elf_object.specs.Valid.{as_opened}
 use Rattle.elf_object.proofs.PassedLaws.{none_first, none_rest}
-use Rattle.object_laws.specs.Laws.{ReopenLaw}
-use Rattle.object_laws.proofs.OpenLaws.{opened_is, opened_phdrs}
+use Rattle.strip_laws.specs.object_laws.Laws.{ReopenLaw}
+use Rattle.strip_laws.proofs.object_laws.OpenLaws.{opened_is, opened_phdrs}
 use Rattle.elf_object.specs.Sections.{is_allocated, is_program, header_at, is_among}
 use Rattle.command_objects.specs.Followed.{kept_sections, kept_from_1, followed_header}
 use Rattle.command_objects.specs.Arranged.{Rebuilt, placed_from}

@@ -17,8 +17,8 @@ use Rattle.elf_object.specs.Open.{home_len, home_of, opened_section, begun, begu
 use Rattle.elf_object.specs.Answers.{no_section, out_of_file, raw_refusal}
 use Rattle.elf_object.specs.Valid.{IsObject}
 use Rattle.elf_object.proofs.PassedLaws.{none_first, none_rest, not_refused}
-use Rattle.object_laws.proofs.KeepLaws.{section_at_is}
-use Rattle.object_laws.proofs.OpenLaws.{front_known, known_fits}
+use Rattle.strip_laws.proofs.object_laws.KeepLaws.{section_at_is}
+use Rattle.strip_laws.proofs.object_laws.OpenLaws.{front_known, known_fits}
 use Rattle.elf_object.specs.Sections.{header_at}
 use Rattle.command_objects.specs.KeepingLaws.{SameHeader}
 use Rattle.strip_laws.specs.Made.{FitsClass}

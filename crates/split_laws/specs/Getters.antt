@@ -10,7 +10,7 @@ use Rattle.elf_object.specs.Calls.{Call}
 use Rattle.elf_object.specs.Calls as calls
 use Rattle.elf_object.specs.Strings.{strptr, section_name}
 use Rattle.command_objects.specs.KeepingLaws.{SameButPlaces}
-use Rattle.gelf_view.specs.Calls as views
+use Rattle.symbol_lookup.specs.gelf_view.Calls as views
 use Rattle.symbol_lookup.specs.Lookups as lookups
 
 -- a call answers the same

@@ -5,7 +5,7 @@ ghost use Rattle.command_objects.specs.KeepingLaws.{SplitLaw};
 ghost use Rattle.split_laws.specs.Getters.{AlikeImagesAnswerAlike};
 ghost use Rattle.split_laws.specs.Halves.{DebugHalfKeeps, HalvesCombine, HalvesMatch, StrippedHalfKeeps};
 
-use object_laws::laws::reopen_law;
+use strip_laws::prelude::reopen_law;
 
 /// The debug half of an image, written and opened again, has the image's header and program headers
 /// but for places and derived values, and each section under its number: the header but for its

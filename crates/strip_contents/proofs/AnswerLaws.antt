@@ -8,42 +8,42 @@ use Rattle.elf_types.specs.declared.errors.ElfError.{ElfError}
 use Rattle.elf_types.specs.declared.errors.ElfError.TheVariants.{Memory, Read, Write, TooLarge, NoSection}
 use Rattle.elf_types.specs.Answers.{first_refusal, answered, IsRefusal}
 use Rattle.elf_outside.specs.declared.sources.Source.{Ghosts}
-use Rattle.elf_object.specs.Object.{Object, Section, is_dirty}
-use Rattle.elf_object.specs.Calls.{newphdr_refusal}
-use Rattle.elf_object.specs.Image.{image}
-use Rattle.elf_object.specs.Refusal.{refusal}
-use Rattle.elf_object.specs.Steps.{stored_ehdr, with_ehdr, with_phdrs}
-use Rattle.elf_object.specs.Open.{created_over}
-use Rattle.elf_object.specs.Valid.{IsObject}
-use Rattle.elf_object.specs.Words.{result_map}
-use Rattle.elf_object.proofs.PassedLaws.{not_refused}
-use Rattle.elf_object.proofs.RefusalLaws.{update_refuses}
-use Rattle.elf_descriptor.specs.State.{State}
-use Rattle.update_plan.specs.Placing.{IsRefused}
-use Rattle.command_objects.specs.Arranged.{Rebuilt, over_base, placed_from, arranged}
-use Rattle.command_objects.specs.Files.{file_of, file_made}
-use Rattle.command_objects.specs.Followed.{kept_from_1}
-use Rattle.command_objects.specs.Rebuilt.{assembled, rebuilt, rebuilt_tail}
-use Rattle.elf_object.specs.Sections.{is_among}
+use Rattle.strip_laws.specs.elf_object.Object.{Object, Section, is_dirty}
+use Rattle.strip_laws.specs.elf_object.Calls.{newphdr_refusal}
+use Rattle.strip_laws.specs.elf_object.Image.{image}
+use Rattle.strip_laws.specs.elf_object.Refusal.{refusal}
+use Rattle.strip_laws.specs.elf_object.Steps.{stored_ehdr, with_ehdr, with_phdrs}
+use Rattle.strip_laws.specs.elf_object.Open.{created_over}
+use Rattle.strip_laws.specs.elf_object.Valid.{IsObject}
+use Rattle.strip_laws.specs.elf_object.Words.{result_map}
+use Rattle.strip_laws.proofs.elf_object.PassedLaws.{not_refused}
+use Rattle.strip_laws.proofs.elf_object.RefusalLaws.{update_refuses}
+use Rattle.strip_tables.specs.elf_descriptor.State.{State}
+use Rattle.strip_tables.specs.update_plan.Placing.{IsRefused}
+use Rattle.strip_laws.specs.command_objects.Arranged.{Rebuilt, over_base, placed_from, arranged}
+use Rattle.strip_laws.specs.command_objects.Files.{file_of, file_made}
+use Rattle.strip_laws.specs.command_objects.Followed.{kept_from_1}
+use Rattle.strip_laws.specs.command_objects.Rebuilt.{assembled, rebuilt, rebuilt_tail}
+use Rattle.strip_laws.specs.elf_object.Sections.{is_among}
 use Rattle.strip_laws.specs.Made.{FitsClass}
 use Rattle.strip_laws.proofs.RebuiltLaws.{rebuilt_is_object}
 use Rattle.strip_laws.proofs.WritableLaws.{rebuilt_is_writable}
-use Rattle.object_making.specs.Based.{IsMadeOver}
-use Rattle.object_making.specs.Placing.{made_of, arranged_refusal}
-use Rattle.object_making.specs.Refused.{UnreadBy}
-use Rattle.image_ranges.specs.Ranges.{KeptSource}
-use Rattle.image_ranges.proofs.ImageLaws.{ranges_make_image}
-use Rattle.strip_removed.specs.Steps.{IsRemovable}
-use Rattle.strip_rebuild.specs.declared.keepers.Keeper.{Keeper}
-use Rattle.strip_rebuild.specs.Answers.{RebuildAnswers, ChecksNames, Rebuilds, IsFilled, homes_asked, refusal_of, sections_of}
-use Rattle.strip_rebuild.specs.Keepers.{KeepsFor, refusal_by, index_by}
-use Rattle.strip_rebuild.specs.Makes.{AsksFor}
-use Rattle.strip_rebuild.proofs.AskLaws.{asks_nothing}
-use Rattle.strip_rebuild.proofs.FillLaws.{filled_third}
-use Rattle.strip_rebuild.proofs.KeptLaws.{early_told}
-use Rattle.strip_rebuild.proofs.MakeLaws.{unread_stated}
-use Rattle.strip_rebuild.proofs.NumberLaws.{zero_stays}
-use Rattle.strip_rebuild.proofs.RebuildLaws.{answers_early, names_refused, placed_whole, tail_within}
+use Rattle.strip_tables.specs.object_making.Based.{IsMadeOver}
+use Rattle.strip_tables.specs.object_making.Placing.{made_of, arranged_refusal}
+use Rattle.strip_tables.specs.object_making.Refused.{UnreadBy}
+use Rattle.strip_tables.specs.image_ranges.Ranges.{KeptSource}
+use Rattle.strip_tables.proofs.image_ranges.ImageLaws.{ranges_make_image}
+use Rattle.strip_tables.specs.strip_removed.Steps.{IsRemovable}
+use Rattle.strip_tables.specs.strip_rebuild.declared.keepers.Keeper.{Keeper}
+use Rattle.strip_tables.specs.strip_rebuild.Answers.{RebuildAnswers, ChecksNames, Rebuilds, IsFilled, homes_asked, refusal_of, sections_of}
+use Rattle.strip_tables.specs.strip_rebuild.Keepers.{KeepsFor, refusal_by, index_by}
+use Rattle.strip_tables.specs.strip_rebuild.Makes.{AsksFor}
+use Rattle.strip_tables.proofs.strip_rebuild.AskLaws.{asks_nothing}
+use Rattle.strip_tables.proofs.strip_rebuild.FillLaws.{filled_third}
+use Rattle.strip_tables.proofs.strip_rebuild.KeptLaws.{early_told}
+use Rattle.strip_tables.proofs.strip_rebuild.MakeLaws.{unread_stated}
+use Rattle.strip_tables.proofs.strip_rebuild.NumberLaws.{zero_stays}
+use Rattle.strip_tables.proofs.strip_rebuild.RebuildLaws.{answers_early, names_refused, placed_whole, tail_within}
 use Rattle.strip_contents.specs.declared.arranged.Arranged.{Arranged}
 use Rattle.strip_contents.specs.declared.contents.Contents.{Contents}
 use Rattle.strip_contents.specs.declared.plans.RangedPlan.{RangedPlan}

@@ -8,12 +8,12 @@ use Rattle.elf_types.specs.declared.errors.ElfError.{ElfError}
 use Rattle.elf_types.specs.declared.errors.ElfError.TheVariants.{Memory, TooLarge}
 use Rattle.elf_layout.specs.declared.parts.PartAt.{PartAt}
 use Rattle.elf_layout.specs.Layout.{in_order_from, some_above, limit_of}
-use Rattle.elf_object.specs.Object.{Object}
-use Rattle.elf_object.specs.Steps.{with_ehdr}
-use Rattle.command_objects.specs.Arranged.{movable, parts_from, section_from, table_place_from, placed_from, tail_refusal}
-use Rattle.listed_layout.specs.declared.listed.Listed.{Listed}
-use Rattle.listed_layout.specs.Listing.{IsListed}
-use Rattle.strip_stream.specs.Arranging.{IsArrangedBehind, IsRefusedBehind}
+use Rattle.strip_laws.specs.elf_object.Object.{Object}
+use Rattle.strip_laws.specs.elf_object.Steps.{with_ehdr}
+use Rattle.strip_laws.specs.command_objects.Arranged.{movable, parts_from, section_from, table_place_from, placed_from, tail_refusal}
+use Rattle.strip_tables.specs.listed_layout.declared.listed.Listed.{Listed}
+use Rattle.strip_tables.specs.listed_layout.Listing.{IsListed}
+use Rattle.strip_tables.specs.strip_stream.Arranging.{IsArrangedBehind, IsRefusedBehind}
 use Rattle.strip_contents.specs.Plans.{IsArrangedTo, ArrangesTo}
 
 -- ---- An object without sections

@@ -8,14 +8,14 @@ use Rattle.elf_types.specs.Answers.{refused_if, first_refusal, IsRefusal}
 use Rattle.elf_outside.specs.Asks.{ReadRose}
 use Rattle.elf_outside.proofs.AskLemmas.{read_rose_refused}
 use Rattle.elf_xlate.specs.Headers.{ehdr_fits}
-use Rattle.elf_object.specs.Object.{Object, Section}
-use Rattle.elf_object.specs.Calls.{update_ehdr_refusal}
-use Rattle.elf_object.specs.Steps.{stored_ehdr}
-use Rattle.elf_object.specs.Valid.{IsObject}
-use Rattle.command_objects.specs.Rebuilt.{index_refusal}
-use Rattle.strip_rebuild.specs.declared.naming.Names.{Names}
-use Rattle.strip_rebuild.specs.declared.naming.Names.TheVariants as names
-use Rattle.strip_rebuild.specs.Answers.{ChecksNames}
+use Rattle.strip_laws.specs.elf_object.Object.{Object, Section}
+use Rattle.strip_laws.specs.elf_object.Calls.{update_ehdr_refusal}
+use Rattle.strip_laws.specs.elf_object.Steps.{stored_ehdr}
+use Rattle.strip_laws.specs.elf_object.Valid.{IsObject}
+use Rattle.strip_laws.specs.command_objects.Rebuilt.{index_refusal}
+use Rattle.strip_tables.specs.strip_rebuild.declared.naming.Names.{Names}
+use Rattle.strip_tables.specs.strip_rebuild.declared.naming.Names.TheVariants as names
+use Rattle.strip_tables.specs.strip_rebuild.Answers.{ChecksNames}
 use Rattle.strip_contents.specs.Checks.{index_beyond, ChecksLast}
 
 pub last_checked : (names : Names) (s count : ℕ) (r : Result (Unit {0}) ElfError)

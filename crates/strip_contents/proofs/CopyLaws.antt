@@ -13,27 +13,27 @@ use Rattle.elf_types.specs.declared.errors.ElfError.{ElfError}
 use Rattle.elf_types.specs.declared.errors.ElfError.TheVariants.{Memory}
 use Rattle.elf_outside.specs.Asks.{ReadRose}
 use Rattle.elf_outside.proofs.AskLemmas.{read_rose_on}
-use Rattle.elf_object.specs.Object.{Object, Section, header_of, section_at, occupies_file, has_file_bytes}
-use Rattle.elf_object.specs.Derived.{derived_header}
-use Rattle.elf_object.specs.Joined.{aligned_pieces}
-use Rattle.elf_object.specs.Layout.{places_of, placed, placed_by, placed_header, placed_section}
-use Rattle.object_laws.proofs.ImageLaws.{placed-dirty, section_at-placed}
-use Rattle.object_laws.proofs.StandLaws.{type-placed, file_bytes_when}
-use Rattle.writing_laws.specs.Ready.{IsReady}
-use Rattle.update_plan.specs.Placing.{IsRefused}
-use Rattle.update_plan.proofs.PlacingLaws.{wants_as}
-use Rattle.update_plan.proofs.RowLaws.{ok_is}
-use Rattle.elf_update.specs.Descriptors.{stored_pieces}
-use Rattle.image_ranges.specs.declared.ranges.ByteRange.{ByteRange}
-use Rattle.image_ranges.specs.Ranges.{pieces_at}
-use Rattle.listed_layout.specs.declared.listed.Listed.{Listed}
-use Rattle.strip_stream.specs.declared.streaming.Streamed.{Streamed}
-use Rattle.strip_stream.specs.Holding.{IsFrontOf}
-use Rattle.strip_stream.specs.Planning.{IsLaidOut}
-use Rattle.strip_stream.specs.Streams.{IsStreamed}
-use Rattle.strip_stream.proofs.StoredLaws.{placed_class}
-use Rattle.strip_stream.proofs.StreamLaws.{streamed_parts_are_ranges}
-use Rattle.strip_stream.proofs.UnreadLaws.{wanted_unread}
+use Rattle.strip_laws.specs.elf_object.Object.{Object, Section, header_of, section_at, occupies_file, has_file_bytes}
+use Rattle.strip_laws.specs.elf_object.Derived.{derived_header}
+use Rattle.strip_laws.specs.elf_object.Joined.{aligned_pieces}
+use Rattle.strip_laws.specs.elf_object.Layout.{places_of, placed, placed_by, placed_header, placed_section}
+use Rattle.strip_laws.proofs.object_laws.ImageLaws.{placed-dirty, section_at-placed}
+use Rattle.strip_laws.proofs.object_laws.StandLaws.{type-placed, file_bytes_when}
+use Rattle.strip_laws.specs.writing_laws.Ready.{IsReady}
+use Rattle.strip_tables.specs.update_plan.Placing.{IsRefused}
+use Rattle.strip_tables.proofs.update_plan.PlacingLaws.{wants_as}
+use Rattle.strip_tables.proofs.update_plan.RowLaws.{ok_is}
+use Rattle.strip_tables.specs.elf_update.Descriptors.{stored_pieces}
+use Rattle.strip_tables.specs.image_ranges.declared.ranges.ByteRange.{ByteRange}
+use Rattle.strip_tables.specs.image_ranges.Ranges.{pieces_at}
+use Rattle.strip_tables.specs.listed_layout.declared.listed.Listed.{Listed}
+use Rattle.strip_tables.specs.strip_stream.declared.streaming.Streamed.{Streamed}
+use Rattle.strip_tables.specs.strip_stream.Holding.{IsFrontOf}
+use Rattle.strip_tables.specs.strip_stream.Planning.{IsLaidOut}
+use Rattle.strip_tables.specs.strip_stream.Streams.{IsStreamed}
+use Rattle.strip_tables.proofs.strip_stream.StoredLaws.{placed_class}
+use Rattle.strip_tables.proofs.strip_stream.StreamLaws.{streamed_parts_are_ranges}
+use Rattle.strip_tables.proofs.strip_stream.UnreadLaws.{wanted_unread}
 use Rattle.strip_contents.specs.declared.plans.RangedPlan.{RangedPlan}
 use Rattle.strip_contents.specs.Plans.{plan_of, new_header, AreRangesBy, IsRangedAs, PlansCopied, kept_with}
 

@@ -4,19 +4,19 @@ use Rattle.std.specs.Prelude.{nat_eq, sum_by}
 use Rattle.std.specs.List.{list_any}
 use Rattle.std.proofs.lemmas.Bool.{eq-eqb, or_right}
 use Rattle.std.proofs.lemmas.List.Sums.{sum_by-cons}
-use Rattle.elf_object.specs.Object.{Object, is_dirty}
-use Rattle.elf_object.specs.Due.{homes_due}
-use Rattle.elf_object.specs.Valid.{IsObject}
-use Rattle.elf_object.specs.Sections.{is_among}
-use Rattle.command_objects.specs.Followed.{kept_from_1}
-use Rattle.command_objects.specs.Rebuilt.{renews_names, items_follow}
-use Rattle.strip_removed.specs.Calls.{names_home}
-use Rattle.strip_rebuild.specs.declared.naming.Names.{Names}
-use Rattle.strip_rebuild.specs.declared.naming.Names.TheVariants.{Stay, Anew, TooLarge}
-use Rattle.strip_rebuild.specs.declared.keepers.Keeper.{Keeper}
-use Rattle.strip_rebuild.specs.Answers.{kept_reads}
-use Rattle.strip_rebuild.specs.Keepers.{follows_by, is_renewed, makes_by, reads_by, RenewsAs, KeepsFor}
-use Rattle.strip_rebuild.proofs.KeptLaws.{among_any, kept_parts, follows_told, reads_told}
+use Rattle.strip_laws.specs.elf_object.Object.{Object, is_dirty}
+use Rattle.strip_laws.specs.elf_object.Due.{homes_due}
+use Rattle.strip_laws.specs.elf_object.Valid.{IsObject}
+use Rattle.strip_laws.specs.elf_object.Sections.{is_among}
+use Rattle.strip_laws.specs.command_objects.Followed.{kept_from_1}
+use Rattle.strip_laws.specs.command_objects.Rebuilt.{renews_names, items_follow}
+use Rattle.strip_tables.specs.strip_removed.Calls.{names_home}
+use Rattle.strip_tables.specs.strip_rebuild.declared.naming.Names.{Names}
+use Rattle.strip_tables.specs.strip_rebuild.declared.naming.Names.TheVariants.{Stay, Anew, TooLarge}
+use Rattle.strip_tables.specs.strip_rebuild.declared.keepers.Keeper.{Keeper}
+use Rattle.strip_tables.specs.strip_rebuild.Answers.{kept_reads}
+use Rattle.strip_tables.specs.strip_rebuild.Keepers.{follows_by, is_renewed, makes_by, reads_by, RenewsAs, KeepsFor}
+use Rattle.strip_tables.proofs.strip_rebuild.KeptLaws.{among_any, kept_parts, follows_told, reads_told}
 use Rattle.strip_contents.specs.Ranges.{making_due}
 use Rattle.strip_contents.specs.Contents.{sections_due}
 use Rattle.strip_contents.specs.Plans.{is_made, kept_due, stream_due}

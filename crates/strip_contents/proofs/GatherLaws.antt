@@ -12,15 +12,15 @@ use Rattle.elf_types.specs.declared.records.Phdr.{Phdr}
 use Rattle.elf_types.specs.declared.errors.ElfError.{ElfError}
 use Rattle.elf_types.specs.declared.errors.ElfError.TheVariants.{Memory, TooLarge}
 use Rattle.elf_outside.specs.Asks.{ReadRose}
-use Rattle.elf_object.specs.Object.{Object, Section, section_at, occupies_file}
-use Rattle.elf_object.specs.Image.{kept_base}
-use Rattle.elf_object.specs.Joined.{aligned_pieces}
-use Rattle.elf_object.specs.Steps.{with_ehdr, stored_ehdr}
-use Rattle.command_objects.specs.Arranged.{place_from, section_from, table_place_from, placed_from}
+use Rattle.strip_laws.specs.elf_object.Object.{Object, Section, section_at, occupies_file}
+use Rattle.strip_laws.specs.elf_object.Image.{kept_base}
+use Rattle.strip_laws.specs.elf_object.Joined.{aligned_pieces}
+use Rattle.strip_laws.specs.elf_object.Steps.{with_ehdr, stored_ehdr}
+use Rattle.strip_laws.specs.command_objects.Arranged.{place_from, section_from, table_place_from, placed_from}
 use Rattle.strip_laws.proofs.MadeSections.{section_placed}
-use Rattle.listed_layout.specs.declared.listed.Listed.{Listed}
-use Rattle.image_ranges.specs.declared.ranges.ByteRange.{ByteRange}
-use Rattle.strip_stream.proofs.UnreadLaws.{wanted_unread}
+use Rattle.strip_tables.specs.listed_layout.declared.listed.Listed.{Listed}
+use Rattle.strip_tables.specs.image_ranges.declared.ranges.ByteRange.{ByteRange}
+use Rattle.strip_tables.proofs.strip_stream.UnreadLaws.{wanted_unread}
 use Rattle.strip_contents.specs.declared.arranged.Arranged.{Arranged}
 use Rattle.strip_contents.specs.declared.contents.Contents.{Contents}
 use Rattle.strip_contents.specs.Plans.{new_header, arranged_object, IsArrangedTo, IsRefusedTo, ArrangesTo, HasRanges, IsRangedAs, IsGathered, MayBeWritten, IsListable, listed_of, IsGatheredOf, ArrangesContents}

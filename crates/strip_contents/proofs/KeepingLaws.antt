@@ -10,20 +10,20 @@ use Rattle.elf_types.specs.declared.errors.ElfError.{ElfError}
 use Rattle.elf_types.specs.declared.errors.ElfError.TheVariants.{Memory}
 use Rattle.elf_types.specs.Answers.{first_refusal}
 use Rattle.elf_outside.specs.declared.sources.Source.{Ghosts}
-use Rattle.elf_ident.specs.Front.{zero_shdr}
-use Rattle.elf_object.specs.Object.{Object, is_dirty}
-use Rattle.elf_object.specs.Valid.{IsObject, IsTied}
-use Rattle.elf_descriptor.specs.State.{State}
-use Rattle.command_objects.specs.Followed.{kept_from_1}
-use Rattle.object_making.proofs.RefusedLaws.{unread_as, unread_stop, passed_more, passed_all}
-use Rattle.image_ranges.specs.declared.ranges.ByteRange.{ByteRange}
-use Rattle.image_ranges.specs.Ranges.{range_bytes}
-use Rattle.strip_rebuild.specs.declared.keepers.Keeper.{Keeper}
-use Rattle.strip_rebuild.specs.Keepers.{header_by, refusal_by}
-use Rattle.strip_rebuild.specs.Makes.{AsksFor}
-use Rattle.strip_rebuild.proofs.AskLaws.{asks_as, asks_stop, asks_more, asks_nothing, asks_twice}
-use Rattle.strip_rebuild.proofs.FillLaws.{none_passed}
-use Rattle.strip_rebuild.proofs.NumberLaws.{kept_few}
+use Rattle.strip_laws.specs.elf_ident.Front.{zero_shdr}
+use Rattle.strip_laws.specs.elf_object.Object.{Object, is_dirty}
+use Rattle.strip_laws.specs.elf_object.Valid.{IsObject, IsTied}
+use Rattle.strip_tables.specs.elf_descriptor.State.{State}
+use Rattle.strip_laws.specs.command_objects.Followed.{kept_from_1}
+use Rattle.strip_tables.proofs.object_making.RefusedLaws.{unread_as, unread_stop, passed_more, passed_all}
+use Rattle.strip_tables.specs.image_ranges.declared.ranges.ByteRange.{ByteRange}
+use Rattle.strip_tables.specs.image_ranges.Ranges.{range_bytes}
+use Rattle.strip_tables.specs.strip_rebuild.declared.keepers.Keeper.{Keeper}
+use Rattle.strip_tables.specs.strip_rebuild.Keepers.{header_by, refusal_by}
+use Rattle.strip_tables.specs.strip_rebuild.Makes.{AsksFor}
+use Rattle.strip_tables.proofs.strip_rebuild.AskLaws.{asks_as, asks_stop, asks_more, asks_nothing, asks_twice}
+use Rattle.strip_tables.proofs.strip_rebuild.FillLaws.{none_passed}
+use Rattle.strip_tables.proofs.strip_rebuild.NumberLaws.{kept_few}
 use Rattle.strip_contents.specs.declared.contents.Contents.{Contents}
 use Rattle.strip_contents.specs.Ranges.{bytes_by, making_due, FindsRange}
 use Rattle.strip_contents.specs.Contents.{kept_size, IsPushed, HasOneMore, IsPutBehind, KeepsSection, AreKept, HasFirst, AreKeptBy, sections_due, KeepsSections, HasKept, KeepsContents}

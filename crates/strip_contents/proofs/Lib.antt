@@ -1,3 +1,7 @@
+pub use Rattle.strip_tables.proofs.image_ranges
+pub use Rattle.strip_laws.proofs as strip_laws
+pub use Rattle.strip_tables.proofs.strip_rebuild
+pub use Rattle.strip_tables.proofs.strip_stream
 pub mod RangeLaws
 pub mod RowLaws
 pub mod KeepingLaws

@@ -12,26 +12,26 @@ use Rattle.elf_types.specs.declared.records.Ehdr.{Ehdr}
 use Rattle.elf_types.specs.declared.records.Shdr.{Shdr}
 use Rattle.elf_xlate.specs.declared.content.Items.{Items}
 use Rattle.elf_xlate.specs.Translation.{encoded}
-use Rattle.elf_ident.specs.Front.{zero_shdr}
-use Rattle.elf_object.specs.Object.{Object, Section, header_of, section_at, absent_section, new_section, occupies_file, has_file_bytes}
-use Rattle.elf_object.specs.Open.{created_over}
-use Rattle.elf_object.specs.Joined.{aligned_pieces, file_bytes}
-use Rattle.elf_object.specs.Steps.{stored_ehdr, with_ehdr, with_phdrs}
-use Rattle.object_laws.proofs.ImageLaws.{joined-none}
-use Rattle.object_laws.proofs.StandLaws.{file_bytes_when}
-use Rattle.elf_descriptor.specs.State.{State}
-use Rattle.command_objects.specs.Arranged.{over_base}
-use Rattle.command_objects.specs.Followed.{kept_from_1}
-use Rattle.command_objects.specs.Rebuilt.{made_section, assembled}
+use Rattle.strip_laws.specs.elf_ident.Front.{zero_shdr}
+use Rattle.strip_laws.specs.elf_object.Object.{Object, Section, header_of, section_at, absent_section, new_section, occupies_file, has_file_bytes}
+use Rattle.strip_laws.specs.elf_object.Open.{created_over}
+use Rattle.strip_laws.specs.elf_object.Joined.{aligned_pieces, file_bytes}
+use Rattle.strip_laws.specs.elf_object.Steps.{stored_ehdr, with_ehdr, with_phdrs}
+use Rattle.strip_laws.proofs.object_laws.ImageLaws.{joined-none}
+use Rattle.strip_laws.proofs.object_laws.StandLaws.{file_bytes_when}
+use Rattle.strip_tables.specs.elf_descriptor.State.{State}
+use Rattle.strip_laws.specs.command_objects.Arranged.{over_base}
+use Rattle.strip_laws.specs.command_objects.Followed.{kept_from_1}
+use Rattle.strip_laws.specs.command_objects.Rebuilt.{made_section, assembled}
 use Rattle.strip_laws.proofs.MadeSections.{header_made, made_bytes}
-use Rattle.object_making.specs.Making.{sections_by}
-use Rattle.listed_layout.specs.Listing.{IsListed}
-use Rattle.image_ranges.specs.declared.ranges.ByteRange.{ByteRange}
-use Rattle.image_ranges.specs.Ranges.{range_bytes, pieces_at}
-use Rattle.strip_rebuild.specs.declared.keepers.Keeper.{Keeper}
-use Rattle.strip_rebuild.specs.Keepers.{header_by, items_by, index_by}
-use Rattle.strip_rebuild.specs.Answers.{filled_sections, sections_of}
-use Rattle.strip_stream.proofs.HomeLaws.{made_pieces}
+use Rattle.strip_tables.specs.object_making.Making.{sections_by}
+use Rattle.strip_tables.specs.listed_layout.Listing.{IsListed}
+use Rattle.strip_tables.specs.image_ranges.declared.ranges.ByteRange.{ByteRange}
+use Rattle.strip_tables.specs.image_ranges.Ranges.{range_bytes, pieces_at}
+use Rattle.strip_tables.specs.strip_rebuild.declared.keepers.Keeper.{Keeper}
+use Rattle.strip_tables.specs.strip_rebuild.Keepers.{header_by, items_by, index_by}
+use Rattle.strip_tables.specs.strip_rebuild.Answers.{filled_sections, sections_of}
+use Rattle.strip_tables.proofs.strip_stream.HomeLaws.{made_pieces}
 use Rattle.strip_contents.specs.declared.contents.Contents.{Contents}
 use Rattle.strip_contents.specs.Ranges.{bytes_by}
 use Rattle.strip_contents.specs.Contents.{kept_size, AreKept, HasKept, HasContents}

@@ -14,32 +14,32 @@ use Rattle.elf_outside.specs.declared.sources.Source.{Ghosts}
 use Rattle.elf_xlate.specs.declared.content.Items.{Items}
 use Rattle.elf_xlate.specs.declared.content.Items.TheVariants as items
 use Rattle.elf_xlate.specs.Translation.{encoded, first_unfit}
-use Rattle.elf_object.specs.Object.{Object, section_at, header_of, is_dirty}
-use Rattle.elf_object.specs.Answers.{raw_refusal}
-use Rattle.elf_object.specs.Due.{homes_due}
-use Rattle.elf_object.specs.Valid.{IsObject, IsTied}
-use Rattle.object_laws.proofs.KeepLaws.{section_at_is}
-use Rattle.elf_descriptor.specs.State.{State}
-use Rattle.elf_descriptor.specs.Reads.{Looks}
-use Rattle.update_plan.proofs.RowLaws.{ok_is}
-use Rattle.command_objects.specs.Followed.{symbols_follow, members_follow}
+use Rattle.strip_laws.specs.elf_object.Object.{Object, section_at, header_of, is_dirty}
+use Rattle.strip_laws.specs.elf_object.Answers.{raw_refusal}
+use Rattle.strip_laws.specs.elf_object.Due.{homes_due}
+use Rattle.strip_laws.specs.elf_object.Valid.{IsObject, IsTied}
+use Rattle.strip_laws.proofs.object_laws.KeepLaws.{section_at_is}
+use Rattle.strip_tables.specs.elf_descriptor.State.{State}
+use Rattle.strip_tables.specs.elf_descriptor.Reads.{Looks}
+use Rattle.strip_tables.proofs.update_plan.RowLaws.{ok_is}
+use Rattle.strip_laws.specs.command_objects.Followed.{symbols_follow, members_follow}
 use Rattle.strip_laws.proofs.MadeSections.{bytes_encoded}
-use Rattle.object_making.specs.Making.{reading}
-use Rattle.object_making.specs.Refused.{UnreadBy}
-use Rattle.object_making.proofs.MakingLaws.{memory_unread, passes_on, one_read, one_unread}
-use Rattle.image_ranges.specs.declared.ranges.ByteRange.{ByteRange}
-use Rattle.image_ranges.specs.Ranges.{range_bytes}
-use Rattle.strip_rebuild.specs.declared.naming.Names.{Names}
-use Rattle.strip_rebuild.specs.declared.naming.Names.TheVariants.{Stay, Anew, TooLarge}
-use Rattle.strip_rebuild.specs.declared.keepers.Keeper.{Keeper}
-use Rattle.strip_rebuild.specs.Homes.{home_refusal}
-use Rattle.strip_rebuild.specs.Keepers.{indexes_by, kept_by, items_or_names, items_by, follows_by, is_renewed, makes_by, kept_refusal_by, refusal_or_none, refusal_by, reads_by, HasTable}
-use Rattle.strip_rebuild.specs.Makes.{AsksFor}
-use Rattle.strip_rebuild.proofs.AskLaws.{asks_looks, asks_nothing}
-use Rattle.strip_rebuild.proofs.HomeLaws.{raw_there}
-use Rattle.strip_stream.specs.Fronts.{HoldsMore}
-use Rattle.strip_stream.proofs.FrontLaws.{held_bytes_stay}
-use Rattle.strip_stream.proofs.HomeLaws.{homes_stand}
+use Rattle.strip_tables.specs.object_making.Making.{reading}
+use Rattle.strip_tables.specs.object_making.Refused.{UnreadBy}
+use Rattle.strip_tables.proofs.object_making.MakingLaws.{memory_unread, passes_on, one_read, one_unread}
+use Rattle.strip_tables.specs.image_ranges.declared.ranges.ByteRange.{ByteRange}
+use Rattle.strip_tables.specs.image_ranges.Ranges.{range_bytes}
+use Rattle.strip_tables.specs.strip_rebuild.declared.naming.Names.{Names}
+use Rattle.strip_tables.specs.strip_rebuild.declared.naming.Names.TheVariants.{Stay, Anew, TooLarge}
+use Rattle.strip_tables.specs.strip_rebuild.declared.keepers.Keeper.{Keeper}
+use Rattle.strip_tables.specs.strip_rebuild.Homes.{home_refusal}
+use Rattle.strip_tables.specs.strip_rebuild.Keepers.{indexes_by, kept_by, items_or_names, items_by, follows_by, is_renewed, makes_by, kept_refusal_by, refusal_or_none, refusal_by, reads_by, HasTable}
+use Rattle.strip_tables.specs.strip_rebuild.Makes.{AsksFor}
+use Rattle.strip_tables.proofs.strip_rebuild.AskLaws.{asks_looks, asks_nothing}
+use Rattle.strip_tables.proofs.strip_rebuild.HomeLaws.{raw_there}
+use Rattle.strip_tables.specs.strip_stream.Fronts.{HoldsMore}
+use Rattle.strip_tables.proofs.strip_stream.FrontLaws.{held_bytes_stay}
+use Rattle.strip_tables.proofs.strip_stream.HomeLaws.{homes_stand}
 use Rattle.strip_contents.specs.Ranges.{base_place, home_range, FindsHome, bytes_by, IsRangeOf, making_due, FindsRange}
 
 -- ---- Homes

@@ -3,10 +3,10 @@ use Rattle.std.proofs.Common.{◌≡◌, ℕ, Bool, List, Result, Ok, Err, sym}
 use Rattle.std.specs.Prelude.{IsTrue}
 use Rattle.elf_types.specs.declared.errors.ElfError.{ElfError}
 use Rattle.elf_types.specs.declared.errors.ElfError.TheVariants.{Memory, Read}
-use Rattle.elf_object.specs.Object.{Object}
-use Rattle.elf_object.specs.Words.{Wants, Answers}
-use Rattle.command_objects.specs.Removed.{removed_sections}
-use Rattle.strip_removed.specs.Calls as calls
+use Rattle.strip_laws.specs.elf_object.Object.{Object}
+use Rattle.strip_laws.specs.elf_object.Words.{Wants, Answers}
+use Rattle.strip_laws.specs.command_objects.Removed.{removed_sections}
+use Rattle.strip_tables.specs.strip_removed.Calls as calls
 
 module _ (debug_only : Bool) (names : List (List ℕ)) (wants : Wants) (told : Bool) (o : Object)
   where

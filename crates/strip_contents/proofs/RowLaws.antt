@@ -8,17 +8,17 @@ use Rattle.elf_types.specs.declared.errors.ElfError.{ElfError}
 use Rattle.elf_types.specs.declared.errors.ElfError.TheVariants.{Memory, Read}
 use Rattle.elf_outside.specs.declared.sources.Source.{Ghosts}
 use Rattle.elf_xlate.specs.Translation.{encoded}
-use Rattle.elf_object.specs.Due.{homes_due}
-use Rattle.elf_descriptor.specs.State.{State}
-use Rattle.object_making.specs.Refused.{UnreadBy}
-use Rattle.object_making.proofs.MakingLaws.{passes_on}
-use Rattle.image_ranges.specs.declared.ranges.ByteRange.{ByteRange}
-use Rattle.strip_rebuild.specs.declared.keepers.Keeper.{Keeper}
-use Rattle.strip_rebuild.specs.Keepers.{makes_by, refusal_by, reads_by}
-use Rattle.strip_rebuild.specs.Makes.{AsksFor}
-use Rattle.strip_rebuild.proofs.AskLaws.{asks_more}
-use Rattle.strip_stream.specs.Fronts.{HoldsMore}
-use Rattle.strip_stream.proofs.FrontLaws.{appended, behind, held_bytes_stay}
+use Rattle.strip_laws.specs.elf_object.Due.{homes_due}
+use Rattle.strip_tables.specs.elf_descriptor.State.{State}
+use Rattle.strip_tables.specs.object_making.Refused.{UnreadBy}
+use Rattle.strip_tables.proofs.object_making.MakingLaws.{passes_on}
+use Rattle.strip_tables.specs.image_ranges.declared.ranges.ByteRange.{ByteRange}
+use Rattle.strip_tables.specs.strip_rebuild.declared.keepers.Keeper.{Keeper}
+use Rattle.strip_tables.specs.strip_rebuild.Keepers.{makes_by, refusal_by, reads_by}
+use Rattle.strip_tables.specs.strip_rebuild.Makes.{AsksFor}
+use Rattle.strip_tables.proofs.strip_rebuild.AskLaws.{asks_more}
+use Rattle.strip_tables.specs.strip_stream.Fronts.{HoldsMore}
+use Rattle.strip_tables.proofs.strip_stream.FrontLaws.{appended, behind, held_bytes_stay}
 use Rattle.strip_tables.specs.declared.rows.FollowedRows.{FollowedRows}
 use Rattle.strip_tables.specs.Rows.{rows_made, tables_due, HoldsMade}
 use Rattle.strip_tables.specs.Finding.{AreRowsOf}

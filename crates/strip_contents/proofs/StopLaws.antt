@@ -3,8 +3,8 @@ use Rattle.std.proofs.Common.{◌≡◌, ◌<◌, ℕ, List, length, map, take, 
 use Rattle.elf_types.specs.declared.errors.ElfError.{ElfError}
 use Rattle.elf_types.specs.declared.errors.ElfError.TheVariants.{Memory, Read, Write}
 use Rattle.elf_types.specs.Answers.{first_refusal}
-use Rattle.object_making.specs.Refused.{RefusedBy}
-use Rattle.object_making.proofs.RefusedLaws.{unread_stop}
+use Rattle.strip_tables.specs.object_making.Refused.{RefusedBy}
+use Rattle.strip_tables.proofs.object_making.RefusedLaws.{unread_stop}
 
 -- one step for each number, of which one is refused
 pub refused_stop : (f : ℕ → Option ElfError) (numbers : List ℕ) (i : ℕ) (e : ElfError)

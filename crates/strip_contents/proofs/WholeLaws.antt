@@ -6,26 +6,26 @@ use Rattle.elf_types.specs.declared.errors.ElfError.{ElfError}
 use Rattle.elf_types.specs.declared.errors.ElfError.TheVariants.{Memory, Read, TooMany}
 use Rattle.elf_types.specs.Answers.{refused_if, first_refusal, answered, IsRefusal}
 use Rattle.elf_outside.specs.declared.sources.Source.{Ghosts}
-use Rattle.elf_object.specs.Object.{Object, is_dirty}
-use Rattle.elf_object.specs.Calls.{newphdr_refusal}
-use Rattle.elf_object.specs.Due.{homes_due}
-use Rattle.elf_object.specs.Valid.{IsObject, IsTied}
-use Rattle.elf_descriptor.specs.State.{State}
-use Rattle.command_objects.specs.Followed.{kept_from_1}
-use Rattle.command_objects.specs.Arranged.{Rebuilt}
-use Rattle.command_objects.specs.Rebuilt.{rebuilt}
+use Rattle.strip_laws.specs.elf_object.Object.{Object, is_dirty}
+use Rattle.strip_laws.specs.elf_object.Calls.{newphdr_refusal}
+use Rattle.strip_laws.specs.elf_object.Due.{homes_due}
+use Rattle.strip_laws.specs.elf_object.Valid.{IsObject, IsTied}
+use Rattle.strip_tables.specs.elf_descriptor.State.{State}
+use Rattle.strip_laws.specs.command_objects.Followed.{kept_from_1}
+use Rattle.strip_laws.specs.command_objects.Arranged.{Rebuilt}
+use Rattle.strip_laws.specs.command_objects.Rebuilt.{rebuilt}
 use Rattle.strip_laws.specs.Made.{FitsClass}
-use Rattle.object_making.specs.Refused.{RefusedBy, UnreadBy}
-use Rattle.object_making.proofs.RefusedLaws.{answer_refused}
-use Rattle.strip_removed.specs.Calls.{names_home}
-use Rattle.strip_removed.specs.Steps.{IsRemovable}
-use Rattle.strip_rebuild.specs.declared.keepers.Keeper.{Keeper}
-use Rattle.strip_rebuild.specs.Answers.{sections_of}
-use Rattle.strip_rebuild.specs.Keepers.{KeepsFor, header_by, refusal_by, index_by}
-use Rattle.strip_rebuild.specs.Makes.{AsksFor}
-use Rattle.strip_rebuild.proofs.AskLaws.{asks_as, asks_stop, asks_more, asks_nothing, asks_twice}
-use Rattle.strip_rebuild.proofs.FillLaws.{segments_refused, sections_refused}
-use Rattle.strip_rebuild.proofs.MakeLaws.{refused_quiet, quiet_rose}
+use Rattle.strip_tables.specs.object_making.Refused.{RefusedBy, UnreadBy}
+use Rattle.strip_tables.proofs.object_making.RefusedLaws.{answer_refused}
+use Rattle.strip_tables.specs.strip_removed.Calls.{names_home}
+use Rattle.strip_tables.specs.strip_removed.Steps.{IsRemovable}
+use Rattle.strip_tables.specs.strip_rebuild.declared.keepers.Keeper.{Keeper}
+use Rattle.strip_tables.specs.strip_rebuild.Answers.{sections_of}
+use Rattle.strip_tables.specs.strip_rebuild.Keepers.{KeepsFor, header_by, refusal_by, index_by}
+use Rattle.strip_tables.specs.strip_rebuild.Makes.{AsksFor}
+use Rattle.strip_tables.proofs.strip_rebuild.AskLaws.{asks_as, asks_stop, asks_more, asks_nothing, asks_twice}
+use Rattle.strip_tables.proofs.strip_rebuild.FillLaws.{segments_refused, sections_refused}
+use Rattle.strip_tables.proofs.strip_rebuild.MakeLaws.{refused_quiet, quiet_rose}
 use Rattle.strip_contents.specs.declared.arranged.Arranged.{Arranged}
 use Rattle.strip_contents.specs.declared.contents.Contents.{Contents}
 use Rattle.strip_contents.specs.declared.plans.RangedPlan.{RangedPlan}

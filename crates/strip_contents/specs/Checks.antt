@@ -4,8 +4,8 @@ use Rattle.std.specs.Prelude.{◌≡◌, ◌⊎◌, ℕ, not, ◌==◌, ◌&&◌
 use Rattle.elf_types.specs.Answers.{refused_if}
 use Rattle.elf_types.specs.declared.errors.ElfError.{ElfError}
 use Rattle.elf_types.specs.declared.errors.ElfError.TheVariants.{NoSection}
-use Rattle.strip_rebuild.specs.declared.naming.Names.{Names}
-use Rattle.strip_rebuild.specs.Answers.{ChecksNames}
+use Rattle.strip_tables.specs.strip_rebuild.declared.naming.Names.{Names}
+use Rattle.strip_tables.specs.strip_rebuild.Answers.{ChecksNames}
 
 -- a string index is neither 0 nor the number of one of so many sections
 abbrev pub index_beyond : ℕ → ℕ → Option ElfError

@@ -6,16 +6,16 @@ use Rattle.elf_types.specs.declared.constants.TheConstants.{MAX_SECTIONS}
 use Rattle.elf_types.specs.declared.records.Shdr.{Shdr}
 use Rattle.elf_types.specs.declared.errors.ElfError.{ElfError}
 use Rattle.elf_outside.specs.declared.sources.Source.{Ghosts}
-use Rattle.elf_ident.specs.Front.{zero_shdr}
-use Rattle.elf_object.specs.Object.{Object, occupies_file}
-use Rattle.elf_descriptor.specs.State.{State}
-use Rattle.command_objects.specs.Followed.{kept_from_1}
-use Rattle.object_making.specs.Refused.{UnreadBy}
-use Rattle.image_ranges.specs.declared.ranges.ByteRange.{ByteRange}
-use Rattle.image_ranges.specs.Ranges.{range_bytes}
-use Rattle.strip_rebuild.specs.declared.keepers.Keeper.{Keeper}
-use Rattle.strip_rebuild.specs.Keepers.{header_by, refusal_by}
-use Rattle.strip_rebuild.specs.Makes.{AsksFor}
+use Rattle.strip_laws.specs.elf_ident.Front.{zero_shdr}
+use Rattle.strip_laws.specs.elf_object.Object.{Object, occupies_file}
+use Rattle.strip_tables.specs.elf_descriptor.State.{State}
+use Rattle.strip_laws.specs.command_objects.Followed.{kept_from_1}
+use Rattle.strip_tables.specs.object_making.Refused.{UnreadBy}
+use Rattle.strip_tables.specs.image_ranges.declared.ranges.ByteRange.{ByteRange}
+use Rattle.strip_tables.specs.image_ranges.Ranges.{range_bytes}
+use Rattle.strip_tables.specs.strip_rebuild.declared.keepers.Keeper.{Keeper}
+use Rattle.strip_tables.specs.strip_rebuild.Keepers.{header_by, refusal_by}
+use Rattle.strip_tables.specs.strip_rebuild.Makes.{AsksFor}
 use Rattle.strip_contents.specs.declared.contents.Contents.{Contents}
 use Rattle.strip_contents.specs.Ranges.{bytes_by, IsRangeOf, making_due}
 

@@ -10,29 +10,29 @@ use Rattle.elf_types.specs.declared.errors.ElfError.{ElfError}
 use Rattle.elf_types.specs.declared.errors.ElfError.TheVariants.{Memory, Read, Write, TooLarge}
 use Rattle.elf_outside.specs.Asks.{ReadRose}
 use Rattle.elf_outside.specs.declared.sources.Source.{Ghosts}
-use Rattle.elf_object.specs.Object.{Object, header_of, section_at, occupies_file, is_dirty}
-use Rattle.elf_object.specs.Due.{homes_due}
-use Rattle.elf_object.specs.Image.{kept_base}
-use Rattle.elf_object.specs.Joined.{aligned_pieces}
-use Rattle.elf_object.specs.Refusal.{content_refusal}
-use Rattle.elf_object.specs.Valid.{IsObject}
-use Rattle.elf_descriptor.specs.State.{State}
-use Rattle.update_plan.specs.Placing.{IsRefused}
-use Rattle.command_objects.specs.Arranged.{Rebuilt, placed_from}
-use Rattle.command_objects.specs.Files.{file_made}
-use Rattle.command_objects.specs.Followed.{kept_from_1}
-use Rattle.command_objects.specs.Rebuilt.{rebuilt, renews_names, items_follow}
-use Rattle.object_making.specs.Placing.{arranged_refusal}
-use Rattle.listed_layout.specs.declared.listed.Listed.{Listed}
-use Rattle.listed_layout.specs.Listing.{IsListed}
-use Rattle.image_ranges.specs.declared.ranges.ByteRange.{ByteRange}
-use Rattle.image_ranges.specs.Ranges.{KeptSource, KeptRanges, pieces_at}
-use Rattle.image_ranges.specs.Images.{AreRangesOf, ranged_text}
-use Rattle.strip_removed.specs.Calls.{names_home}
-use Rattle.strip_rebuild.specs.Answers.{kept_reads}
-use Rattle.strip_rebuild.specs.Makes.{AsksFor}
-use Rattle.strip_stream.specs.declared.streaming.Streamed.{Streamed}
-use Rattle.strip_stream.specs.Planning.{IsLaidOut}
+use Rattle.strip_laws.specs.elf_object.Object.{Object, header_of, section_at, occupies_file, is_dirty}
+use Rattle.strip_laws.specs.elf_object.Due.{homes_due}
+use Rattle.strip_laws.specs.elf_object.Image.{kept_base}
+use Rattle.strip_laws.specs.elf_object.Joined.{aligned_pieces}
+use Rattle.strip_laws.specs.elf_object.Refusal.{content_refusal}
+use Rattle.strip_laws.specs.elf_object.Valid.{IsObject}
+use Rattle.strip_tables.specs.elf_descriptor.State.{State}
+use Rattle.strip_tables.specs.update_plan.Placing.{IsRefused}
+use Rattle.strip_laws.specs.command_objects.Arranged.{Rebuilt, placed_from}
+use Rattle.strip_laws.specs.command_objects.Files.{file_made}
+use Rattle.strip_laws.specs.command_objects.Followed.{kept_from_1}
+use Rattle.strip_laws.specs.command_objects.Rebuilt.{rebuilt, renews_names, items_follow}
+use Rattle.strip_tables.specs.object_making.Placing.{arranged_refusal}
+use Rattle.strip_tables.specs.listed_layout.declared.listed.Listed.{Listed}
+use Rattle.strip_tables.specs.listed_layout.Listing.{IsListed}
+use Rattle.strip_tables.specs.image_ranges.declared.ranges.ByteRange.{ByteRange}
+use Rattle.strip_tables.specs.image_ranges.Ranges.{KeptSource, KeptRanges, pieces_at}
+use Rattle.strip_tables.specs.image_ranges.Images.{AreRangesOf, ranged_text}
+use Rattle.strip_tables.specs.strip_removed.Calls.{names_home}
+use Rattle.strip_tables.specs.strip_rebuild.Answers.{kept_reads}
+use Rattle.strip_tables.specs.strip_rebuild.Makes.{AsksFor}
+use Rattle.strip_tables.specs.strip_stream.declared.streaming.Streamed.{Streamed}
+use Rattle.strip_tables.specs.strip_stream.Planning.{IsLaidOut}
 use Rattle.strip_contents.specs.declared.arranged.Arranged.{Arranged}
 use Rattle.strip_contents.specs.declared.contents.Contents.{Contents}
 use Rattle.strip_contents.specs.declared.plans.RangedPlan.{RangedPlan}

@@ -6,15 +6,15 @@ use Rattle.elf_types.specs.declared.errors.ElfError.{ElfError}
 use Rattle.elf_types.specs.declared.errors.ElfError.TheVariants.{OutOfFile}
 use Rattle.elf_outside.specs.declared.sources.Source.{Ghosts}
 use Rattle.elf_xlate.specs.Translation.{encoded}
-use Rattle.elf_object.specs.Object.{Object, section_at}
-use Rattle.elf_object.specs.Due.{homes_due}
-use Rattle.elf_descriptor.specs.State.{State}
-use Rattle.object_making.specs.Refused.{UnreadBy}
-use Rattle.image_ranges.specs.declared.ranges.ByteRange.{ByteRange}
-use Rattle.image_ranges.specs.Ranges.{range_bytes}
-use Rattle.strip_rebuild.specs.declared.keepers.Keeper.{Keeper}
-use Rattle.strip_rebuild.specs.Keepers.{items_by, makes_by, refusal_by, reads_by}
-use Rattle.strip_rebuild.specs.Makes.{AsksFor}
+use Rattle.strip_laws.specs.elf_object.Object.{Object, section_at}
+use Rattle.strip_laws.specs.elf_object.Due.{homes_due}
+use Rattle.strip_tables.specs.elf_descriptor.State.{State}
+use Rattle.strip_tables.specs.object_making.Refused.{UnreadBy}
+use Rattle.strip_tables.specs.image_ranges.declared.ranges.ByteRange.{ByteRange}
+use Rattle.strip_tables.specs.image_ranges.Ranges.{range_bytes}
+use Rattle.strip_tables.specs.strip_rebuild.declared.keepers.Keeper.{Keeper}
+use Rattle.strip_tables.specs.strip_rebuild.Keepers.{items_by, makes_by, refusal_by, reads_by}
+use Rattle.strip_tables.specs.strip_rebuild.Makes.{AsksFor}
 
 -- ---- Homes
 

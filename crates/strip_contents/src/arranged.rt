@@ -1,9 +1,7 @@
 //! Listed headers with their places, and where the bytes of the sections are.
 
 use elf_types::List;
-use image_ranges::ByteRange;
-use listed_layout::Listed;
-use shared_bytes::SharedBytes;
+use strip_tables::prelude::{ByteRange, SharedBytes, listed_layout_Listed as Listed};
 
 /// What was kept of sections, with the places of what stands behind the base of a program.
 #[derive(Drop)]

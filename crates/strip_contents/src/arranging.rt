@@ -5,9 +5,8 @@ ghost use Rattle.std.specs.Prelude.{◌≡◌, length};
 ghost use Rattle.strip_contents.specs.Plans.{ArrangesTo};
 
 use elf_types::ElfError;
-use listed_layout::Listed;
 use std::alloc::Global;
-use strip_stream::arrange_listed;
+use strip_tables::prelude::{arrange_listed, listed_layout_Listed as Listed};
 
 /// Listed headers in which what is not loaded stands behind the tail, where there is one. It
 /// refuses `TooLarge` exactly where one of these places is above 2^40 (class 64) or 2^32 - 1 (class

@@ -2,12 +2,12 @@
 
 ghost use Rattle.std.specs.Prelude.{◌≡◌};
 ghost use Rattle.elf_types.specs.Answers.{answered};
-ghost use Rattle.elf_object.specs.Calls.{newphdr_refusal};
+ghost use Rattle.strip_laws.specs.elf_object.Calls.{newphdr_refusal};
 ghost use Rattle.strip_contents.specs.Checks.{index_beyond, ChecksLast};
 
 use elf_types::ElfError;
 use elf_types::constants::PN_XNUM;
-use strip_rebuild::{Names, check_names};
+use strip_tables::prelude::{Names, check_names};
 
 /// Refuses so many program headers that `e_phnum` does not hold their number, as `newphdr` does:
 /// `TooMany`.

@@ -4,11 +4,10 @@ ghost use Rattle.std.specs.Prelude.{◌≡◌, [], OnOk, IfOk, IfErr};
 ghost use Rattle.elf_types.specs.declared.errors.ElfError.TheVariants.{Memory};
 ghost use Rattle.strip_contents.specs.Contents.{IsPushed, IsPutBehind, HasFirst, kept_size};
 
-use elf_object::occupies_file;
 use elf_types::{Addrs, ElfError, List, NULL_SECTION, Shdr, Shdrs};
-use image_ranges::ByteRange;
-use shared_bytes::SharedBytes;
 use std::alloc::Global;
+use strip_laws::prelude::occupies_file;
+use strip_tables::prelude::{ByteRange, SharedBytes};
 
 /// The headers of the sections of a new image, how many bytes each has in the file, and where these
 /// are.

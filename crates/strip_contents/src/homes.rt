@@ -3,10 +3,9 @@
 ghost use Rattle.std.specs.Prelude.{◌≡◌, ◌<◌, length};
 ghost use Rattle.strip_contents.specs.Ranges.{base_place, FindsHome};
 
-use elf_descriptor::Elf;
 use elf_outside::Source;
 use elf_types::{ElfError, ScnId};
-use image_ranges::ByteRange;
+use strip_tables::prelude::{ByteRange, Elf};
 use strip_tables::{extent, is_out};
 
 /// The place of the range of a home: an empty home may lie anywhere, and has the place 0.

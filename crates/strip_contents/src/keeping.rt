@@ -1,19 +1,17 @@
 //! What is kept of all sections that stay.
 
 ghost use Rattle.std.specs.Prelude.{◌≡◌, ◌<◌, [], length, false, All, IsTrue};
-ghost use Rattle.elf_object.specs.Object.{is_dirty};
-ghost use Rattle.elf_object.specs.Valid.{IsObject, IsTied};
-ghost use Rattle.command_objects.specs.Followed.{kept_from_1};
+ghost use Rattle.strip_laws.specs.elf_object.Object.{is_dirty};
+ghost use Rattle.strip_laws.specs.elf_object.Valid.{IsObject, IsTied};
+ghost use Rattle.strip_laws.specs.command_objects.Followed.{kept_from_1};
 ghost use Rattle.strip_contents.specs.Contents.{KeepsSection, KeepsSections, AreKeptBy, KeepsContents};
 
 use crate::contents::{Contents, kept_size};
 use crate::ranges::find_range;
-use elf_descriptor::Elf;
 use elf_outside::Source;
 use elf_types::{ElfError, ScnId};
-use object_making::SectionMaker;
 use std::alloc::Global;
-use strip_rebuild::Keeper;
+use strip_tables::prelude::{Elf, Keeper, SectionMaker};
 
 /// Adds what is made of a section that is there.
 fn add_section<S: Source>(

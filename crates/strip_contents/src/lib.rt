@@ -13,6 +13,7 @@ mod homes;
 mod keeping;
 mod planning;
 mod plans;
+pub mod prelude;
 mod ranges;
 mod rebuilding;
 mod segments;

@@ -9,15 +9,14 @@ use crate::arranging::arrange_to;
 use crate::contents::Contents;
 use crate::plans::RangedPlan;
 use crate::segments::list_segments;
-use elf_descriptor::Elf;
 use elf_outside::Source;
 use elf_types::constants::EV_CURRENT;
 use elf_types::{Ehdr, ElfError, List};
-use image_ranges::{ByteRange, PartRanges};
-use listed_layout::Listed;
-use shared_bytes::SharedBytes;
 use std::alloc::Global;
-use strip_stream::{Streamed, stream_listed};
+use strip_tables::prelude::{
+    ByteRange, Elf, PartRanges, SharedBytes, Streamed, listed_layout_Listed as Listed,
+    stream_listed,
+};
 
 /// The header of the new image: the stored fields of the old one, with a string index and so many
 /// sections.

@@ -1,8 +1,7 @@
 //! The plan of an image that is made anew.
 
 use elf_layout::Parts;
-use image_ranges::PartRanges;
-use shared_bytes::SharedBytes;
+use strip_tables::prelude::{PartRanges, SharedBytes};
 
 /// What an image is copied from besides the base of a descriptor, and where its parts stand.
 #[derive(Drop)]

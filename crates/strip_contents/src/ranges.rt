@@ -3,23 +3,19 @@
 ghost use Rattle.std.specs.Prelude.{◌≡◌, ◌⊎◌, ◌-◌, ◌<◌, ◌≤◌, length, true, false, IsTrue, IfOk, IfErr};
 ghost use Rattle.elf_types.specs.declared.errors.ElfError.TheVariants.{Memory, Read};
 ghost use Rattle.elf_xlate.specs.Translation.{encoded};
-ghost use Rattle.elf_object.specs.Object.{is_dirty};
-ghost use Rattle.elf_object.specs.Valid.{IsObject, IsTied};
-ghost use Rattle.strip_rebuild.specs.Keepers.{makes_by, HasTable};
-ghost use Rattle.strip_rebuild.specs.Makes.{AsksFor};
+ghost use Rattle.strip_laws.specs.elf_object.Object.{is_dirty};
+ghost use Rattle.strip_laws.specs.elf_object.Valid.{IsObject, IsTied};
+ghost use Rattle.strip_tables.specs.strip_rebuild.Keepers.{makes_by, HasTable};
+ghost use Rattle.strip_tables.specs.strip_rebuild.Makes.{AsksFor};
 ghost use Rattle.strip_tables.specs.Rows.{AreInBase, rows_made, tables_due};
 ghost use Rattle.strip_contents.specs.Ranges.{IsRangeOf, FindsRange};
 
 use crate::homes::home_range;
-use elf_descriptor::Elf;
 use elf_outside::Source;
 use elf_types::{ElfError, ScnId};
-use image_ranges::ByteRange;
-use object_making::SectionMaker;
-use shared_bytes::SharedBytes;
-use strip_items::Numbering;
-use strip_rebuild::Keeper;
-use strip_stream::{hold_items, hold_shared};
+use strip_tables::prelude::{
+    ByteRange, Elf, Keeper, Numbering, SectionMaker, SharedBytes, hold_items, hold_shared,
+};
 use strip_tables::{FollowedRows, find_rows, hold_rows};
 
 /// The range of the items that are made of a section that is there, whose file form is held behind

@@ -2,13 +2,13 @@
 
 ghost use Rattle.std.specs.Prelude.{◌≡◌, false, None, IsTrue, length, map};
 ghost use Rattle.elf_types.specs.Answers.{first_refusal};
-ghost use Rattle.elf_object.specs.Calls.{newphdr_refusal};
-ghost use Rattle.elf_object.specs.Object.{is_dirty};
-ghost use Rattle.elf_object.specs.Valid.{IsObject, IsTied};
-ghost use Rattle.command_objects.specs.Followed.{kept_from_1};
+ghost use Rattle.strip_laws.specs.elf_object.Calls.{newphdr_refusal};
+ghost use Rattle.strip_laws.specs.elf_object.Object.{is_dirty};
+ghost use Rattle.strip_laws.specs.elf_object.Valid.{IsObject, IsTied};
+ghost use Rattle.strip_laws.specs.command_objects.Followed.{kept_from_1};
 ghost use Rattle.strip_laws.specs.Made.{FitsClass};
-ghost use Rattle.strip_removed.specs.Steps.{IsRemovable};
-ghost use Rattle.strip_rebuild.specs.Keepers.{KeepsFor, refusal_by};
+ghost use Rattle.strip_tables.specs.strip_removed.Steps.{IsRemovable};
+ghost use Rattle.strip_tables.specs.strip_rebuild.Keepers.{KeepsFor, refusal_by};
 ghost use Rattle.strip_contents.specs.Contents.{HasContents, sections_due};
 ghost use Rattle.strip_contents.specs.Plans.{ArrangesKept, ArrangesRebuilt, StreamsRebuilt, stream_due};
 
@@ -18,12 +18,10 @@ use crate::contents::Contents;
 use crate::keeping::keep_contents;
 use crate::planning::{arrange_contents, plan_arranged};
 use crate::plans::RangedPlan;
-use elf_descriptor::Elf;
 use elf_outside::Source;
 use elf_types::ElfError;
 use std::alloc::Global;
-use strip_rebuild::{Keeper, keep_sections, kept_numbers, tail_of};
-use strip_removed::SectionSet;
+use strip_tables::prelude::{Elf, Keeper, SectionSet, keep_sections, kept_numbers, tail_of};
 
 /// What was kept, arranged, where no section was refused.
 fn arrange_kept<S: Source>(

@@ -3,10 +3,10 @@
 ghost use Rattle.std.specs.Prelude.{◌≡◌, [], OnOk, IfOk, IfErr};
 ghost use Rattle.elf_types.specs.declared.errors.ElfError.TheVariants.{Memory};
 
-use elf_descriptor::Elf;
 use elf_outside::Source;
 use elf_types::{ElfError, Phdrs};
 use std::alloc::Global;
+use strip_tables::prelude::Elf;
 
 /// Fills an empty list with the program headers.
 fn fill_segments<S: Source>(elf: &Elf<S>, phdrs: &mut Phdrs) -> Result<(), ElfError>

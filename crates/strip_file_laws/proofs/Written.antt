@@ -13,7 +13,7 @@ use Rattle.elf_object.specs.Open.{opened}
 use Rattle.tool_output.specs.Reports.{refusal_report}
 use Rattle.tool_output.specs.Outcomes.{FileWrite, write_of}
 use Rattle.tool_output.specs.Made.{Done, Complaint, complaint, made_file, of_file, written_outcome}
-use Rattle.object_output.specs.Images.{object_by, file_object}
+use Rattle.command_outcomes.specs.object_output.Images.{object_by, file_object}
 use Rattle.command_outcomes.specs.Files.{bytes_named, object_named}
 
 pub of_file_ok : {A : Type 0} (file : List ℕ) (r : Result A ElfError) (x : A)

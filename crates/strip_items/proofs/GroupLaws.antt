@@ -5,7 +5,7 @@ use Rattle.std.specs.List.{flat_map}
 use Rattle.std.proofs.lemmas.List.{take_more}
 use Rattle.std.proofs.lemmas.Grind.{flat_map-append}
 use Rattle.std.proofs.lemmas.Bool.{eq-eqb, ne_eqb}
-use Rattle.command_objects.specs.Followed.{Renumbering, followed_group, followed_member, is_section_number, renumbered}
+use Rattle.strip_removed.specs.command_objects.Followed.{Renumbering, followed_group, followed_member, is_section_number, renumbered}
 use Rattle.strip_items.specs.Rows.{members_of, added_word}
 
 pub none_added : (l : List ℕ) → l ≡ l ++ []

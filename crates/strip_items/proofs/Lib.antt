@@ -1,3 +1,4 @@
+pub use Rattle.strip_removed.proofs as strip_removed
 pub mod PlaceLaws
 pub mod NumberLaws
 pub mod RowLaws

@@ -6,8 +6,8 @@ use Rattle.std.proofs.lemmas.Bool.{eq-eqb, ne_eqb, and_right, and_parts, cases_e
 use Rattle.std.proofs.lemmas.List.Elements.{filter-append}
 use Rattle.std.proofs.lemmas.List.Filters.{length-filter_both}
 use Rattle.std.proofs.lemmas.List.FromFn.{length-range_with_len, get_or-map-range_with_len, length-map-range_with_len, map-range_with_len_more}
-use Rattle.elf_object.specs.Sections.{is_among}
-use Rattle.command_objects.specs.Followed.{Renumbering, renumbered, is_section_number}
+use Rattle.strip_removed.specs.elf_object.Sections.{is_among}
+use Rattle.strip_removed.specs.command_objects.Followed.{Renumbering, renumbered, is_section_number}
 use Rattle.strip_removed.proofs.SetLaws.{filter_range, among_filter, range_more}
 use Rattle.strip_items.specs.Numbers.{is_kept, numbers_kept, numbering_of, IsNumbering, numbering_without, kept_below, number_without, numbers_without}
 use Rattle.strip_items.proofs.PlaceLaws.{position_is, stands_at, stands_nowhere}

@@ -4,7 +4,7 @@ use Rattle.std.specs.Prelude.{nat_lt, if◌then◌else◌}
 use Rattle.std.proofs.lemmas.Bool.{and_parts, ltb-true}
 use Rattle.elf_types.specs.declared.records.Sym.{Sym}
 use Rattle.elf_types.specs.declared.constants.TheConstants.{SHN_LORESERVE}
-use Rattle.command_objects.specs.Followed.{Renumbering, is_section_number, renumbered, followed_sym, followed_extended, followed_word, word_counts, without_section}
+use Rattle.strip_removed.specs.command_objects.Followed.{Renumbering, is_section_number, renumbered, followed_sym, followed_extended, followed_word, word_counts, without_section}
 use Rattle.strip_items.specs.Rows.{has_number, sym_in, moves_in, moved_sym, moved_word, sym_with_word, word_with_sym}
 
 -- what a new number makes of a symbol with a word, and of the word

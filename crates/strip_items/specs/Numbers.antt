@@ -1,8 +1,8 @@
 -- The map from old section numbers to new ones as it is kept: a new number for each old one.
 use Rattle.std.specs.Prelude.{◌≡◌, ◌≢◌, ℕ, ◌<◌, ◌≤◌, nat_eq, Bool, not, ◌==◌, ◌||◌, List, length, filter, map, slice_index, Some, if◌then◌else◌}
 use Rattle.std.specs.List.{position, range_with_len}
-use Rattle.elf_object.specs.Sections.{is_among}
-use Rattle.command_objects.specs.Followed.{Renumbering}
+use Rattle.strip_removed.specs.elf_object.Sections.{is_among}
+use Rattle.strip_removed.specs.command_objects.Followed.{Renumbering}
 
 -- a kept section: it is section 0, or has a new number; a removed one has 0
 abbrev pub is_kept : List ℕ → ℕ → Bool

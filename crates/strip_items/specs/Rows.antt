@@ -3,7 +3,7 @@
 use Rattle.std.specs.Prelude.{ℕ, nat_lt, Bool, not, ◌==◌, ◌&&◌, List, [], ◌∷◌, Option, Some, None, if◌then◌else◌}
 use Rattle.elf_types.specs.declared.records.Sym.{Sym}
 use Rattle.elf_types.specs.declared.constants.TheConstants.{SHN_LORESERVE}
-use Rattle.command_objects.specs.Followed.{Renumbering, is_section_number, followed_member, followed_sym, followed_extended, followed_word, word_counts, without_section}
+use Rattle.strip_removed.specs.command_objects.Followed.{Renumbering, is_section_number, followed_member, followed_sym, followed_extended, followed_word, word_counts, without_section}
 
 -- ---- Groups
 

@@ -2,8 +2,8 @@
 
 ghost use Rattle.std.specs.Prelude.{◌≡◌, ◌++◌, [], true, OnOk, IfOk, IfErr};
 ghost use Rattle.elf_types.specs.declared.errors.ElfError.TheVariants.{Memory};
-ghost use Rattle.command_objects.specs.Followed as rules;
-ghost use Rattle.command_objects.specs.Followed.{is_section_number};
+ghost use Rattle.strip_removed.specs.command_objects.Followed as rules;
+ghost use Rattle.strip_removed.specs.command_objects.Followed.{is_section_number};
 ghost use Rattle.strip_items.specs.Rows.{members_of, added_word};
 
 use crate::numbering::Numbering;

@@ -8,6 +8,7 @@
 mod groups;
 mod links;
 mod numbering;
+pub mod prelude;
 mod symbols;
 mod words;
 

@@ -1,8 +1,8 @@
 //! The links of a section.
 
 ghost use Rattle.std.specs.Prelude.{◌≡◌, if◌then◌else◌};
-ghost use Rattle.elf_object.specs.Sections.{info_is_section};
-ghost use Rattle.command_objects.specs.Followed as rules;
+ghost use Rattle.strip_removed.specs.elf_object.Sections.{info_is_section};
+ghost use Rattle.strip_removed.specs.command_objects.Followed as rules;
 
 use crate::numbering::Numbering;
 use elf_types::constants::SHF_INFO_LINK;
@@ -12,7 +12,7 @@ use strip_removed::is_relocations;
 /// Whether `sh_info` is a section's number.
 ///
 /// Source: gABI chapter 4, "Section Header", sh_info; "Sections", SHF_INFO_LINK.
-#[tactic(auto, unfolding(elf_object::specs::Sections::info_is_section))]
+#[tactic(auto, unfolding(strip_removed::specs::Passed::info_is_section))]
 fn info_is_section(h: &Shdr) -> bool
     ensures { result ≡ info_is_section h.now }
 {
@@ -34,7 +34,7 @@ fn followed_info(numbering: &Numbering, h: &Shdr) -> u32
 /// numbers. It takes no memory.
 ///
 /// Source: gABI chapter 4, "Section Header", sh_link and sh_info.
-#[tactic(auto, unfolding(command_objects::specs::Followed::followed_header))]
+#[tactic(auto, unfolding(strip_removed::specs::Passed::followed_header))]
 pub fn followed_header(numbering: &Numbering, h: &Shdr) -> Shdr
     ensures { result ≡ rules.followed_header numbering.now h.now }
 {

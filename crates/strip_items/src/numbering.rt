@@ -2,8 +2,8 @@
 
 ghost use Rattle.std.specs.Prelude.{◌≡◌, ◌+◌, ◌^◌, ◌<◌, ◌≤◌, false, true, IfOk, IfErr, IfSome, OnOk, [], length, slice_index, if◌then◌else◌};
 ghost use Rattle.elf_types.specs.declared.errors.ElfError.TheVariants.{Memory};
-ghost use Rattle.elf_object.specs.Sections.{is_among, number_or_0};
-ghost use Rattle.command_objects.specs.Followed.{is_section_number, renumbered, followed};
+ghost use Rattle.strip_removed.specs.elf_object.Sections.{is_among, number_or_0};
+ghost use Rattle.strip_removed.specs.command_objects.Followed.{is_section_number, renumbered, followed};
 ghost use Rattle.strip_items.specs.Numbers.{IsNumbering, numbering_of, numbering_without, numbers_without};
 
 use elf_types::{ElfError, List, Words};
@@ -19,7 +19,7 @@ pub struct Numbering {
 }
 
 impl Model for Numbering {
-    ghost use Rattle.command_objects.specs.Followed.{Renumbering};
+    ghost use Rattle.strip_removed.specs.command_objects.Followed.{Renumbering};
 
     ghost Value = { Renumbering };
 
@@ -102,7 +102,7 @@ fn number_at(numbers: &Words, n: u32) -> u32
 }
 
 /// Whether a number is that of a section from 1 on.
-#[tactic(auto, unfolding(command_objects::specs::Followed::is_section_number, crate::specs::Numbers::numbering_of))]
+#[tactic(auto, unfolding(strip_removed::specs::Passed::is_section_number, crate::specs::Numbers::numbering_of))]
 fn is_numbered(numbers: &Words, n: u32) -> bool
     ensures { result ≡ is_section_number (numbering_of numbers.now) n }
 {

@@ -3,8 +3,8 @@
 ghost use Rattle.std.specs.Prelude.{◌≡◌, ◌<◌, [], true, slice_get, OnOk, IfOk, IfErr};
 ghost use Rattle.elf_types.specs.declared.constants.TheConstants.{SHN_LORESERVE};
 ghost use Rattle.elf_types.specs.declared.errors.ElfError.TheVariants.{Memory};
-ghost use Rattle.command_objects.specs.Followed as rules;
-ghost use Rattle.command_objects.specs.Followed.{is_section_number};
+ghost use Rattle.strip_removed.specs.command_objects.Followed as rules;
+ghost use Rattle.strip_removed.specs.command_objects.Followed.{is_section_number};
 ghost use Rattle.strip_items.specs.Rows.{has_number, sym_in, moves_in, moved_sym, sym_with_word};
 
 use crate::numbering::Numbering;

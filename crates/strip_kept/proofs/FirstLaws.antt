@@ -9,10 +9,10 @@ use Rattle.std.proofs.lemmas.List.Elements.{filter-append, filter_agree}
 use Rattle.std.proofs.lemmas.List.FromFn.{fill_by_all}
 use Rattle.elf_types.specs.declared.records.Kind.TheVariants as kinds
 use Rattle.elf_types.specs.declared.constants.TheConstants.{SHT_SYMTAB_SHNDX}
-use Rattle.elf_object.specs.Object.{Object}
-use Rattle.elf_object.specs.Layout.{section_numbers}
-use Rattle.elf_object.specs.Sections.{is_loose, header_at, is_among, first_of, number_or_0}
-use Rattle.command_objects.specs.Followed.{extended_table, kept_from_1, has_indexes_of}
+use Rattle.strip_removed.specs.elf_object.Object.{Object}
+use Rattle.strip_removed.specs.elf_object.Layout.{section_numbers}
+use Rattle.strip_removed.specs.elf_object.Sections.{is_loose, header_at, is_among, first_of, number_or_0}
+use Rattle.strip_removed.specs.command_objects.Followed.{extended_table, kept_from_1, has_indexes_of}
 use Rattle.strip_removed.specs.Steps.{links_to}
 use Rattle.strip_removed.proofs.SetLaws.{filter_filter, range_more}
 use Rattle.strip_kept.specs.Tables.{has_indexes, extended_tables, no_numbers, with_first, first_linking, AreFirst}

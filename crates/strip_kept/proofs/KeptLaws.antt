@@ -4,12 +4,12 @@ use Rattle.std.specs.Prelude.{nat_lt}
 use Rattle.std.specs.List.{list_any}
 use Rattle.std.proofs.lemmas.Bool.{ne_eqb, lt-ltb, and_from, and_parts, and_left, ltb-true}
 use Rattle.elf_types.specs.declared.constants.TheConstants.{SHT_STRTAB}
-use Rattle.elf_object.specs.Object.{Object, section_at}
-use Rattle.elf_object.specs.Layout.{section_numbers}
-use Rattle.elf_object.specs.Sections.{is_allocated, header_at, is_among}
-use Rattle.command_objects.specs.Removed.{linking_to}
-use Rattle.command_objects.specs.Followed.{kept_from_1}
-use Rattle.command_objects.specs.Rebuilt.{has_names_alone, renews_names}
+use Rattle.strip_removed.specs.elf_object.Object.{Object, section_at}
+use Rattle.strip_removed.specs.elf_object.Layout.{section_numbers}
+use Rattle.strip_removed.specs.elf_object.Sections.{is_allocated, header_at, is_among}
+use Rattle.strip_removed.specs.command_objects.Removed.{linking_to}
+use Rattle.strip_removed.specs.command_objects.Followed.{kept_from_1}
+use Rattle.strip_removed.specs.command_objects.Rebuilt.{has_names_alone, renews_names}
 use Rattle.strip_removed.specs.Steps.{links_to}
 use Rattle.strip_removed.proofs.SetLaws.{among_filter}
 use Rattle.strip_kept.specs.Kept.{is_left, is_loose_strings}

@@ -1,8 +1,8 @@
 -- The sections that are kept, and the table of their names, as they are looked at.
 use Rattle.std.specs.Prelude.{ℕ, nat_lt, Bool, not, ◌==◌, ◌&&◌, List, length}
 use Rattle.elf_types.specs.declared.constants.TheConstants.{SHT_STRTAB}
-use Rattle.elf_object.specs.Object.{Object, section_at}
-use Rattle.elf_object.specs.Sections.{is_allocated, header_at, is_among}
+use Rattle.strip_removed.specs.elf_object.Object.{Object, section_at}
+use Rattle.strip_removed.specs.elf_object.Sections.{is_allocated, header_at, is_among}
 
 -- a section from 1 on that is not removed
 unfoldable pub is_left : Object → List ℕ → ℕ → Bool

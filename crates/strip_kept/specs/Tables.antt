@@ -5,10 +5,10 @@ use Rattle.std.specs.List.{range_with_len}
 use Rattle.std.proofs.Math.ListN.{replicate}
 use Rattle.elf_types.specs.declared.records.Kind.TheVariants as kinds
 use Rattle.elf_types.specs.declared.constants.TheConstants.{SHT_SYMTAB_SHNDX}
-use Rattle.elf_object.specs.Object.{Object}
-use Rattle.elf_object.specs.Due.{all_sections}
-use Rattle.elf_object.specs.Sections.{is_loose, header_at, is_among, first_of, number_or_0}
-use Rattle.command_objects.specs.Followed.{extended_table}
+use Rattle.strip_removed.specs.elf_object.Object.{Object}
+use Rattle.strip_removed.specs.elf_object.Due.{all_sections}
+use Rattle.strip_removed.specs.elf_object.Sections.{is_loose, header_at, is_among, first_of, number_or_0}
+use Rattle.strip_removed.specs.command_objects.Followed.{extended_table}
 use Rattle.strip_removed.specs.Steps.{links_to}
 
 -- a table of extended indexes that is kept

@@ -4,15 +4,15 @@ ghost use Rattle.std.specs.Prelude.{◌≡◌};
 ghost use Rattle.elf_types.specs.Kinds.{section_kind};
 ghost use Rattle.elf_types.specs.declared.constants.TheConstants.{SHT_SYMTAB, SHT_GROUP, SHT_SYMTAB_SHNDX};
 ghost use Rattle.elf_types.specs.declared.records.Kind.TheVariants as kinds;
-ghost use Rattle.elf_object.specs.Answers.{same_kind};
-ghost use Rattle.elf_object.specs.Sections.{is_loose};
+ghost use Rattle.strip_removed.specs.elf_object.Answers.{same_kind};
+ghost use Rattle.strip_removed.specs.elf_object.Sections.{is_loose};
 
 use elf_types::constants::{SHT_GROUP, SHT_SYMTAB, SHT_SYMTAB_SHNDX};
 use elf_types::{Class, Kind, Shdr, kind_of};
 use strip_removed::is_allocated;
 
 /// Whether a section's items are symbols.
-#[tactic(auto, unfolding(elf_object::specs::Answers::kind_code))]
+#[tactic(auto, unfolding(strip_removed::specs::Passed::kind_code))]
 fn has_symbols(h: &Shdr) -> bool
     ensures { result ≡ same_kind (section_kind h.now) kinds.Sym }
 {
@@ -20,7 +20,7 @@ fn has_symbols(h: &Shdr) -> bool
 }
 
 /// Whether a section's items are words.
-#[tactic(auto, unfolding(elf_object::specs::Answers::kind_code))]
+#[tactic(auto, unfolding(strip_removed::specs::Passed::kind_code))]
 fn has_words(h: &Shdr) -> bool
     ensures { result ≡ same_kind (section_kind h.now) kinds.Word }
 {
@@ -30,7 +30,7 @@ fn has_words(h: &Shdr) -> bool
 /// Whether a section is a symbol table of `SHT_SYMTAB` without `SHF_ALLOC`. It takes no memory.
 ///
 /// Source: gABI chapter 4, "Symbol Table".
-#[tactic(auto, unfolding(elf_object::specs::Sections::is_loose, elf_object::specs::Sections::is_of))]
+#[tactic(auto, unfolding(strip_removed::specs::Passed::is_loose, strip_removed::specs::Passed::is_of))]
 pub fn is_symbol_table(h: &Shdr) -> bool
     ensures { result ≡ is_loose SHT_SYMTAB kinds.Sym h.now }
 {
@@ -40,7 +40,7 @@ pub fn is_symbol_table(h: &Shdr) -> bool
 /// Whether a section is a group without `SHF_ALLOC`. It takes no memory.
 ///
 /// Source: gABI chapter 4, "Section Groups".
-#[tactic(auto, unfolding(elf_object::specs::Sections::is_loose, elf_object::specs::Sections::is_of))]
+#[tactic(auto, unfolding(strip_removed::specs::Passed::is_loose, strip_removed::specs::Passed::is_of))]
 pub fn is_group(h: &Shdr) -> bool
     ensures { result ≡ is_loose SHT_GROUP kinds.Word h.now }
 {
@@ -50,7 +50,7 @@ pub fn is_group(h: &Shdr) -> bool
 /// Whether a section is a table of extended indexes without `SHF_ALLOC`. It takes no memory.
 ///
 /// Source: gABI chapter 4, SHT_SYMTAB_SHNDX.
-#[tactic(auto, unfolding(elf_object::specs::Sections::is_loose, elf_object::specs::Sections::is_of))]
+#[tactic(auto, unfolding(strip_removed::specs::Passed::is_loose, strip_removed::specs::Passed::is_of))]
 pub fn is_index_table(h: &Shdr) -> bool
     ensures { result ≡ is_loose SHT_SYMTAB_SHNDX kinds.Word h.now }
 {

@@ -1,13 +1,12 @@
 //! The sections that are kept.
 
 ghost use Rattle.std.specs.Prelude.{◌≡◌};
-ghost use Rattle.elf_object.specs.Sections.{is_among};
-ghost use Rattle.command_objects.specs.Followed.{kept_from_1};
+ghost use Rattle.strip_removed.specs.elf_object.Sections.{is_among};
+ghost use Rattle.strip_removed.specs.command_objects.Followed.{kept_from_1};
 ghost use Rattle.strip_kept.specs.Kept.{is_left};
 
-use elf_descriptor::Elf;
-use elf_outside::Source;
 use strip_removed::SectionSet;
+use strip_removed::prelude::{Elf, Source};
 
 /// Whether a number is that of a section from 1 on, and not of a removed one.
 #[tactic(auto, unfolding(crate::specs::Kept::is_left))]

@@ -7,6 +7,7 @@
 mod headers;
 mod kept;
 mod names;
+pub mod prelude;
 mod tables;
 
 pub use headers::{is_group, is_index_table, is_symbol_table};

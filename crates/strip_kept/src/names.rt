@@ -2,18 +2,17 @@
 
 ghost use Rattle.std.specs.Prelude.{◌≡◌, ◌<◌, ◌==◌, ◌&&◌, not, length};
 ghost use Rattle.std.specs.List.{list_any};
-ghost use Rattle.elf_object.specs.Object.{section_at};
-ghost use Rattle.elf_object.specs.Layout.{section_numbers};
-ghost use Rattle.elf_object.specs.Sections.{is_among};
-ghost use Rattle.command_objects.specs.Rebuilt as rules;
+ghost use Rattle.strip_removed.specs.elf_object.Object.{section_at};
+ghost use Rattle.strip_removed.specs.elf_object.Layout.{section_numbers};
+ghost use Rattle.strip_removed.specs.elf_object.Sections.{is_among};
+ghost use Rattle.strip_removed.specs.command_objects.Rebuilt as rules;
 ghost use Rattle.strip_removed.specs.Steps.{links_to};
 ghost use Rattle.strip_kept.specs.Kept.{is_loose_strings};
 
 use crate::kept::is_kept;
-use elf_descriptor::Elf;
-use elf_outside::Source;
 use elf_types::ScnId;
 use elf_types::constants::SHT_STRTAB;
+use strip_removed::prelude::{Elf, Source};
 use strip_removed::{SectionSet, is_allocated};
 
 /// Whether a section that is there is not removed, and links to one.
@@ -41,7 +40,7 @@ fn is_linked_by_kept<S: Source>(elf: &Elf<S>, removed: &SectionSet, target: u32)
 }
 
 /// Whether the home of a section that is there is out of the file.
-#[tactic(auto, unfolding(elf_descriptor::specs::Homes::out_answer))]
+#[tactic(auto, unfolding(strip_removed::specs::Passed::out_answer))]
 fn is_out<S: Source>(elf: &Elf<S>, s: ScnId) -> bool
     requires { s.0 < length elf.now.o.sections }
     ensures { result ≡ (section_at elf.now.o s.0).home.out }

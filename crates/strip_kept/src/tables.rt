@@ -5,11 +5,10 @@ ghost use Rattle.elf_types.specs.declared.errors.ElfError.TheVariants.{Memory};
 ghost use Rattle.strip_kept.specs.Tables.{has_indexes, no_numbers, with_first, AreFirst, extended_tables};
 
 use crate::headers::is_index_table;
-use elf_descriptor::Elf;
-use elf_outside::Source;
 use elf_types::{ElfError, List, ScnId, Words};
 use std::alloc::Global;
 use strip_removed::SectionSet;
+use strip_removed::prelude::{Elf, Source};
 
 /// Whether a section that is there is a table of extended indexes that is kept.
 #[tactic(auto, unfolding(crate::specs::Tables::has_indexes))]

@@ -12,16 +12,16 @@ use Rattle.elf_types.specs.declared.records.Class.{Class}
 use Rattle.elf_types.specs.declared.records.Shdr.{Shdr}
 use Rattle.elf_types.specs.declared.errors.ElfError.{ElfError}
 use Rattle.elf_types.specs.declared.errors.ElfError.TheVariants.{TooLarge}
-use Rattle.elf_xlate.specs.Headers.{IsShdr, shdr_fits}
-use Rattle.elf_layout.specs.declared.parts.PartAt.{PartAt}
-use Rattle.elf_layout.specs.Layout.{positions, limit_of, some_above}
-use Rattle.elf_ident.proofs.Refusals.{answered_ok}
-use Rattle.elf_object.specs.Object.{Object, Section, absent_section}
-use Rattle.elf_object.specs.Steps.{with_ehdr, stored_ehdr}
-use Rattle.elf_object.specs.Valid.{IsSection, IsObject}
-use Rattle.elf_object.proofs.PassedLaws.{not_refused}
-use Rattle.object_laws.proofs.PlaceLaws.{IsFitting, within_limit}
-use Rattle.object_laws.proofs.PlacedLaws.{ehdr_fits_each, ehdr_fits_all, shdr_fits_each, shdr_fits_all, each_row}
+use Rattle.hash_model.specs.elf_xlate.Headers.{IsShdr, shdr_fits}
+use Rattle.hash_model.specs.elf_layout.declared.parts.PartAt.{PartAt}
+use Rattle.hash_model.specs.elf_layout.Layout.{positions, limit_of, some_above}
+use Rattle.hash_model.proofs.elf_ident.Refusals.{answered_ok}
+use Rattle.hash_model.specs.elf_object.Object.{Object, Section, absent_section}
+use Rattle.hash_model.specs.elf_object.Steps.{with_ehdr, stored_ehdr}
+use Rattle.hash_model.specs.elf_object.Valid.{IsSection, IsObject}
+use Rattle.hash_model.proofs.elf_object.PassedLaws.{not_refused}
+use Rattle.writing_laws.proofs.object_laws.PlaceLaws.{IsFitting, within_limit}
+use Rattle.writing_laws.proofs.object_laws.PlacedLaws.{ehdr_fits_each, ehdr_fits_all, shdr_fits_each, shdr_fits_all, each_row}
 use Rattle.command_objects.specs.Arranged.{Rebuilt, movable, parts_from, place_from, table_place_from, section_from, placed_from, tail_refusal, arranged}
 
 -- ---- What is arranged

@@ -11,20 +11,20 @@ use Rattle.elf_types.specs.declared.records.Class.{Class}
 use Rattle.elf_types.specs.declared.records.Shdr.{Shdr}
 use Rattle.elf_types.specs.declared.errors.ElfError.{ElfError}
 use Rattle.elf_types.specs.declared.errors.ElfError.TheVariants.{TooLarge}
-use Rattle.elf_xlate.specs.declared.content.Items.TheVariants as items
-use Rattle.elf_xlate.specs.Headers.{IsShdr}
-use Rattle.strtab_build.specs.Table.{table, place_of}
-use Rattle.elf_ident.specs.Front.{zero_shdr}
-use Rattle.elf_ident.proofs.Refusals.{answered_ok, bind_ok}
-use Rattle.elf_object.specs.Object.{Object, Section, absent_section}
-use Rattle.elf_object.specs.Calls.{Call, newscn, update_shdr, newdata, replace}
-use Rattle.elf_object.specs.Steps.{new_number}
-use Rattle.elf_object.specs.Strings.{or_empty_name}
-use Rattle.elf_object.specs.Valid.{IsSection, IsObject, KeepsObject}
-use Rattle.elf_object.proofs.PassedLaws.{not_refused, step_ok}
-use Rattle.object_laws.proofs.KeepLaws.{zero_shdr_is, section_at_is, with_own_is, newscn_keeps, update_shdr_keeps, newdata_keeps, replace_keeps}
-use Rattle.object_laws.proofs.PlacedLaws.{each_row}
-use Rattle.elf_object.specs.Sections.{header_at, edited, in_turn}
+use Rattle.hash_model.specs.elf_xlate.declared.content.Items.TheVariants as items
+use Rattle.hash_model.specs.elf_xlate.Headers.{IsShdr}
+use Rattle.hash_model.specs.strtab_build.Table.{table, place_of}
+use Rattle.hash_model.specs.elf_ident.Front.{zero_shdr}
+use Rattle.hash_model.proofs.elf_ident.Refusals.{answered_ok, bind_ok}
+use Rattle.hash_model.specs.elf_object.Object.{Object, Section, absent_section}
+use Rattle.hash_model.specs.elf_object.Calls.{Call, newscn, update_shdr, newdata, replace}
+use Rattle.hash_model.specs.elf_object.Steps.{new_number}
+use Rattle.hash_model.specs.elf_object.Strings.{or_empty_name}
+use Rattle.hash_model.specs.elf_object.Valid.{IsSection, IsObject, KeepsObject}
+use Rattle.hash_model.proofs.elf_object.PassedLaws.{not_refused, step_ok}
+use Rattle.writing_laws.proofs.object_laws.KeepLaws.{zero_shdr_is, section_at_is, with_own_is, newscn_keeps, update_shdr_keeps, newdata_keeps, replace_keeps}
+use Rattle.writing_laws.proofs.object_laws.PlacedLaws.{each_row}
+use Rattle.hash_model.specs.elf_object.Sections.{header_at, edited, in_turn}
 use Rattle.command_objects.specs.Removed.{removed_by_name}
 use Rattle.command_objects.specs.Arranged.{Rebuilt, arranged}
 use Rattle.command_objects.specs.Rebuilt.{rebuilt, renews_names, table_refusal}

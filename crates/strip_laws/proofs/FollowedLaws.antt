@@ -16,24 +16,24 @@ use Rattle.elf_types.specs.declared.records.Sym.{Sym}
 use Rattle.elf_types.specs.declared.errors.ElfError.{ElfError}
 use Rattle.elf_types.specs.declared.errors.ElfError.TheVariants.{OutOfFile, Ragged, Unfit}
 use Rattle.elf_types.specs.declared.constants.TheConstants.{SHT_SYMTAB, SHN_LORESERVE}
-use Rattle.elf_xlate.specs.declared.content.Items.{Items}
-use Rattle.elf_xlate.specs.declared.content.Items.TheVariants as items
-use Rattle.elf_xlate.specs.Fields.{fits}
-use Rattle.elf_xlate.specs.Items.{sym_fits}
-use Rattle.elf_xlate.specs.Translation.{decoded, first_unfit}
-use Rattle.elf_xlate.proofs.Narrow.{decoded_fits}
-use Rattle.elf_xlate.proofs.Pieces.{all_pass, each_passes}
-use Rattle.strtab_build.specs.Table.{table}
-use Rattle.elf_object.specs.Object.{Object, Piece, absent_section, home_piece, section_at, piece_at, occupies_file, has_file_bytes}
-use Rattle.elf_object.specs.Answers.{content, or_empty, items_at, words_of, syms_of, same_kind}
-use Rattle.elf_object.specs.Refusal.{unfit_in_piece, unfit_in_section, unfit_item}
-use Rattle.elf_object.specs.Valid.{IsObject}
-use Rattle.elf_object.proofs.PassedLaws.{none_first}
-use Rattle.object_laws.proofs.ItemLaws.{row_none}
-use Rattle.object_laws.proofs.KeepLaws.{section_at_is}
-use Rattle.object_laws.proofs.PlaceLaws.{zero_fits}
-use Rattle.object_laws.proofs.StandLaws.{file_bytes_when}
-use Rattle.elf_object.specs.Sections.{is_allocated, is_of, is_loose, header_at}
+use Rattle.hash_model.specs.elf_xlate.declared.content.Items.{Items}
+use Rattle.hash_model.specs.elf_xlate.declared.content.Items.TheVariants as items
+use Rattle.hash_model.specs.elf_xlate.Fields.{fits}
+use Rattle.hash_model.specs.elf_xlate.Items.{sym_fits}
+use Rattle.hash_model.specs.elf_xlate.Translation.{decoded, first_unfit}
+use Rattle.hash_model.proofs.elf_xlate.Narrow.{decoded_fits}
+use Rattle.hash_model.proofs.elf_xlate.Pieces.{all_pass, each_passes}
+use Rattle.hash_model.specs.strtab_build.Table.{table}
+use Rattle.hash_model.specs.elf_object.Object.{Object, Piece, absent_section, home_piece, section_at, piece_at, occupies_file, has_file_bytes}
+use Rattle.hash_model.specs.elf_object.Answers.{content, or_empty, items_at, words_of, syms_of, same_kind}
+use Rattle.hash_model.specs.elf_object.Refusal.{unfit_in_piece, unfit_in_section, unfit_item}
+use Rattle.hash_model.specs.elf_object.Valid.{IsObject}
+use Rattle.hash_model.proofs.elf_object.PassedLaws.{none_first}
+use Rattle.writing_laws.proofs.object_laws.ItemLaws.{row_none}
+use Rattle.writing_laws.proofs.object_laws.KeepLaws.{section_at_is}
+use Rattle.writing_laws.proofs.object_laws.PlaceLaws.{zero_fits}
+use Rattle.writing_laws.proofs.object_laws.StandLaws.{file_bytes_when}
+use Rattle.hash_model.specs.elf_object.Sections.{is_allocated, is_of, is_loose, header_at}
 use Rattle.command_objects.specs.Followed.{Renumbering, renumbering, renumbered, is_section_number, without_section, followed_sym, followed_extended, followed_by_word, word_counts, followed_syms, followed_words, followed_group, symbols_follow, members_follow, indexes_follow, words_for, syms_in}
 use Rattle.command_objects.specs.Rebuilt.{renews_names, kept_names, kept_items, rebuilt_items}
 use Rattle.strip_laws.specs.Made.{FitsClass}

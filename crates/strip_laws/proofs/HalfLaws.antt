@@ -12,22 +12,22 @@ use Rattle.elf_types.specs.declared.records.Class.TheVariants.{C32, C64}
 use Rattle.elf_types.specs.declared.records.Shdr.{Shdr}
 use Rattle.elf_types.specs.declared.errors.ElfError.{ElfError}
 use Rattle.elf_types.specs.declared.constants.TheConstants.{SHT_NOBITS}
-use Rattle.elf_xlate.specs.declared.content.Items.TheVariants as items
-use Rattle.elf_xlate.specs.Headers.{IsShdr, shdr_fits}
-use Rattle.elf_xlate.specs.Translation.{first_unfit}
-use Rattle.elf_ident.proofs.Refusals.{answered_ok, bind_ok}
-use Rattle.elf_ident.specs.Front.{zero_shdr}
-use Rattle.elf_object.specs.Object.{Object, Section, absent_section, new_section, section_at, occupies_file}
-use Rattle.elf_object.specs.Due.{all_sections}
-use Rattle.elf_object.specs.Layout.{section_numbers}
-use Rattle.elf_object.specs.Calls.{newphdr_refusal}
-use Rattle.elf_object.specs.Refusal.{unfit_segment}
-use Rattle.elf_object.specs.Valid.{IsSection, IsObject}
-use Rattle.elf_object.proofs.PassedLaws.{none_first, none_rest}
-use Rattle.object_laws.proofs.KeepLaws.{new_section_is, section_at_is}
-use Rattle.object_laws.proofs.PlacedLaws.{shdr_fits_each, shdr_fits_all}
-use Rattle.object_laws.proofs.RangeLaws.{each_made}
-use Rattle.elf_object.specs.Sections.{header_at}
+use Rattle.hash_model.specs.elf_xlate.declared.content.Items.TheVariants as items
+use Rattle.hash_model.specs.elf_xlate.Headers.{IsShdr, shdr_fits}
+use Rattle.hash_model.specs.elf_xlate.Translation.{first_unfit}
+use Rattle.hash_model.proofs.elf_ident.Refusals.{answered_ok, bind_ok}
+use Rattle.hash_model.specs.elf_ident.Front.{zero_shdr}
+use Rattle.hash_model.specs.elf_object.Object.{Object, Section, absent_section, new_section, section_at, occupies_file}
+use Rattle.hash_model.specs.elf_object.Due.{all_sections}
+use Rattle.hash_model.specs.elf_object.Layout.{section_numbers}
+use Rattle.hash_model.specs.elf_object.Calls.{newphdr_refusal}
+use Rattle.hash_model.specs.elf_object.Refusal.{unfit_segment}
+use Rattle.hash_model.specs.elf_object.Valid.{IsSection, IsObject}
+use Rattle.hash_model.proofs.elf_object.PassedLaws.{none_first, none_rest}
+use Rattle.writing_laws.proofs.object_laws.KeepLaws.{new_section_is, section_at_is}
+use Rattle.writing_laws.proofs.object_laws.PlacedLaws.{shdr_fits_each, shdr_fits_all}
+use Rattle.writing_laws.proofs.object_laws.RangeLaws.{each_made}
+use Rattle.hash_model.specs.elf_object.Sections.{header_at}
 use Rattle.command_objects.specs.Arranged.{Rebuilt, over_base, arranged}
 use Rattle.command_objects.specs.Rebuilt.{made_section, assembled, index_refusal}
 use Rattle.command_objects.specs.Split.{is_loaded_from_file, debug_section, debug_sections, debug_half, debug_raw_refusal, debug_refusal, debug_of, same_class, same_header, matches, counterpart, loaded_header, combined_section, combined_sections, combined_tail, combined_object, combined_raw_refusal, combine_fault, or_elf, unstripped}

@@ -6,14 +6,14 @@ use Rattle.std.proofs.lemmas.List.{length-append, length-replicate}
 use Rattle.elf_types.specs.declared.records.Class.{Class}
 use Rattle.elf_types.specs.declared.records.Order.{Order}
 use Rattle.elf_types.specs.declared.records.Ehdr.{Ehdr}
-use Rattle.elf_xlate.specs.Numbers.{octets}
-use Rattle.elf_xlate.specs.Fields.{Field, place_in, written_in, laid}
-use Rattle.elf_xlate.specs.Headers.{ehdr_size, ehdr_fields, ehdr_numbers, e_shoff, e_shnum, e_shstrndx, ident, ehdr_bytes}
-use Rattle.elf_xlate.proofs.Digits.{length_octets}
-use Rattle.elf_xlate.proofs.Laid.{lies_in, all_fields, length_laid}
-use Rattle.elf_xlate.proofs.Tables.{ehdr_table}
-use Rattle.elf_xlate.proofs.Written.{written_inside, written_outside_low, written_outside_high}
-use Rattle.object_laws.proofs.LengthLaws.{size_long}
+use Rattle.hash_model.specs.elf_xlate.Numbers.{octets}
+use Rattle.hash_model.specs.elf_xlate.Fields.{Field, place_in, written_in, laid}
+use Rattle.hash_model.specs.elf_xlate.Headers.{ehdr_size, ehdr_fields, ehdr_numbers, e_shoff, e_shnum, e_shstrndx, ident, ehdr_bytes}
+use Rattle.hash_model.proofs.elf_xlate.Digits.{length_octets}
+use Rattle.hash_model.proofs.elf_xlate.Laid.{lies_in, all_fields, length_laid}
+use Rattle.hash_model.proofs.elf_xlate.Tables.{ehdr_table}
+use Rattle.hash_model.proofs.elf_xlate.Written.{written_inside, written_outside_low, written_outside_high}
+use Rattle.writing_laws.proofs.object_laws.LengthLaws.{size_long}
 use Rattle.command_objects.specs.Laws.{is_in_field, changing_fields, may_change}
 
 -- ---- Records with numbers that differ

@@ -9,10 +9,10 @@ use Rattle.std.proofs.lemmas.List.Filters.{length-filter_both}
 use Rattle.std.proofs.lemmas.List.Folds.{list_any_none}
 use Rattle.std.proofs.lemmas.List.FromFn.{length-range_with_len, get_or-range_with_len}
 use Rattle.std.proofs.lemmas.List.Quantifiers.{position-Some}
-use Rattle.elf_object.specs.Object.{Object}
-use Rattle.elf_object.specs.Layout.{section_numbers}
-use Rattle.elf_object.specs.Valid.{IsObject}
-use Rattle.elf_object.specs.Sections.{is_among, number_or_0}
+use Rattle.hash_model.specs.elf_object.Object.{Object}
+use Rattle.hash_model.specs.elf_object.Layout.{section_numbers}
+use Rattle.hash_model.specs.elf_object.Valid.{IsObject}
+use Rattle.hash_model.specs.elf_object.Sections.{is_among, number_or_0}
 use Rattle.command_objects.specs.Removed.{removable, with_found, with_followers, removed_sections, removed_by_name, has_removed_users}
 use Rattle.command_objects.specs.Followed.{kept_sections, kept_from_1, renumbering, renumbered, is_section_number, followed}
 use Rattle.strip_laws.specs.Made.{FirstStays}

@@ -1,3 +1,5 @@
+pub use Rattle.hash_model.proofs.elf_object
+pub use Rattle.writing_laws.proofs.object_laws
 pub mod NameLaws
 pub mod KeptLaws
 pub mod SectionLaws

@@ -9,16 +9,16 @@ use Rattle.elf_types.specs.declared.records.Phdr.{Phdr}
 use Rattle.elf_types.specs.declared.errors.ElfError.{ElfError}
 use Rattle.elf_types.specs.declared.errors.ElfError.TheVariants.{TooMany}
 use Rattle.elf_types.specs.declared.constants.TheConstants.{PN_XNUM, PT_NULL, PT_LOAD}
-use Rattle.elf_ident.specs.declared.fronts.Front.{Front}
-use Rattle.elf_ident.specs.Front.{front}
-use Rattle.elf_ident.proofs.Refusals.{answered_ok, bind_ok}
-use Rattle.elf_object.specs.Object.{Object, Section, section_at, is_dirty}
-use Rattle.elf_object.specs.Open.{begun, begun_or_refused, opened}
-use Rattle.elf_object.specs.Image.{image as image_of}
-use Rattle.elf_object.proofs.PassedLaws.{not_refused}
-use Rattle.object_laws.proofs.OpenLaws.{front_known, known_fits, opened_is}
+use Rattle.hash_model.specs.elf_ident.declared.fronts.Front.{Front}
+use Rattle.hash_model.specs.elf_ident.Front.{front}
+use Rattle.hash_model.proofs.elf_ident.Refusals.{answered_ok, bind_ok}
+use Rattle.hash_model.specs.elf_object.Object.{Object, Section, section_at, is_dirty}
+use Rattle.hash_model.specs.elf_object.Open.{begun, begun_or_refused, opened}
+use Rattle.hash_model.specs.elf_object.Image.{image as image_of}
+use Rattle.hash_model.proofs.elf_object.PassedLaws.{not_refused}
+use Rattle.writing_laws.proofs.object_laws.OpenLaws.{front_known, known_fits, opened_is}
 use Rattle.writing_laws.specs.Based.{BeginningsAreBased}
-use Rattle.elf_object.specs.Sections.{greatest}
+use Rattle.hash_model.specs.elf_object.Sections.{greatest}
 use Rattle.command_objects.specs.Removed.{removed_sections}
 use Rattle.command_objects.specs.Followed.{kept_sections}
 use Rattle.command_objects.specs.Arranged.{Rebuilt, segment_end, loaded_end, base_end, tail_of, placed_from, tail_refusal, arranged}

@@ -11,29 +11,29 @@ use Rattle.elf_types.specs.declared.records.Order.{Order}
 use Rattle.elf_types.specs.declared.records.Phdr.{Phdr}
 use Rattle.elf_types.specs.declared.records.Shdr.{Shdr}
 use Rattle.elf_types.specs.declared.constants.TheConstants.{PN_XNUM}
-use Rattle.elf_xlate.specs.declared.content.Items.{Items}
-use Rattle.elf_xlate.specs.Headers.{ehdr_size, shdr_size, ehdr_bytes}
-use Rattle.elf_xlate.specs.Translation.{encoded}
-use Rattle.elf_ident.specs.declared.fronts.Front.{Front}
-use Rattle.elf_ident.specs.Reading.{IsFittingFront}
-use Rattle.elf_object.specs.Blocks.{Block, block_covers, byte_over}
-use Rattle.elf_object.specs.Object.{Object, Section, section_at, has_file_bytes, occupies_file, is_null, header_of, is_dirty}
-use Rattle.elf_object.specs.Open.{phdrs_bytes, shdrs_bytes, front_in_image, standing_header, opened_section, begun}
-use Rattle.elf_object.specs.Joined.{file_bytes}
-use Rattle.elf_object.specs.Derived.{where_any, derived_header, written_header}
-use Rattle.elf_object.specs.Layout.{places_of, table_place, placed_header, placed_by, placed}
-use Rattle.elf_object.specs.Image.{front_blocks, section_block, part_blocks, kept_base, uncovered_byte, image_length, image as image_of}
-use Rattle.elf_object.specs.Valid.{IsObject}
-use Rattle.object_laws.proofs.BlockLaws.{get_or-spread}
-use Rattle.object_laws.proofs.ImageLaws.{image-dirty, placed-dirty, length-image, joined-none, file_bytes_from, not_null}
-use Rattle.object_laws.proofs.KeepLaws.{section_at_is}
-use Rattle.object_laws.proofs.LengthLaws.{length-ehdr_bytes, length-shdrs_bytes}
-use Rattle.object_laws.proofs.OpenLaws.{IsFrontOf}
-use Rattle.object_laws.proofs.StandLaws.{covered_from, where_some, some_of, section_count-placed, joined-placed, offset-placed}
+use Rattle.hash_model.specs.elf_xlate.declared.content.Items.{Items}
+use Rattle.hash_model.specs.elf_xlate.Headers.{ehdr_size, shdr_size, ehdr_bytes}
+use Rattle.hash_model.specs.elf_xlate.Translation.{encoded}
+use Rattle.hash_model.specs.elf_ident.declared.fronts.Front.{Front}
+use Rattle.hash_model.specs.elf_ident.Reading.{IsFittingFront}
+use Rattle.hash_model.specs.elf_object.Blocks.{Block, block_covers, byte_over}
+use Rattle.hash_model.specs.elf_object.Object.{Object, Section, section_at, has_file_bytes, occupies_file, is_null, header_of, is_dirty}
+use Rattle.hash_model.specs.elf_object.Open.{phdrs_bytes, shdrs_bytes, front_in_image, standing_header, opened_section, begun}
+use Rattle.hash_model.specs.elf_object.Joined.{file_bytes}
+use Rattle.hash_model.specs.elf_object.Derived.{where_any, derived_header, written_header}
+use Rattle.hash_model.specs.elf_object.Layout.{places_of, table_place, placed_header, placed_by, placed}
+use Rattle.hash_model.specs.elf_object.Image.{front_blocks, section_block, part_blocks, kept_base, uncovered_byte, image_length, image as image_of}
+use Rattle.hash_model.specs.elf_object.Valid.{IsObject}
+use Rattle.writing_laws.proofs.object_laws.BlockLaws.{get_or-spread}
+use Rattle.writing_laws.proofs.object_laws.ImageLaws.{image-dirty, placed-dirty, length-image, joined-none, file_bytes_from, not_null}
+use Rattle.writing_laws.proofs.object_laws.KeepLaws.{section_at_is}
+use Rattle.writing_laws.proofs.object_laws.LengthLaws.{length-ehdr_bytes, length-shdrs_bytes}
+use Rattle.writing_laws.proofs.object_laws.OpenLaws.{IsFrontOf}
+use Rattle.writing_laws.proofs.object_laws.StandLaws.{covered_from, where_some, some_of, section_count-placed, joined-placed, offset-placed}
 use Rattle.writing_laws.specs.Based.{IsBased}
 use Rattle.writing_laws.specs.Lines.{StandsAt}
 use Rattle.writing_laws.proofs.HeldLaws.{stands_byte, held_byte}
-use Rattle.elf_object.specs.Sections.{is_allocated, is_among, header_at}
+use Rattle.hash_model.specs.elf_object.Sections.{is_allocated, is_among, header_at}
 use Rattle.command_objects.specs.Followed.{kept_from_1}
 use Rattle.command_objects.specs.Arranged.{place_from, section_from}
 use Rattle.command_objects.specs.Rebuilt.{kept_refusal, rebuilt_items, rebuilt_header, rebuilt_sections, made_section}

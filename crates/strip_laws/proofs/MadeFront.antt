@@ -7,21 +7,21 @@ use Rattle.std.proofs.lemmas.List.{length-map}
 use Rattle.elf_types.specs.declared.records.Class.{Class}
 use Rattle.elf_types.specs.declared.errors.ElfError.TheVariants as error
 use Rattle.elf_types.specs.declared.constants.TheConstants.{PN_XNUM, SHN_XINDEX}
-use Rattle.elf_xlate.specs.Headers.{ehdr_size, phdr_size, shdr_size, phdr_of}
-use Rattle.elf_xlate.proofs.Pieces.{length_items_of}
-use Rattle.elf_ident.specs.declared.counts.Counts.{Counts}
-use Rattle.elf_ident.specs.declared.fronts.Head.{Head}
-use Rattle.elf_ident.specs.declared.fronts.Front.{Front}
-use Rattle.elf_ident.specs.Front.{needs_first, first_section, true_phnum, true_counts, lies_in, count_refusal, phdrs_at, front_at}
-use Rattle.elf_ident.specs.Reading.{IsFittingFront}
-use Rattle.elf_object.specs.Object.{Object, header_of}
-use Rattle.elf_object.specs.Open.{standing_header, opened_section, begun}
-use Rattle.elf_object.specs.Derived.{where_any, derived_header, written_phnum, written_header}
-use Rattle.elf_object.specs.Layout.{places_of, segments_place, placed_header}
-use Rattle.elf_object.proofs.PassedLaws.{passed_one}
-use Rattle.object_laws.proofs.OpenLaws.{IsFrontOf}
-use Rattle.object_laws.proofs.StandLaws.{where_some}
-use Rattle.elf_object.specs.Sections.{is_among}
+use Rattle.hash_model.specs.elf_xlate.Headers.{ehdr_size, phdr_size, shdr_size, phdr_of}
+use Rattle.hash_model.proofs.elf_xlate.Pieces.{length_items_of}
+use Rattle.hash_model.specs.elf_ident.declared.counts.Counts.{Counts}
+use Rattle.hash_model.specs.elf_ident.declared.fronts.Head.{Head}
+use Rattle.hash_model.specs.elf_ident.declared.fronts.Front.{Front}
+use Rattle.hash_model.specs.elf_ident.Front.{needs_first, first_section, true_phnum, true_counts, lies_in, count_refusal, phdrs_at, front_at}
+use Rattle.hash_model.specs.elf_ident.Reading.{IsFittingFront}
+use Rattle.hash_model.specs.elf_object.Object.{Object, header_of}
+use Rattle.hash_model.specs.elf_object.Open.{standing_header, opened_section, begun}
+use Rattle.hash_model.specs.elf_object.Derived.{where_any, derived_header, written_phnum, written_header}
+use Rattle.hash_model.specs.elf_object.Layout.{places_of, segments_place, placed_header}
+use Rattle.hash_model.proofs.elf_object.PassedLaws.{passed_one}
+use Rattle.writing_laws.proofs.object_laws.OpenLaws.{IsFrontOf}
+use Rattle.writing_laws.proofs.object_laws.StandLaws.{where_some}
+use Rattle.hash_model.specs.elf_object.Sections.{is_among}
 use Rattle.command_objects.specs.Followed.{kept_sections}
 use Rattle.command_objects.specs.Laws.{IsUsual}
 use Rattle.command_objects.specs.Rebuilt.{rebuilt_section, rebuilt_sections}

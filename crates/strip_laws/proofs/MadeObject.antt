@@ -4,9 +4,9 @@ use Rattle.std.specs.Prelude.{if◌then◌else◌, ◌==◌, map}
 use Rattle.std.specs.List.{enumerate_from}
 use Rattle.std.proofs.lemmas.List.{length-map}
 use Rattle.std.proofs.lemmas.List.FromFn.{length-enumerate_from}
-use Rattle.elf_object.specs.Object.{Object}
-use Rattle.elf_object.specs.Open.{created_over}
-use Rattle.elf_object.specs.Steps.{stored_ehdr, with_ehdr, with_phdrs}
+use Rattle.hash_model.specs.elf_object.Object.{Object}
+use Rattle.hash_model.specs.elf_object.Open.{created_over}
+use Rattle.hash_model.specs.elf_object.Steps.{stored_ehdr, with_ehdr, with_phdrs}
 use Rattle.command_objects.specs.Arranged.{over_base, section_from, table_place_from, placed_from}
 use Rattle.command_objects.specs.Rebuilt.{rebuilt_sections, rebuilt_index, rebuilt_tail, rebuilt_object, assembled}
 

@@ -17,23 +17,23 @@ use Rattle.elf_types.specs.declared.records.Shdr.{Shdr}
 use Rattle.elf_types.specs.declared.errors.ElfError.{ElfError}
 use Rattle.elf_types.specs.declared.errors.ElfError.TheVariants.{OutOfFile}
 use Rattle.elf_types.specs.declared.constants.TheConstants.{SHT_SYMTAB_SHNDX}
-use Rattle.elf_xlate.specs.declared.content.Items.{Items}
-use Rattle.elf_xlate.specs.declared.content.Items.TheVariants as items
-use Rattle.elf_xlate.specs.Translation.{encoded}
-use Rattle.elf_xlate.proofs.Bytes.{lowest_same}
-use Rattle.elf_ident.specs.declared.fronts.Front.{Front}
-use Rattle.elf_ident.specs.Front.{zero_shdr}
-use Rattle.elf_object.specs.Blocks.{stacked, last_end, spread}
-use Rattle.elf_object.specs.Object.{Object, Section, absent_section, new_section, section_at, occupies_file, has_file_bytes}
-use Rattle.elf_object.specs.Open.{home_len, home_of, home_bytes, opened_section, begun}
-use Rattle.elf_object.specs.Answers.{no_section, out_of_file, raw_refusal, data_refusal}
-use Rattle.elf_object.specs.Joined.{piece_bytes, aligned_pieces, piece_blocks, pieces_end, file_bytes, section_end}
-use Rattle.elf_object.specs.Steps.{with_ehdr, with_phdrs, own_piece}
-use Rattle.elf_object.proofs.PassedLaws.{none_first, none_rest, not_refused}
-use Rattle.object_laws.proofs.ItemLaws.{alone_spread}
-use Rattle.object_laws.proofs.StandLaws.{file_bytes_when}
+use Rattle.hash_model.specs.elf_xlate.declared.content.Items.{Items}
+use Rattle.hash_model.specs.elf_xlate.declared.content.Items.TheVariants as items
+use Rattle.hash_model.specs.elf_xlate.Translation.{encoded}
+use Rattle.hash_model.proofs.elf_xlate.Bytes.{lowest_same}
+use Rattle.hash_model.specs.elf_ident.declared.fronts.Front.{Front}
+use Rattle.hash_model.specs.elf_ident.Front.{zero_shdr}
+use Rattle.hash_model.specs.elf_object.Blocks.{stacked, last_end, spread}
+use Rattle.hash_model.specs.elf_object.Object.{Object, Section, absent_section, new_section, section_at, occupies_file, has_file_bytes}
+use Rattle.hash_model.specs.elf_object.Open.{home_len, home_of, home_bytes, opened_section, begun}
+use Rattle.hash_model.specs.elf_object.Answers.{no_section, out_of_file, raw_refusal, data_refusal}
+use Rattle.hash_model.specs.elf_object.Joined.{piece_bytes, aligned_pieces, piece_blocks, pieces_end, file_bytes, section_end}
+use Rattle.hash_model.specs.elf_object.Steps.{with_ehdr, with_phdrs, own_piece}
+use Rattle.hash_model.proofs.elf_object.PassedLaws.{none_first, none_rest, not_refused}
+use Rattle.writing_laws.proofs.object_laws.ItemLaws.{alone_spread}
+use Rattle.writing_laws.proofs.object_laws.StandLaws.{file_bytes_when}
 use Rattle.writing_laws.specs.Lines.{StandsAt}
-use Rattle.elf_object.specs.Sections.{is_allocated, is_loose, is_among, first_of, header_at}
+use Rattle.hash_model.specs.elf_object.Sections.{is_allocated, is_loose, is_among, first_of, header_at}
 use Rattle.command_objects.specs.Followed.{kept_sections, kept_from_1, followed_header, has_indexes_of, extended_table, is_the, symbols_follow, members_follow, indexes_follow}
 use Rattle.command_objects.specs.Arranged.{place_from, section_from, table_place_from, placed_from}
 use Rattle.command_objects.specs.Rebuilt.{has_names_alone, renews_names, items_follow, kept_items, kept_refusal, made_section, rebuilt_items, rebuilt_header, rebuilt_section, rebuilt_sections, assembled}

@@ -4,8 +4,8 @@ use Rattle.std.specs.List.{flat_map, prefix_len}
 use Rattle.std.specs.Str.{bytes_eq}
 use Rattle.std.proofs.lemmas.List.{length-append, take-append-drop}
 use Rattle.std.proofs.lemmas.List.Concat.{flat_map-append}
-use Rattle.strtab_build.specs.Table.{distinct, strings, table, place_of}
-use Rattle.strtab_build.proofs.DistinctLemmas.{distinct-append, fold-behind}
+use Rattle.hash_model.specs.strtab_build.Table.{distinct, strings, table, place_of}
+use Rattle.hash_model.proofs.strtab_build.DistinctLemmas.{distinct-append, fold-behind}
 
 -- a table of more names is no shorter
 table_more : (names more : List (List ℕ)) → length (table names) ≤ length (table (names ++ more))

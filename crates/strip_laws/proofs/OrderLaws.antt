@@ -11,19 +11,19 @@ use Rattle.elf_types.specs.declared.records.Shdr.{Shdr}
 use Rattle.elf_types.specs.declared.errors.ElfError.{ElfError}
 use Rattle.elf_types.specs.declared.errors.ElfError.TheVariants.{NoSection, Reserved, Unfit}
 use Rattle.elf_types.specs.declared.constants.TheConstants.{SHT_GROUP}
-use Rattle.elf_xlate.specs.declared.content.Items.TheVariants as items
-use Rattle.elf_xlate.specs.Headers.{shdr_fits}
-use Rattle.elf_ident.specs.Front.{zero_shdr}
-use Rattle.elf_object.specs.Object.{Object, Section}
-use Rattle.elf_object.specs.Answers.{items_at, syms_of}
-use Rattle.elf_object.specs.Calls.{update_shdr, update_shdr_refusal}
-use Rattle.elf_object.specs.Due.{all_sections}
-use Rattle.elf_object.specs.Steps.{with_own, with_shdr}
-use Rattle.elf_object.specs.Valid.{IsObject}
-use Rattle.elf_object.proofs.PassedLaws.{step_ok}
-use Rattle.object_laws.proofs.KeepLaws.{section_at_is, with_own_is, update_shdr_keeps}
-use Rattle.object_laws.proofs.StandLaws.{section_at-past}
-use Rattle.elf_object.specs.Sections.{header_at}
+use Rattle.hash_model.specs.elf_xlate.declared.content.Items.TheVariants as items
+use Rattle.hash_model.specs.elf_xlate.Headers.{shdr_fits}
+use Rattle.hash_model.specs.elf_ident.Front.{zero_shdr}
+use Rattle.hash_model.specs.elf_object.Object.{Object, Section}
+use Rattle.hash_model.specs.elf_object.Answers.{items_at, syms_of}
+use Rattle.hash_model.specs.elf_object.Calls.{update_shdr, update_shdr_refusal}
+use Rattle.hash_model.specs.elf_object.Due.{all_sections}
+use Rattle.hash_model.specs.elf_object.Steps.{with_own, with_shdr}
+use Rattle.hash_model.specs.elf_object.Valid.{IsObject}
+use Rattle.hash_model.proofs.elf_object.PassedLaws.{step_ok}
+use Rattle.writing_laws.proofs.object_laws.KeepLaws.{section_at_is, with_own_is, update_shdr_keeps}
+use Rattle.writing_laws.proofs.object_laws.StandLaws.{section_at-past}
+use Rattle.hash_model.specs.elf_object.Sections.{header_at}
 use Rattle.hash_model.specs.Reordered.{in_order, new_index, kind_by_symbols, items_by_symbols, with_signature, reordered_section, reordered}
 use Rattle.strip_laws.proofs.SectionLaws.{relinked_is}
 

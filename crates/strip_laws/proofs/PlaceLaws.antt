@@ -8,14 +8,14 @@ use Rattle.std.proofs.lemmas.Bool.{ne_eqb, eqb-false, cases_eq, not-false}
 use Rattle.std.proofs.lemmas.Iterator.Adapters.{position_from-zero}
 use Rattle.std.proofs.lemmas.List.{length-append, length-map, get_or-map}
 use Rattle.std.proofs.lemmas.List.Quantifiers.{position-Some}
-use Rattle.elf_layout.specs.declared.parts.PartAt.{PartAt}
-use Rattle.elf_layout.specs.Layout.{rounded_up, place_of, end_after, in_order_from, standing, length_from, length_of, positions, places_of as parts_places}
-use Rattle.elf_object.specs.Object.{Object, section_at, is_null, is_dirty}
-use Rattle.elf_object.specs.Layout.{header_part, section_part, table_part, section_numbers, parts_of, places_of, segments_place, section_place, table_place}
-use Rattle.elf_object.specs.Image.{image_length}
-use Rattle.object_laws.proofs.PlaceLaws.{rounded_up-ge, length_from-ge}
-use Rattle.object_laws.proofs.StandLaws.{row_left, row_last, length-row}
-use Rattle.elf_object.specs.Sections.{is_allocated, header_at}
+use Rattle.hash_model.specs.elf_layout.declared.parts.PartAt.{PartAt}
+use Rattle.hash_model.specs.elf_layout.Layout.{rounded_up, place_of, end_after, in_order_from, standing, length_from, length_of, positions, places_of as parts_places}
+use Rattle.hash_model.specs.elf_object.Object.{Object, section_at, is_null, is_dirty}
+use Rattle.hash_model.specs.elf_object.Layout.{header_part, section_part, table_part, section_numbers, parts_of, places_of, segments_place, section_place, table_place}
+use Rattle.hash_model.specs.elf_object.Image.{image_length}
+use Rattle.writing_laws.proofs.object_laws.PlaceLaws.{rounded_up-ge, length_from-ge}
+use Rattle.writing_laws.proofs.object_laws.StandLaws.{row_left, row_last, length-row}
+use Rattle.hash_model.specs.elf_object.Sections.{is_allocated, header_at}
 use Rattle.command_objects.specs.Arranged.{movable, table_parts, parts_from, place_from, table_place_from}
 
 -- ---- The caller's places

@@ -8,15 +8,15 @@ use Rattle.elf_types.specs.Answers.{first_refusal}
 use Rattle.elf_types.specs.Lists.{AreBytes}
 use Rattle.elf_types.specs.declared.records.Part.TheVariants as part
 use Rattle.elf_types.specs.declared.errors.ElfError.TheVariants.{NoSection, Unfit}
-use Rattle.elf_xlate.specs.Headers.{ehdr_fits}
-use Rattle.elf_ident.proofs.Refusals.{bind_ok, answered_ok}
-use Rattle.elf_object.specs.Object.{Object, Section}
-use Rattle.elf_object.specs.Open.{created_over}
-use Rattle.elf_object.specs.Steps.{stored_ehdr, with_ehdr, with_phdrs, with_layout}
-use Rattle.elf_object.specs.Calls.{newphdr_refusal, update_ehdr_refusal}
-use Rattle.elf_object.specs.Valid.{IsSection, IsObject}
-use Rattle.elf_object.proofs.PassedLaws.{none_first, none_rest, passed_two}
-use Rattle.object_laws.proofs.RangeLaws.{each_made}
+use Rattle.hash_model.specs.elf_xlate.Headers.{ehdr_fits}
+use Rattle.hash_model.proofs.elf_ident.Refusals.{bind_ok, answered_ok}
+use Rattle.hash_model.specs.elf_object.Object.{Object, Section}
+use Rattle.hash_model.specs.elf_object.Open.{created_over}
+use Rattle.hash_model.specs.elf_object.Steps.{stored_ehdr, with_ehdr, with_phdrs, with_layout}
+use Rattle.hash_model.specs.elf_object.Calls.{newphdr_refusal, update_ehdr_refusal}
+use Rattle.hash_model.specs.elf_object.Valid.{IsSection, IsObject}
+use Rattle.hash_model.proofs.elf_object.PassedLaws.{none_first, none_rest, passed_two}
+use Rattle.writing_laws.proofs.object_laws.RangeLaws.{each_made}
 use Rattle.command_objects.specs.Followed.{kept_sections, kept_from_1}
 use Rattle.command_objects.specs.Arranged.{Rebuilt, over_base, arranged}
 use Rattle.command_objects.specs.Rebuilt.{renews_names, kept_names, kept_refusal, table_refusal, index_refusal, rebuild_refusal, rebuilt, rebuilt_section, rebuilt_sections, rebuilt_index, rebuilt_tail, rebuilt_object, assembled}

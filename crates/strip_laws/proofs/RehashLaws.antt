@@ -11,19 +11,19 @@ use Rattle.elf_types.specs.declared.records.Part.TheVariants as part
 use Rattle.elf_types.specs.declared.records.TheConstants.{LAYOUT}
 use Rattle.elf_types.specs.declared.errors.ElfError.{ElfError}
 use Rattle.elf_types.specs.declared.errors.ElfError.TheVariants.{TooMany}
-use Rattle.elf_xlate.specs.declared.content.Items.{Items}
-use Rattle.elf_xlate.specs.declared.content.Items.TheVariants as items
-use Rattle.elf_xlate.specs.Translation.{items_count}
-use Rattle.elf_ident.proofs.Refusals.{answered_ok, bind_ok}
-use Rattle.elf_layout.specs.Meeting.{inserted_by, sorted_by}
-use Rattle.elf_object.specs.Object.{Object}
-use Rattle.elf_object.specs.Answers.{items_at, count_at, syms_of, bytes_of, words_of, lend_refusal, flags_of, part_refusal}
-use Rattle.elf_object.specs.Calls.{data_answer, replace, flag, flag_refusal}
-use Rattle.elf_object.specs.Steps.{with_layout, with_flags}
-use Rattle.elf_object.specs.Valid.{IsObject}
-use Rattle.elf_object.proofs.PassedLaws.{none_first, none_rest, not_refused, step_ok}
-use Rattle.object_laws.proofs.KeepLaws.{replace_keeps, flag_keeps}
-use Rattle.elf_object.specs.Sections.{is_program}
+use Rattle.hash_model.specs.elf_xlate.declared.content.Items.{Items}
+use Rattle.hash_model.specs.elf_xlate.declared.content.Items.TheVariants as items
+use Rattle.hash_model.specs.elf_xlate.Translation.{items_count}
+use Rattle.hash_model.proofs.elf_ident.Refusals.{answered_ok, bind_ok}
+use Rattle.hash_model.specs.elf_layout.Meeting.{inserted_by, sorted_by}
+use Rattle.hash_model.specs.elf_object.Object.{Object}
+use Rattle.hash_model.specs.elf_object.Answers.{items_at, count_at, syms_of, bytes_of, words_of, lend_refusal, flags_of, part_refusal}
+use Rattle.hash_model.specs.elf_object.Calls.{data_answer, replace, flag, flag_refusal}
+use Rattle.hash_model.specs.elf_object.Steps.{with_layout, with_flags}
+use Rattle.hash_model.specs.elf_object.Valid.{IsObject}
+use Rattle.hash_model.proofs.elf_object.PassedLaws.{none_first, none_rest, not_refused, step_ok}
+use Rattle.writing_laws.proofs.object_laws.KeepLaws.{replace_keeps, flag_keeps}
+use Rattle.hash_model.specs.elf_object.Sections.{is_program}
 use Rattle.hash_model.specs.Hashes.{gnu_hash}
 use Rattle.hash_model.specs.Listed.{listed_name, listed_names}
 use Rattle.hash_model.specs.BuiltHashes.{buckets_of, order_key, gnu_order_of, hash_refusal, gnu_order_answer, build_gnu_answer, build_sysv_answer}

@@ -7,18 +7,18 @@ use Rattle.std.proofs.lemmas.List.Elements.{All-nil, All-cons}
 use Rattle.elf_types.specs.declared.records.Class.{Class}
 use Rattle.elf_types.specs.declared.records.Shdr.{Shdr}
 use Rattle.elf_types.specs.declared.errors.ElfError.TheVariants.{TooLarge}
-use Rattle.elf_xlate.specs.declared.content.Items.{Items}
-use Rattle.elf_xlate.specs.Headers.{IsShdr, shdr_fits}
-use Rattle.strtab_build.specs.Table.{table, place_of}
-use Rattle.elf_object.specs.Object.{Object, Piece, new_section, occupies_file}
-use Rattle.elf_object.specs.Steps.{own_piece}
-use Rattle.elf_object.specs.Calls.{is_piece_align}
-use Rattle.elf_object.specs.Strings.{section_name, or_empty_name}
-use Rattle.elf_object.specs.Valid.{IsPiece, OthersOwn, IsSection, IsObject}
-use Rattle.elf_object.proofs.PassedLaws.{not_refused}
-use Rattle.elf_object.proofs.PieceLaws.{own_piece_is}
-use Rattle.object_laws.proofs.KeepLaws.{new_section_is, section_at_is}
-use Rattle.elf_object.specs.Sections.{header_at, info_is_section}
+use Rattle.hash_model.specs.elf_xlate.declared.content.Items.{Items}
+use Rattle.hash_model.specs.elf_xlate.Headers.{IsShdr, shdr_fits}
+use Rattle.hash_model.specs.strtab_build.Table.{table, place_of}
+use Rattle.hash_model.specs.elf_object.Object.{Object, Piece, new_section, occupies_file}
+use Rattle.hash_model.specs.elf_object.Steps.{own_piece}
+use Rattle.hash_model.specs.elf_object.Calls.{is_piece_align}
+use Rattle.hash_model.specs.elf_object.Strings.{section_name, or_empty_name}
+use Rattle.hash_model.specs.elf_object.Valid.{IsPiece, OthersOwn, IsSection, IsObject}
+use Rattle.hash_model.proofs.elf_object.PassedLaws.{not_refused}
+use Rattle.hash_model.proofs.elf_object.PieceLaws.{own_piece_is}
+use Rattle.writing_laws.proofs.object_laws.KeepLaws.{new_section_is, section_at_is}
+use Rattle.hash_model.specs.elf_object.Sections.{header_at, info_is_section}
 use Rattle.command_objects.specs.Followed.{renumbering, followed, followed_header}
 use Rattle.command_objects.specs.Rebuilt.{renews_names, kept_names, made_section, rebuilt_items, rebuilt_name, rebuilt_header, rebuilt_section, table_refusal}
 use Rattle.strip_laws.proofs.NameLaws.{place_within}

@@ -13,20 +13,20 @@ use Rattle.elf_types.specs.declared.records.Part.TheVariants as part
 use Rattle.elf_types.specs.declared.errors.ElfError.{ElfError}
 use Rattle.elf_types.specs.declared.errors.ElfError.TheVariants.{OutOfFile, TooMany, Unfit}
 use Rattle.elf_types.specs.declared.constants.TheConstants.{PN_XNUM, SHN_LORESERVE}
-use Rattle.elf_xlate.specs.declared.content.Items.{Items}
-use Rattle.elf_xlate.specs.Headers.{phdr_fits}
-use Rattle.elf_xlate.specs.Translation.{first_unfit}
-use Rattle.elf_xlate.proofs.Pieces.{all_pass}
-use Rattle.elf_ident.specs.Front.{zero_shdr}
-use Rattle.elf_object.specs.Object.{Object, Section, Piece, absent_section, new_section, section_at, occupies_file, has_file_bytes, home_is_clean, is_dirty, some_section_marked}
-use Rattle.elf_object.specs.Open.{opened_section, begun, created_over}
-use Rattle.elf_object.specs.Refusal.{too_many, unfit_segment, unfit_in_piece, unfit_in_section, unfit_item, missing_in_section, missing_home, content_refusal, placing_refusal, refusal}
-use Rattle.elf_object.specs.Steps.{stored_ehdr, with_ehdr, with_phdrs, with_layout, own_piece}
-use Rattle.elf_object.specs.Calls.{newphdr_refusal}
-use Rattle.elf_object.specs.Valid.{IsObject}
-use Rattle.elf_object.proofs.PassedLaws.{not_refused}
-use Rattle.object_laws.proofs.PlacedLaws.{each_row}
-use Rattle.elf_object.specs.Sections.{is_among}
+use Rattle.hash_model.specs.elf_xlate.declared.content.Items.{Items}
+use Rattle.hash_model.specs.elf_xlate.Headers.{phdr_fits}
+use Rattle.hash_model.specs.elf_xlate.Translation.{first_unfit}
+use Rattle.hash_model.proofs.elf_xlate.Pieces.{all_pass}
+use Rattle.hash_model.specs.elf_ident.Front.{zero_shdr}
+use Rattle.hash_model.specs.elf_object.Object.{Object, Section, Piece, absent_section, new_section, section_at, occupies_file, has_file_bytes, home_is_clean, is_dirty, some_section_marked}
+use Rattle.hash_model.specs.elf_object.Open.{opened_section, begun, created_over}
+use Rattle.hash_model.specs.elf_object.Refusal.{too_many, unfit_segment, unfit_in_piece, unfit_in_section, unfit_item, missing_in_section, missing_home, content_refusal, placing_refusal, refusal}
+use Rattle.hash_model.specs.elf_object.Steps.{stored_ehdr, with_ehdr, with_phdrs, with_layout, own_piece}
+use Rattle.hash_model.specs.elf_object.Calls.{newphdr_refusal}
+use Rattle.hash_model.specs.elf_object.Valid.{IsObject}
+use Rattle.hash_model.proofs.elf_object.PassedLaws.{not_refused}
+use Rattle.writing_laws.proofs.object_laws.PlacedLaws.{each_row}
+use Rattle.hash_model.specs.elf_object.Sections.{is_among}
 use Rattle.command_objects.specs.Followed.{kept_sections}
 use Rattle.command_objects.specs.Arranged.{Rebuilt, over_base, place_from, table_place_from, section_from, placed_from}
 use Rattle.command_objects.specs.Rebuilt.{rebuilt_items, rebuilt_header, rebuilt_section, made_section, rebuilt_sections, rebuilt_index, rebuilt_tail, rebuilt_object, assembled}

@@ -3,15 +3,15 @@ use Rattle.std.proofs.Common.{◌≡◌, ℕ, true, List, None, Result, Ok, sym,
 use Rattle.std.specs.Prelude.{All}
 use Rattle.std.proofs.lemmas.Bool.{both_ways}
 use Rattle.elf_types.specs.declared.errors.ElfError.{ElfError}
-use Rattle.elf_xlate.specs.Headers.{IsPhdr}
-use Rattle.elf_ident.proofs.Refusals.{answered_ok}
-use Rattle.elf_object.specs.Object.{Object, is_dirty}
-use Rattle.elf_object.specs.Open.{opened}
-use Rattle.elf_object.specs.Image.{image}
-use Rattle.elf_object.specs.Refusal.{refusal}
-use Rattle.elf_object.specs.Settled.{settle}
-use Rattle.elf_object.specs.Valid.{IsObject, IsTied, as_opened}
-use Rattle.object_laws.specs.Laws.{ReopenLaw}
+use Rattle.hash_model.specs.elf_xlate.Headers.{IsPhdr}
+use Rattle.hash_model.proofs.elf_ident.Refusals.{answered_ok}
+use Rattle.hash_model.specs.elf_object.Object.{Object, is_dirty}
+use Rattle.hash_model.specs.elf_object.Open.{opened}
+use Rattle.hash_model.specs.elf_object.Image.{image}
+use Rattle.hash_model.specs.elf_object.Refusal.{refusal}
+use Rattle.hash_model.specs.elf_object.Settled.{settle}
+use Rattle.hash_model.specs.elf_object.Valid.{IsObject, IsTied, as_opened}
+use Rattle.writing_laws.specs.object_laws.Laws.{ReopenLaw}
 use Rattle.command_objects.specs.Files.{file_of}
 
 ok_inner : {A E : Type 0} (a b : A) → ◌≡◌ {A = Result A E} (Ok a) (Ok b) → a ≡ b

@@ -1,13 +1,13 @@
 -- What is known of the objects that strip and unstrip make anew, besides that they are objects
 -- (MadeAreObjects of command_objects): they can be written.
 use Rattle.std.specs.Prelude.{◌≡◌, ℕ, Bool, true, false, List, None, Ok}
-use Rattle.elf_ident.specs.declared.fronts.Front.{Front}
-use Rattle.elf_ident.specs.Reading.{IsFittingFront}
-use Rattle.elf_object.specs.Object.{Object, is_dirty}
-use Rattle.elf_object.specs.Open.{begun}
-use Rattle.elf_object.specs.Refusal.{unfit_segment, unfit_item, content_refusal, placing_refusal, refusal}
-use Rattle.elf_object.specs.Valid.{IsObject}
-use Rattle.elf_object.specs.Sections.{is_among}
+use Rattle.hash_model.specs.elf_ident.declared.fronts.Front.{Front}
+use Rattle.hash_model.specs.elf_ident.Reading.{IsFittingFront}
+use Rattle.hash_model.specs.elf_object.Object.{Object, is_dirty}
+use Rattle.hash_model.specs.elf_object.Open.{begun}
+use Rattle.hash_model.specs.elf_object.Refusal.{unfit_segment, unfit_item, content_refusal, placing_refusal, refusal}
+use Rattle.hash_model.specs.elf_object.Valid.{IsObject}
+use Rattle.hash_model.specs.elf_object.Sections.{is_among}
 use Rattle.command_objects.specs.Removed.{removed_sections, removed_by_name}
 use Rattle.command_objects.specs.Arranged.{Rebuilt}
 use Rattle.command_objects.specs.Rebuilt.{rebuilt}

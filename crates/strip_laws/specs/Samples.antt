@@ -1,7 +1,7 @@
 -- For tests: what the law on loaded bytes asks of an image and of a place in it.
 use Rattle.std.specs.Prelude.{◌≡◌, ℕ, false, Result, Ok, Err}
 use Rattle.elf_types.specs.declared.errors.ElfError.{ElfError}
-use Rattle.elf_ident.specs.declared.fronts.Front.{Front}
+use Rattle.hash_model.specs.elf_ident.declared.fronts.Front.{Front}
 use Rattle.command_objects.specs.Laws.{IsUsual, IsLoaded, may_change}
 
 -- a usual header, and a byte that is loaded and may not change

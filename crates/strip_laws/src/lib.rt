@@ -5,5 +5,6 @@
 #![tactic(auto)]
 
 pub mod laws;
+pub mod prelude;
 #[cfg(test)]
 mod tests;

@@ -1,7 +1,7 @@
 //! That a whole executable meets what the law on loaded bytes asks, computed by proof.
 #![tactic(auto, unfolding(crate::proofs::Computing::all_words))]
 
-ghost use Rattle.elf_ident.specs.Front.{front};
+ghost use Rattle.hash_model.specs.elf_ident.Front.{front};
 ghost use Rattle.command_objects.specs.Executable.{executable64};
 ghost use Rattle.strip_laws.specs.Samples.{StaysIn};
 

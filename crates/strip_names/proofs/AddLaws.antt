@@ -4,7 +4,7 @@ use Rattle.std.specs.Prelude.{IfOk, IfErr}
 use Rattle.std.proofs.lemmas.Bool.{cases_lt, both_ways}
 use Rattle.elf_types.specs.declared.errors.ElfError.{ElfError}
 use Rattle.elf_types.specs.declared.errors.ElfError.TheVariants.{Memory, TooLarge}
-use Rattle.strtab_build.specs.Table.{table}
+use Rattle.shared_strings.specs.strtab_build.Table.{table}
 use Rattle.strip_names.specs.Names.{is_too_large, IsAdded, IsPlaced, IsAddedAt}
 
 -- ---- What a refusal tells

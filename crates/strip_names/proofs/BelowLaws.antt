@@ -8,15 +8,15 @@ use Rattle.std.proofs.lemmas.Grind.{flat_map-append}
 use Rattle.std.proofs.lemmas.List.{map-append}
 use Rattle.std.proofs.lemmas.List.Elements.{filter-append}
 use Rattle.std.proofs.lemmas.List.FromFn.{map-range_with_len_more}
-use Rattle.strtab_build.specs.Table.{distinct, strings, table, place_of}
-use Rattle.strtab_build.proofs.DistinctLemmas.{same_refl, distinct-append, distinct-append_left, fold-behind}
-use Rattle.strtab_build.proofs.TableLemmas.{place_of-append, place_of-distinct, table_same}
-use Rattle.elf_object.specs.Object.{Object}
-use Rattle.elf_object.specs.Strings.{section_name, or_empty_name}
-use Rattle.elf_object.specs.Sections.{is_among}
-use Rattle.command_objects.specs.Followed.{kept_from_1}
-use Rattle.command_objects.specs.Rebuilt.{kept_names}
-use Rattle.strip_removed.proofs.SetLaws.{range_more}
+use Rattle.shared_strings.specs.strtab_build.Table.{distinct, strings, table, place_of}
+use Rattle.shared_strings.proofs.strtab_build.DistinctLemmas.{same_refl, distinct-append, distinct-append_left, fold-behind}
+use Rattle.shared_strings.proofs.strtab_build.TableLemmas.{place_of-append, place_of-distinct, table_same}
+use Rattle.strip_kept.specs.elf_object.Object.{Object}
+use Rattle.strip_kept.specs.elf_object.Strings.{section_name, or_empty_name}
+use Rattle.strip_kept.specs.elf_object.Sections.{is_among}
+use Rattle.strip_kept.specs.command_objects.Followed.{kept_from_1}
+use Rattle.strip_kept.specs.command_objects.Rebuilt.{kept_names}
+use Rattle.strip_kept.proofs.strip_removed.SetLaws.{range_more}
 use Rattle.strip_kept.specs.Kept.{is_left}
 use Rattle.strip_kept.proofs.KeptLaws.{kept_among}
 use Rattle.strip_names.specs.declared.building.Making.{Making}

@@ -5,18 +5,18 @@ use Rattle.std.proofs.lemmas.Bool.{lt-ltb, le-ltb}
 use Rattle.elf_types.specs.declared.errors.ElfError.{ElfError}
 use Rattle.elf_types.specs.declared.errors.ElfError.TheVariants.{Memory, Read, TooLarge}
 use Rattle.elf_types.specs.Answers.{refused_if, answered}
-use Rattle.elf_outside.specs.declared.sources.Source.{Ghosts}
-use Rattle.elf_outside.specs.Asks.{ReadRose}
-use Rattle.strtab_build.specs.Table.{table}
-use Rattle.strtab_build.proofs.TableLemmas.{table-distinct}
-use Rattle.elf_object.specs.Object.{Object}
-use Rattle.elf_object.specs.Due.{all_sections, homes_due}
-use Rattle.elf_object.specs.Words.{AnswersRead}
-use Rattle.elf_descriptor.specs.State.{State}
-use Rattle.elf_descriptor.specs.Reads.{Queries, wanted}
-use Rattle.elf_descriptor.proofs.ReadsLaws.{reads_then}
-use Rattle.command_objects.specs.Rebuilt.{kept_names, table_refusal}
-use Rattle.strip_removed.specs.Calls.{names_home, MayEnd, ReadsNames}
+use Rattle.strip_kept.specs.elf_outside.declared.sources.Source.{Ghosts}
+use Rattle.strip_kept.specs.elf_outside.Asks.{ReadRose}
+use Rattle.shared_strings.specs.strtab_build.Table.{table}
+use Rattle.shared_strings.proofs.strtab_build.TableLemmas.{table-distinct}
+use Rattle.strip_kept.specs.elf_object.Object.{Object}
+use Rattle.strip_kept.specs.elf_object.Due.{all_sections, homes_due}
+use Rattle.strip_kept.specs.elf_object.Words.{AnswersRead}
+use Rattle.strip_kept.specs.elf_descriptor.State.{State}
+use Rattle.strip_kept.specs.elf_descriptor.Reads.{Queries, wanted}
+use Rattle.strip_kept.proofs.elf_descriptor.ReadsLaws.{reads_then}
+use Rattle.strip_kept.specs.command_objects.Rebuilt.{kept_names, table_refusal}
+use Rattle.strip_kept.specs.strip_removed.Calls.{names_home, MayEnd, ReadsNames}
 use Rattle.strip_names.specs.declared.building.Making.{Making}
 use Rattle.strip_names.specs.declared.building.NewNames.{NewNames}
 use Rattle.strip_names.specs.Names as stated

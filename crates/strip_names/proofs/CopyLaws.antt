@@ -8,11 +8,11 @@ use Rattle.std.proofs.lemmas.List.Folds.{list_any_at}
 use Rattle.std.proofs.lemmas.List.Sums.{take_while-cons}
 use Rattle.elf_types.specs.declared.errors.ElfError.{ElfError}
 use Rattle.elf_types.specs.Answers.{answered}
-use Rattle.strtab_build.specs.Table.{string_at}
-use Rattle.elf_object.specs.Object.{Object, section_at}
-use Rattle.elf_object.specs.Blocks.{Block}
-use Rattle.elf_object.specs.Strings.{section_name, or_empty_name, readable, string_answer, string_refusal, string_in, piece_over}
-use Rattle.strip_removed.proofs.NameLaws.{ok_is}
+use Rattle.shared_strings.specs.strtab_build.Table.{string_at}
+use Rattle.strip_kept.specs.elf_object.Object.{Object, section_at}
+use Rattle.strip_kept.specs.elf_object.Blocks.{Block}
+use Rattle.strip_kept.specs.elf_object.Strings.{section_name, or_empty_name, readable, string_answer, string_refusal, string_in, piece_over}
+use Rattle.strip_kept.proofs.strip_removed.NameLaws.{ok_is}
 use Rattle.strip_names.specs.Names.{without_nul, found_name}
 
 -- ---- What is copied

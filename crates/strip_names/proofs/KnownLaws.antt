@@ -9,12 +9,12 @@ use Rattle.std.specs.Str.{bytes_eq}
 use Rattle.std.proofs.lemmas.Bool.{eqb-true, or_left, or_right}
 use Rattle.std.proofs.lemmas.List.Folds.{list_any-append}
 use Rattle.elf_types.specs.declared.errors.ElfError.{ElfError}
-use Rattle.strtab_build.specs.Names.{IsHeld}
-use Rattle.strtab_build.specs.Table.{distinct, table, place_of}
-use Rattle.strtab_build.proofs.DistinctLemmas.{same_refl, with_name, distinct-push, distinct-distinct, list_any-distinct}
-use Rattle.strtab_build.proofs.TableLemmas.{place_of-append, place_of-distinct, table_same}
-use Rattle.elf_object.specs.Object.{Object, section_at}
-use Rattle.elf_object.specs.Strings.{section_name, or_empty_name, readable, string_answer}
+use Rattle.shared_strings.specs.strtab_build.Names.{IsHeld}
+use Rattle.shared_strings.specs.strtab_build.Table.{distinct, table, place_of}
+use Rattle.shared_strings.proofs.strtab_build.DistinctLemmas.{same_refl, with_name, distinct-push, distinct-distinct, list_any-distinct}
+use Rattle.shared_strings.proofs.strtab_build.TableLemmas.{place_of-append, place_of-distinct, table_same}
+use Rattle.strip_kept.specs.elf_object.Object.{Object, section_at}
+use Rattle.strip_kept.specs.elf_object.Strings.{section_name, or_empty_name, readable, string_answer}
 use Rattle.strip_names.specs.declared.known.KnownPlaces.{KnownPlaces}
 use Rattle.strip_names.specs.Known.{known_at, KnowsMore, NotesIf, AreHeld}
 use Rattle.strip_names.specs.Names.{old_name, IsAdded, IsPlaced, IsAddedAt}

@@ -3,10 +3,10 @@
 use Rattle.std.specs.Prelude.{◌≡◌, ℕ, List, None}
 use Rattle.elf_types.specs.declared.errors.ElfError.TheVariants.{TooLarge}
 use Rattle.elf_types.specs.Answers.{answered}
-use Rattle.elf_object.specs.Words.{Refusals}
-use Rattle.elf_object.specs.Calls.{Call, some_memory}
-use Rattle.command_objects.specs.Rebuilt.{kept_names, table_refusal}
-use Rattle.strip_removed.specs.Calls.{names_home}
+use Rattle.strip_kept.specs.elf_object.Words.{Refusals}
+use Rattle.strip_kept.specs.elf_object.Calls.{Call, some_memory}
+use Rattle.strip_kept.specs.command_objects.Rebuilt.{kept_names, table_refusal}
+use Rattle.strip_kept.specs.strip_removed.Calls.{names_home}
 use Rattle.strip_names.specs.declared.building.NewNames.{NewNames}
 use Rattle.strip_names.specs.Names as stated
 

@@ -3,8 +3,8 @@
 use Rattle.std.specs.Prelude.{◌≡◌, ℕ, ◌==◌, Bool, true, List, Option, Some, None, IfSome, if◌then◌else◌}
 use Rattle.std.specs.Ordering.{nat_cmp}
 use Rattle.std.specs.BTreeMap.{get}
-use Rattle.strtab_build.specs.Names.{IsHeld}
-use Rattle.strtab_build.specs.Table.{place_of}
+use Rattle.shared_strings.specs.strtab_build.Names.{IsHeld}
+use Rattle.shared_strings.specs.strtab_build.Table.{place_of}
 use Rattle.strip_names.specs.declared.known.KnownPlaces.{KnownPlaces}
 
 -- the place that is noted of the name at a place of the older table

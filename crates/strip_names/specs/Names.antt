@@ -4,13 +4,13 @@ use Rattle.std.specs.Prelude.{◌≡◌, ℕ, ◌-◌, ◌^◌, ◌<◌, ◌≤�
 use Rattle.std.specs.List.{range_with_len, list_any}
 use Rattle.elf_types.specs.declared.errors.ElfError.{ElfError}
 use Rattle.elf_types.specs.declared.errors.ElfError.TheVariants.{TooLarge}
-use Rattle.strtab_build.specs.Table.{distinct, table, place_of}
-use Rattle.elf_object.specs.Object.{Object}
-use Rattle.elf_object.specs.Due.{all_sections}
-use Rattle.elf_object.specs.Strings.{section_name, or_empty_name, readable, string_answer}
-use Rattle.elf_object.specs.Sections.{is_among}
-use Rattle.command_objects.specs.Followed.{kept_from_1}
-use Rattle.command_objects.specs.Rebuilt.{kept_names}
+use Rattle.shared_strings.specs.strtab_build.Table.{distinct, table, place_of}
+use Rattle.strip_kept.specs.elf_object.Object.{Object}
+use Rattle.strip_kept.specs.elf_object.Due.{all_sections}
+use Rattle.strip_kept.specs.elf_object.Strings.{section_name, or_empty_name, readable, string_answer}
+use Rattle.strip_kept.specs.elf_object.Sections.{is_among}
+use Rattle.strip_kept.specs.command_objects.Followed.{kept_from_1}
+use Rattle.strip_kept.specs.command_objects.Rebuilt.{kept_names}
 use Rattle.strip_names.specs.Known.{AreHeld}
 use Rattle.strip_names.specs.declared.building.Making.{Making}
 use Rattle.strip_names.specs.declared.building.NewNames.{NewNames}

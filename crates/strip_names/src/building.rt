@@ -2,10 +2,10 @@
 
 ghost use Rattle.std.specs.Prelude.{◌≡◌, ◌≢◌, ◌<◌, ◌⊎◌, ℕ, [], true, false, None, Some, length, All, IsTrue, IfOk, OnOk, IfErr};
 ghost use Rattle.elf_types.specs.declared.errors.ElfError.TheVariants.{Memory, TooLarge};
-ghost use Rattle.elf_object.specs.Strings.{section_name, or_empty_name};
-ghost use Rattle.elf_object.specs.Words.{AnswersRead};
-ghost use Rattle.elf_descriptor.specs.Reads.{Queries, wanted};
-ghost use Rattle.strip_removed.specs.Calls.{ReadsNames};
+ghost use Rattle.strip_kept.specs.elf_object.Strings.{section_name, or_empty_name};
+ghost use Rattle.strip_kept.specs.elf_object.Words.{AnswersRead};
+ghost use Rattle.strip_kept.specs.elf_descriptor.Reads.{Queries, wanted};
+ghost use Rattle.strip_kept.specs.strip_removed.Calls.{ReadsNames};
 ghost use Rattle.strip_names.specs.Known.{known_at, KnowsMore, NotesIf, NotesName};
 ghost use Rattle.strip_names.specs.Names.{AreNamed, AddsSection, HasNames, IsAdded, IsPlaced, IsAddedAt, IsFinished, KnowsNames};
 ghost use Rattle.strip_names.specs.Calls as calls;
@@ -13,14 +13,12 @@ ghost use Rattle.strip_names.specs.Calls as calls;
 use crate::adding::add_name;
 use crate::copying::copy_name;
 use crate::known::{KnownPlaces, name_field, note_place, push_place};
-use elf_descriptor::{Elf, Held};
-use elf_outside::Source;
 use elf_types::{DataId, ElfError, List, Octets, ScnId, Words};
 use shared_bytes::SharedBytes;
 use shared_strings::SharedStrings;
 use std::alloc::Global;
 use strip_kept::is_kept;
-use strip_removed::SectionSet;
+use strip_kept::prelude::{Elf, Held, SectionSet, Source};
 
 /// The table of the names of the sections that are kept.
 #[derive(Drop)]

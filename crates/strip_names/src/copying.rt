@@ -4,14 +4,12 @@ ghost use Rattle.std.specs.Prelude.{◌≡◌, ◌≢◌, ◌<◌, ◌==◌, [],
 ghost use Rattle.std.specs.Option.{option_copied};
 ghost use Rattle.std.specs.List.{list_any};
 ghost use Rattle.elf_types.specs.declared.errors.ElfError.TheVariants.{Memory};
-ghost use Rattle.elf_object.specs.Strings as strings;
-ghost use Rattle.strip_removed.specs.Calls.{ReadsNames};
+ghost use Rattle.strip_kept.specs.elf_object.Strings as strings;
+ghost use Rattle.strip_kept.specs.strip_removed.Calls.{ReadsNames};
 ghost use Rattle.strip_names.specs.Names.{without_nul, found_name};
 
-use elf_descriptor::Elf;
-use elf_outside::Source;
 use elf_types::{ElfError, Octets, ScnId};
-use gelf_view::section_name;
+use strip_kept::prelude::{Elf, Source, gelf_view_section_name as section_name};
 
 /// Whether there is a NUL in bytes.
 fn has_nul(bytes: &[u8]) -> bool

@@ -2,14 +2,13 @@
 
 ghost use Rattle.std.specs.Prelude.{◌≡◌, ◌<◌, ◌∷◌, ◌++◌, ℕ, [], true, None, length, IfOk, OnOk, IfErr};
 ghost use Rattle.elf_types.specs.declared.errors.ElfError.TheVariants.{Memory};
-ghost use Rattle.elf_object.specs.Object.{section_at};
+ghost use Rattle.strip_kept.specs.elf_object.Object.{section_at};
 ghost use Rattle.strip_names.specs.Known.{known_at, KnowsMore};
 
-use elf_descriptor::Elf;
-use elf_outside::Source;
 use elf_types::{ElfError, ScnId, Words};
 use std::alloc::Global;
 use std::collections::BTreeMap;
+use strip_kept::prelude::{Elf, Source};
 
 /// Where names stand in a table in the making, by where they stand in an older one: a name that
 /// many sections share is then looked at once. A place is found in as many steps as their number

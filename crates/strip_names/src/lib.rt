@@ -6,6 +6,7 @@ mod adding;
 mod building;
 mod copying;
 mod known;
+pub mod prelude;
 
 pub use building::{NewNames, build_names};
 pub use known::{KnownPlaces, name_field, note_place, push_place};

@@ -3,14 +3,14 @@ use Rattle.std.proofs.Common.{◌≡◌, ℕ, ◌+◌, ◌≤◌, Bool, false, t
 use Rattle.std.specs.Prelude.{IsTrue}
 use Rattle.elf_types.specs.declared.errors.ElfError.{ElfError}
 use Rattle.elf_types.specs.declared.errors.ElfError.TheVariants.{Memory}
-use Rattle.elf_outside.specs.declared.sources.Source.{Ghosts}
-use Rattle.elf_outside.specs.Asks.{ReadRose}
-use Rattle.elf_outside.proofs.AskLemmas.{asks_both, asks_fewer, asks_then, read_rose_on}
-use Rattle.elf_object.specs.Object.{Object}
-use Rattle.elf_object.specs.Due.{is_loaded, homes_due}
-use Rattle.elf_descriptor.specs.State.{State}
-use Rattle.elf_descriptor.specs.Reads.{Reads, Looks}
-use Rattle.elf_descriptor.proofs.ReadsLaws.{dues_stay}
+use Rattle.object_making.specs.elf_outside.declared.sources.Source.{Ghosts}
+use Rattle.object_making.specs.elf_outside.Asks.{ReadRose}
+use Rattle.object_making.proofs.elf_outside.AskLemmas.{asks_both, asks_fewer, asks_then, read_rose_on}
+use Rattle.object_making.specs.elf_object.Object.{Object}
+use Rattle.object_making.specs.elf_object.Due.{is_loaded, homes_due}
+use Rattle.update_plan.specs.elf_descriptor.State.{State}
+use Rattle.update_plan.specs.elf_descriptor.Reads.{Reads, Looks}
+use Rattle.update_plan.proofs.elf_descriptor.ReadsLaws.{dues_stay}
 use Rattle.object_making.specs.Making.{reading}
 use Rattle.strip_rebuild.specs.Makes.{AsksFor}
 

@@ -4,12 +4,12 @@ use Rattle.std.specs.Prelude.{All, IfSome, IsTrue}
 use Rattle.std.specs.List.{list_any}
 use Rattle.std.proofs.lemmas.Bool.{or_parts}
 use Rattle.std.proofs.lemmas.List.Elements.{All-head}
-use Rattle.elf_xlate.specs.declared.content.Items.{Items}
-use Rattle.elf_xlate.specs.Translation.{items_kind}
-use Rattle.elf_object.specs.Object.{Object, Section, Piece, section_at, piece_at, absent_section, home_piece, is_dirty, some_section_marked, some_piece_marked}
-use Rattle.elf_object.specs.Answers.{kind_at}
-use Rattle.elf_object.specs.Valid.{IsObject, IsPiece}
-use Rattle.object_laws.proofs.KeepLaws.{section_at_is}
+use Rattle.strip_names.specs.elf_xlate.declared.content.Items.{Items}
+use Rattle.strip_names.specs.elf_xlate.Translation.{items_kind}
+use Rattle.object_making.specs.elf_object.Object.{Object, Section, Piece, section_at, piece_at, absent_section, home_piece, is_dirty, some_section_marked, some_piece_marked}
+use Rattle.object_making.specs.elf_object.Answers.{kind_at}
+use Rattle.object_making.specs.elf_object.Valid.{IsObject, IsPiece}
+use Rattle.update_plan.proofs.object_laws.KeepLaws.{section_at_is}
 
 -- ---- Marks
 

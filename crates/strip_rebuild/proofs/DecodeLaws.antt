@@ -9,12 +9,12 @@ use Rattle.elf_types.specs.declared.records.Kind.{Kind}
 use Rattle.elf_types.specs.declared.records.Kind.TheVariants as kinds
 use Rattle.elf_types.specs.declared.errors.ElfError.{ElfError}
 use Rattle.elf_types.specs.declared.errors.ElfError.TheVariants.{Ragged}
-use Rattle.elf_xlate.specs.declared.content.Items.{Items}
-use Rattle.elf_xlate.specs.declared.content.Items.TheVariants.{Half, Word, Addr, Sym, Rel, Rela, Dyn}
-use Rattle.elf_xlate.specs.declared.failure.XlateError.{XlateError}
-use Rattle.elf_xlate.specs.declared.failure.XlateError.TheVariants as failures
-use Rattle.elf_xlate.specs.Items.{item_size, half_of, word_of, addr_of, sym_of, rel_of, rela_of, dyn_of}
-use Rattle.elf_xlate.specs.Translation.{decoded, listed, items_of, first_unfit, xlate_refusal, to_memory_answer}
+use Rattle.strip_names.specs.elf_xlate.declared.content.Items.{Items}
+use Rattle.strip_names.specs.elf_xlate.declared.content.Items.TheVariants.{Half, Word, Addr, Sym, Rel, Rela, Dyn}
+use Rattle.strip_names.specs.elf_xlate.declared.failure.XlateError.{XlateError}
+use Rattle.strip_names.specs.elf_xlate.declared.failure.XlateError.TheVariants as failures
+use Rattle.strip_names.specs.elf_xlate.Items.{item_size, half_of, word_of, addr_of, sym_of, rel_of, rela_of, dyn_of}
+use Rattle.strip_names.specs.elf_xlate.Translation.{decoded, listed, items_of, first_unfit, xlate_refusal, to_memory_answer}
 use Rattle.strip_rebuild.specs.Homes.{or_empty_items, decoded_items, decoded_refusal, section_refusal, Decodes}
 
 -- ---- What a translation answers

@@ -9,15 +9,15 @@ use Rattle.elf_types.specs.declared.records.Ehdr.{Ehdr}
 use Rattle.elf_types.specs.declared.records.Phdr.{Phdr}
 use Rattle.elf_types.specs.declared.errors.ElfError.{ElfError}
 use Rattle.elf_types.specs.Answers.{answered}
-use Rattle.elf_object.specs.Calls.{home_answer}
-use Rattle.elf_xlate.specs.Headers.{ehdr_size, phdr_size}
-use Rattle.elf_object.specs.Object.{Object, Section, section_at, header_of}
-use Rattle.elf_object.specs.Sections.{is_among, greatest}
-use Rattle.command_objects.specs.Arranged.{segment_end, loaded_end, base_end, tail_of}
-use Rattle.command_objects.specs.Followed.{kept_sections}
-use Rattle.command_objects.specs.Rebuilt.{rebuilt_tail}
+use Rattle.object_making.specs.elf_object.Calls.{home_answer}
+use Rattle.strip_names.specs.elf_xlate.Headers.{ehdr_size, phdr_size}
+use Rattle.object_making.specs.elf_object.Object.{Object, Section, section_at, header_of}
+use Rattle.object_making.specs.elf_object.Sections.{is_among, greatest}
+use Rattle.object_making.specs.command_objects.Arranged.{segment_end, loaded_end, base_end, tail_of}
+use Rattle.object_making.specs.command_objects.Followed.{kept_sections}
+use Rattle.object_making.specs.command_objects.Rebuilt.{rebuilt_tail}
 use Rattle.update_plan.proofs.RowLaws.{ok_is}
-use Rattle.strip_removed.proofs.SetLaws.{range_more}
+use Rattle.strip_items.proofs.strip_removed.SetLaws.{range_more}
 use Rattle.strip_rebuild.proofs.HomeLaws.{no_section_there}
 use Rattle.strip_rebuild.specs.Ends.{at_most_word, is_bare, home_end, kept_end}
 

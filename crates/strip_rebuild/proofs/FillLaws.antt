@@ -12,22 +12,22 @@ use Rattle.elf_types.specs.declared.records.Part.TheVariants as part
 use Rattle.elf_types.specs.declared.errors.ElfError.{ElfError}
 use Rattle.elf_types.specs.declared.errors.ElfError.TheVariants.{Memory, Read, Write, NoSection, Unfit}
 use Rattle.elf_types.specs.Answers.{refused_if, first_refusal, answered, IsRefusal}
-use Rattle.elf_outside.specs.Asks.{ReadRose}
-use Rattle.elf_xlate.specs.declared.content.Items.{Items}
-use Rattle.elf_xlate.specs.Fields.{fits}
-use Rattle.elf_xlate.specs.Headers.{ehdr_fits}
-use Rattle.elf_object.specs.Object.{Object, Section, new_section}
-use Rattle.elf_object.specs.Words.{Edits}
-use Rattle.elf_object.specs.Steps.{stored_ehdr, with_ehdr, with_phdrs, with_sections, with_null_section}
-use Rattle.elf_object.specs.Calls.{newphdr_refusal, update_ehdr_refusal}
-use Rattle.elf_object.specs.Calls as calls
-use Rattle.elf_object.specs.Valid.{IsObject}
-use Rattle.elf_object.proofs.AnswerLaws.{answered_value, answered_refusal}
-use Rattle.elf_object.proofs.PassedLaws.{none_first, not_refused}
-use Rattle.elf_descriptor.specs.State.{State}
-use Rattle.elf_descriptor.specs.Edits.{StepsTo, stepped, grown, nulled}
-use Rattle.command_objects.specs.Followed.{kept_from_1}
-use Rattle.command_objects.specs.Rebuilt.{made_section, assembled, index_refusal}
+use Rattle.object_making.specs.elf_outside.Asks.{ReadRose}
+use Rattle.strip_names.specs.elf_xlate.declared.content.Items.{Items}
+use Rattle.strip_names.specs.elf_xlate.Fields.{fits}
+use Rattle.strip_names.specs.elf_xlate.Headers.{ehdr_fits}
+use Rattle.object_making.specs.elf_object.Object.{Object, Section, new_section}
+use Rattle.object_making.specs.elf_object.Words.{Edits}
+use Rattle.object_making.specs.elf_object.Steps.{stored_ehdr, with_ehdr, with_phdrs, with_sections, with_null_section}
+use Rattle.object_making.specs.elf_object.Calls.{newphdr_refusal, update_ehdr_refusal}
+use Rattle.object_making.specs.elf_object.Calls as calls
+use Rattle.object_making.specs.elf_object.Valid.{IsObject}
+use Rattle.object_making.proofs.elf_object.AnswerLaws.{answered_value, answered_refusal}
+use Rattle.object_making.proofs.elf_object.PassedLaws.{none_first, not_refused}
+use Rattle.update_plan.specs.elf_descriptor.State.{State}
+use Rattle.update_plan.specs.elf_descriptor.Edits.{StepsTo, stepped, grown, nulled}
+use Rattle.object_making.specs.command_objects.Followed.{kept_from_1}
+use Rattle.object_making.specs.command_objects.Rebuilt.{made_section, assembled, index_refusal}
 use Rattle.object_making.specs.Making.{made_sections, sections_by, AddsMade}
 use Rattle.object_making.specs.Made.{with_more}
 use Rattle.object_making.specs.Refused.{RefusedBy, UnreadBy}

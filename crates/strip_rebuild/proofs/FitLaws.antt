@@ -9,14 +9,14 @@ use Rattle.std.proofs.lemmas.List.FromFn.{get_or-enumerate_from, length-enumerat
 use Rattle.elf_types.specs.declared.records.Class.{Class}
 use Rattle.elf_types.specs.declared.records.Class.TheVariants.{C32, C64}
 use Rattle.elf_types.specs.declared.records.Sym.{Sym}
-use Rattle.elf_xlate.specs.declared.content.Items.{Items}
-use Rattle.elf_xlate.specs.declared.content.Items.TheVariants as items
-use Rattle.elf_xlate.specs.Fields.{fits}
-use Rattle.elf_xlate.specs.Items.{sym_fits}
-use Rattle.elf_xlate.specs.Translation.{first_unfit}
-use Rattle.elf_xlate.proofs.Pieces.{all_pass, each_passes}
-use Rattle.elf_object.specs.Answers.{syms_of}
-use Rattle.command_objects.specs.Followed.{Renumbering, renumbered, followed_sym, followed_extended, followed_by_word, followed_syms, word_counts, without_section}
+use Rattle.strip_names.specs.elf_xlate.declared.content.Items.{Items}
+use Rattle.strip_names.specs.elf_xlate.declared.content.Items.TheVariants as items
+use Rattle.strip_names.specs.elf_xlate.Fields.{fits}
+use Rattle.strip_names.specs.elf_xlate.Items.{sym_fits}
+use Rattle.strip_names.specs.elf_xlate.Translation.{first_unfit}
+use Rattle.strip_names.proofs.elf_xlate.Pieces.{all_pass, each_passes}
+use Rattle.object_making.specs.elf_object.Answers.{syms_of}
+use Rattle.object_making.specs.command_objects.Followed.{Renumbering, renumbered, followed_sym, followed_extended, followed_by_word, followed_syms, word_counts, without_section}
 use Rattle.strip_items.specs.Rows.{has_number, sym_in, moves_in, moved_sym}
 
 -- ---- One symbol

@@ -10,21 +10,21 @@ use Rattle.elf_types.specs.declared.records.Sym.{Sym}
 use Rattle.elf_types.specs.declared.errors.ElfError.{ElfError}
 use Rattle.elf_types.specs.declared.errors.ElfError.TheVariants.{Memory, Read, Write, NoSection, NoData, OutOfFile}
 use Rattle.elf_types.specs.Answers.{answered, err_of, refused_if, first_refusal, IsRefusal}
-use Rattle.elf_outside.specs.declared.sources.Source.{Ghosts}
-use Rattle.elf_xlate.specs.declared.content.Items.{Items}
-use Rattle.elf_xlate.specs.declared.content.Items.TheVariants as items
-use Rattle.elf_xlate.specs.Translation.{first_unfit}
-use Rattle.elf_object.specs.Words.{Wants, Answers, AlikeBytes, IsLike}
-use Rattle.elf_object.specs.Object.{Object, section_at, header_of}
-use Rattle.elf_object.specs.Answers.{no_section, no_data, out_of_file, piece_count, kind_at, piece_refusal, raw_refusal, words_of, syms_of}
-use Rattle.elf_object.specs.Due.{homes_due, unless_refused, is_refused_unread}
-use Rattle.elf_object.specs.Calls.{raw_answer, piece_kind_answer}
-use Rattle.elf_object.specs.Calls as calls
-use Rattle.elf_object.proofs.AnswerLaws.{answered_refusal, piece_kind_value, raw_value}
-use Rattle.elf_object.proofs.PassedLaws.{none_first, none_rest}
-use Rattle.elf_descriptor.specs.State.{State}
-use Rattle.elf_descriptor.specs.Reads.{Reads, Queries, Looks}
-use Rattle.elf_descriptor.proofs.ReadsLaws.{reads_wider, reads_within}
+use Rattle.object_making.specs.elf_outside.declared.sources.Source.{Ghosts}
+use Rattle.strip_names.specs.elf_xlate.declared.content.Items.{Items}
+use Rattle.strip_names.specs.elf_xlate.declared.content.Items.TheVariants as items
+use Rattle.strip_names.specs.elf_xlate.Translation.{first_unfit}
+use Rattle.object_making.specs.elf_object.Words.{Wants, Answers, AlikeBytes, IsLike}
+use Rattle.object_making.specs.elf_object.Object.{Object, section_at, header_of}
+use Rattle.object_making.specs.elf_object.Answers.{no_section, no_data, out_of_file, piece_count, kind_at, piece_refusal, raw_refusal, words_of, syms_of}
+use Rattle.object_making.specs.elf_object.Due.{homes_due, unless_refused, is_refused_unread}
+use Rattle.object_making.specs.elf_object.Calls.{raw_answer, piece_kind_answer}
+use Rattle.object_making.specs.elf_object.Calls as calls
+use Rattle.object_making.proofs.elf_object.AnswerLaws.{answered_refusal, piece_kind_value, raw_value}
+use Rattle.object_making.proofs.elf_object.PassedLaws.{none_first, none_rest}
+use Rattle.update_plan.specs.elf_descriptor.State.{State}
+use Rattle.update_plan.specs.elf_descriptor.Reads.{Reads, Queries, Looks}
+use Rattle.update_plan.proofs.elf_descriptor.ReadsLaws.{reads_wider, reads_within}
 use Rattle.update_plan.proofs.RowLaws.{ok_is}
 use Rattle.object_making.specs.Making.{reading}
 use Rattle.object_making.specs.Refused.{RefusedBy, UnreadBy}

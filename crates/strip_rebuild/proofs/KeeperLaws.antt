@@ -9,18 +9,18 @@ use Rattle.elf_types.specs.declared.records.Sym.{Sym}
 use Rattle.elf_types.specs.declared.errors.ElfError.{ElfError}
 use Rattle.elf_types.specs.declared.errors.ElfError.TheVariants.{Memory}
 use Rattle.elf_types.specs.declared.constants.TheConstants.{SHT_SYMTAB, SHT_GROUP}
-use Rattle.elf_outside.specs.declared.sources.Source.{Ghosts}
-use Rattle.elf_xlate.specs.Headers.{shdr_fits}
-use Rattle.elf_xlate.specs.declared.content.Items.{Items}
-use Rattle.elf_xlate.specs.declared.content.Items.TheVariants as items
-use Rattle.elf_xlate.specs.Translation.{first_unfit}
-use Rattle.elf_object.specs.Object.{Object}
-use Rattle.elf_object.specs.Answers.{raw_refusal, words_of, syms_of}
-use Rattle.elf_object.specs.Valid.{IsObject}
-use Rattle.elf_descriptor.specs.State.{State}
-use Rattle.object_laws.proofs.KeepLaws.{section_at_is}
-use Rattle.elf_object.specs.Sections.{header_at, is_among, is_loose}
-use Rattle.command_objects.specs.Followed.{Renumbering, kept_from_1, followed_header, followed_group, followed_syms, followed_words, symbols_follow, members_follow}
+use Rattle.object_making.specs.elf_outside.declared.sources.Source.{Ghosts}
+use Rattle.strip_names.specs.elf_xlate.Headers.{shdr_fits}
+use Rattle.strip_names.specs.elf_xlate.declared.content.Items.{Items}
+use Rattle.strip_names.specs.elf_xlate.declared.content.Items.TheVariants as items
+use Rattle.strip_names.specs.elf_xlate.Translation.{first_unfit}
+use Rattle.object_making.specs.elf_object.Object.{Object}
+use Rattle.object_making.specs.elf_object.Answers.{raw_refusal, words_of, syms_of}
+use Rattle.object_making.specs.elf_object.Valid.{IsObject}
+use Rattle.update_plan.specs.elf_descriptor.State.{State}
+use Rattle.update_plan.proofs.object_laws.KeepLaws.{section_at_is}
+use Rattle.object_making.specs.elf_object.Sections.{header_at, is_among, is_loose}
+use Rattle.object_making.specs.command_objects.Followed.{Renumbering, kept_from_1, followed_header, followed_group, followed_syms, followed_words, symbols_follow, members_follow}
 use Rattle.strip_names.specs.declared.building.NewNames.{NewNames}
 use Rattle.strip_rebuild.specs.declared.naming.Names.{Names}
 use Rattle.strip_rebuild.specs.declared.naming.Names.TheVariants.{Anew}

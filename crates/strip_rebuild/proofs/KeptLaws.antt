@@ -15,23 +15,23 @@ use Rattle.elf_types.specs.declared.errors.ElfError.{ElfError}
 use Rattle.elf_types.specs.declared.errors.ElfError.TheVariants.{NoSection, OutOfFile, Ragged, Unfit}
 use Rattle.elf_types.specs.Answers.{refused_if, first_refusal, err_of}
 use Rattle.elf_types.specs.Kinds.{section_kind}
-use Rattle.elf_xlate.specs.declared.content.Items.{Items}
-use Rattle.elf_xlate.specs.Headers.{ehdr_fits}
-use Rattle.elf_xlate.specs.Translation.{decoded}
-use Rattle.elf_object.specs.Object.{Object, Section, section_at, is_dirty, new_section}
-use Rattle.elf_object.specs.Answers.{content, no_data, no_content, kind_at, raw_refusal, data_refusal, same_kind}
-use Rattle.elf_object.specs.Calls.{newphdr_refusal, update_ehdr_refusal}
-use Rattle.elf_object.specs.Steps.{stored_ehdr}
-use Rattle.elf_object.specs.Valid.{IsObject}
-use Rattle.elf_object.proofs.PassedLaws.{not_refused}
-use Rattle.elf_object.specs.Sections.{header_at, is_allocated, is_among, is_loose, is_of, number_or_0}
-use Rattle.command_objects.specs.Followed.{Renumbering, followed, kept_from_1, extended_table, has_indexes_of, is_the, indexes_follow, symbols_follow, members_follow}
-use Rattle.command_objects.specs.Rebuilt.{made_section, has_names_alone, renews_names, items_follow, kept_refusal, index_refusal, rebuilt_section, rebuilt_sections, rebuilt_index}
+use Rattle.strip_names.specs.elf_xlate.declared.content.Items.{Items}
+use Rattle.strip_names.specs.elf_xlate.Headers.{ehdr_fits}
+use Rattle.strip_names.specs.elf_xlate.Translation.{decoded}
+use Rattle.object_making.specs.elf_object.Object.{Object, Section, section_at, is_dirty, new_section}
+use Rattle.object_making.specs.elf_object.Answers.{content, no_data, no_content, kind_at, raw_refusal, data_refusal, same_kind}
+use Rattle.object_making.specs.elf_object.Calls.{newphdr_refusal, update_ehdr_refusal}
+use Rattle.object_making.specs.elf_object.Steps.{stored_ehdr}
+use Rattle.object_making.specs.elf_object.Valid.{IsObject}
+use Rattle.object_making.proofs.elf_object.PassedLaws.{not_refused}
+use Rattle.object_making.specs.elf_object.Sections.{header_at, is_allocated, is_among, is_loose, is_of, number_or_0}
+use Rattle.object_making.specs.command_objects.Followed.{Renumbering, followed, kept_from_1, extended_table, has_indexes_of, is_the, indexes_follow, symbols_follow, members_follow}
+use Rattle.object_making.specs.command_objects.Rebuilt.{made_section, has_names_alone, renews_names, items_follow, kept_refusal, index_refusal, rebuilt_section, rebuilt_sections, rebuilt_index}
 use Rattle.object_making.specs.Making.{sections_by}
 use Rattle.object_making.proofs.RefusedLaws.{alone}
-use Rattle.strip_kept.specs.Kept.{is_left}
-use Rattle.strip_kept.specs.Tables.{extended_tables}
-use Rattle.strip_kept.proofs.KeptLaws.{kept_among}
+use Rattle.strip_names.specs.strip_kept.Kept.{is_left}
+use Rattle.strip_names.specs.strip_kept.Tables.{extended_tables}
+use Rattle.strip_names.proofs.strip_kept.KeptLaws.{kept_among}
 use Rattle.strip_rebuild.specs.declared.naming.Names.{Names}
 use Rattle.strip_rebuild.specs.declared.naming.Names.TheVariants.{Stay, Anew, TooLarge}
 use Rattle.strip_rebuild.specs.declared.keepers.Keeper.{Keeper}

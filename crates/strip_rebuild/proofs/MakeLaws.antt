@@ -5,13 +5,13 @@ use Rattle.elf_types.specs.declared.records.Class.{Class}
 use Rattle.elf_types.specs.declared.errors.ElfError.{ElfError}
 use Rattle.elf_types.specs.declared.errors.ElfError.TheVariants.{Memory, Read, Write}
 use Rattle.elf_types.specs.Answers.{IsRefusal}
-use Rattle.elf_outside.specs.Asks.{ReadRose}
-use Rattle.elf_outside.specs.declared.sources.Source.{Ghosts}
-use Rattle.elf_object.specs.Object.{Object}
-use Rattle.elf_object.specs.Due.{homes_due}
-use Rattle.elf_descriptor.specs.State.{State}
-use Rattle.elf_descriptor.specs.Reads.{Looks}
-use Rattle.elf_descriptor.proofs.ReadsLaws.{reads_then}
+use Rattle.object_making.specs.elf_outside.Asks.{ReadRose}
+use Rattle.object_making.specs.elf_outside.declared.sources.Source.{Ghosts}
+use Rattle.object_making.specs.elf_object.Object.{Object}
+use Rattle.object_making.specs.elf_object.Due.{homes_due}
+use Rattle.update_plan.specs.elf_descriptor.State.{State}
+use Rattle.update_plan.specs.elf_descriptor.Reads.{Looks}
+use Rattle.update_plan.proofs.elf_descriptor.ReadsLaws.{reads_then}
 use Rattle.object_making.specs.Making.{reading}
 use Rattle.object_making.specs.Refused.{RefusedBy, UnreadBy}
 use Rattle.object_making.proofs.LookLaws.{LooksAt, looks_at, looks_as, at_none, at_error, at_wider, at_both}

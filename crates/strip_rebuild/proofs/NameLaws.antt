@@ -4,15 +4,15 @@ use Rattle.std.specs.Prelude.{IsTrue, IfOk, IfErr}
 use Rattle.elf_types.specs.declared.errors.ElfError.{ElfError}
 use Rattle.elf_types.specs.declared.errors.ElfError.TheVariants as errors
 use Rattle.elf_types.specs.declared.errors.ElfError.TheVariants.{Memory, Read}
-use Rattle.elf_outside.specs.declared.sources.Source.{Ghosts}
-use Rattle.elf_object.specs.Object.{Object}
-use Rattle.elf_object.specs.Due.{homes_due}
-use Rattle.elf_object.specs.Words.{Wants, AnswersRead}
-use Rattle.elf_object.proofs.AnswerLaws.{answered_value, answered_refusal}
-use Rattle.elf_descriptor.specs.State.{State}
-use Rattle.elf_descriptor.specs.Reads.{Queries}
-use Rattle.command_objects.specs.Rebuilt.{kept_names, table_refusal}
-use Rattle.strip_removed.specs.Calls.{names_home}
+use Rattle.object_making.specs.elf_outside.declared.sources.Source.{Ghosts}
+use Rattle.object_making.specs.elf_object.Object.{Object}
+use Rattle.object_making.specs.elf_object.Due.{homes_due}
+use Rattle.object_making.specs.elf_object.Words.{Wants, AnswersRead}
+use Rattle.object_making.proofs.elf_object.AnswerLaws.{answered_value, answered_refusal}
+use Rattle.update_plan.specs.elf_descriptor.State.{State}
+use Rattle.update_plan.specs.elf_descriptor.Reads.{Queries}
+use Rattle.object_making.specs.command_objects.Rebuilt.{kept_names, table_refusal}
+use Rattle.strip_items.specs.strip_removed.Calls.{names_home}
 use Rattle.strip_names.specs.declared.building.NewNames.{NewNames}
 use Rattle.strip_names.specs.Names as stated
 use Rattle.strip_names.specs.Calls.{new_names, names_refusals}

@@ -5,15 +5,15 @@ use Rattle.std.specs.List.{range_with_len, list_any}
 use Rattle.std.proofs.lemmas.Bool.{ne_eqb, eq-eqb, cases_eq, or_right}
 use Rattle.std.proofs.lemmas.List.Elements.{filter-append, All-filter}
 use Rattle.std.proofs.lemmas.List.FromFn.{get_or-range_with_len, length-range_with_len}
-use Rattle.elf_object.specs.Object.{Object}
-use Rattle.elf_object.specs.Due.{all_sections}
-use Rattle.elf_object.specs.Layout.{section_numbers}
-use Rattle.elf_object.specs.Sections.{is_among}
-use Rattle.command_objects.specs.Followed.{kept_from_1, kept_sections, renumbering}
+use Rattle.object_making.specs.elf_object.Object.{Object}
+use Rattle.object_making.specs.elf_object.Due.{all_sections}
+use Rattle.object_making.specs.elf_object.Layout.{section_numbers}
+use Rattle.object_making.specs.elf_object.Sections.{is_among}
+use Rattle.object_making.specs.command_objects.Followed.{kept_from_1, kept_sections, renumbering}
 use Rattle.strip_items.specs.Numbers.{numbering_without}
-use Rattle.strip_removed.specs.Steps.{IsRemovable}
-use Rattle.command_objects.specs.Removed.{removable}
-use Rattle.strip_removed.proofs.SetLaws.{range_more, among_filter}
+use Rattle.strip_items.specs.strip_removed.Steps.{IsRemovable}
+use Rattle.object_making.specs.command_objects.Removed.{removable}
+use Rattle.strip_items.proofs.strip_removed.SetLaws.{range_more, among_filter}
 use Rattle.strip_rebuild.specs.Numbers.{kept_alone, kept_below}
 
 -- ---- One after another

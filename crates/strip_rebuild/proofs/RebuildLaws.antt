@@ -7,29 +7,29 @@ use Rattle.elf_types.specs.declared.errors.ElfError.TheVariants.{Memory, Read, W
 use Rattle.elf_types.specs.declared.constants.TheConstants.{PN_XNUM}
 use Rattle.elf_types.specs.declared.records.Part.TheVariants as part
 use Rattle.elf_types.specs.Answers.{refused_if, first_refusal, answered, err_of, ◌>>=◌}
-use Rattle.elf_outside.specs.declared.sources.Source.{Ghosts}
-use Rattle.elf_xlate.specs.declared.content.Items.{Items}
-use Rattle.elf_xlate.specs.Headers.{ehdr_fits}
-use Rattle.elf_xlate.specs.Translation.{decoded}
-use Rattle.elf_object.specs.Object.{Object, Section, section_at, piece_at, is_dirty}
-use Rattle.elf_object.specs.Open.{created_over}
-use Rattle.elf_object.specs.Answers.{content, no_section, no_data, no_content, out_of_file, piece_count, raw_refusal, data_refusal}
-use Rattle.elf_object.specs.Calls.{newphdr_refusal, update_ehdr_refusal}
-use Rattle.elf_object.specs.Due.{homes_due}
-use Rattle.elf_object.specs.Steps.{stored_ehdr}
-use Rattle.elf_object.specs.Valid.{IsObject}
-use Rattle.elf_object.specs.Words.{result_map}
-use Rattle.elf_object.proofs.StepLaws.{first_refusal-met, first_refusal-more}
-use Rattle.elf_descriptor.specs.State.{State}
-use Rattle.elf_descriptor.specs.Edits.{StepsTo}
-use Rattle.command_objects.specs.Arranged.{Rebuilt, over_base, base_end, tail_of, tail_refusal, placed_from, arranged}
-use Rattle.elf_object.specs.Sections.{is_among, is_program}
-use Rattle.command_objects.specs.Followed.{kept_from_1}
-use Rattle.command_objects.specs.Rebuilt.{assembled, rebuilt, rebuild_refusal, rebuilt_object, rebuilt_sections, rebuilt_index, rebuilt_tail, renews_names, kept_names, table_refusal, kept_refusal, items_follow, index_refusal}
+use Rattle.object_making.specs.elf_outside.declared.sources.Source.{Ghosts}
+use Rattle.strip_names.specs.elf_xlate.declared.content.Items.{Items}
+use Rattle.strip_names.specs.elf_xlate.Headers.{ehdr_fits}
+use Rattle.strip_names.specs.elf_xlate.Translation.{decoded}
+use Rattle.object_making.specs.elf_object.Object.{Object, Section, section_at, piece_at, is_dirty}
+use Rattle.object_making.specs.elf_object.Open.{created_over}
+use Rattle.object_making.specs.elf_object.Answers.{content, no_section, no_data, no_content, out_of_file, piece_count, raw_refusal, data_refusal}
+use Rattle.object_making.specs.elf_object.Calls.{newphdr_refusal, update_ehdr_refusal}
+use Rattle.object_making.specs.elf_object.Due.{homes_due}
+use Rattle.object_making.specs.elf_object.Steps.{stored_ehdr}
+use Rattle.object_making.specs.elf_object.Valid.{IsObject}
+use Rattle.object_making.specs.elf_object.Words.{result_map}
+use Rattle.object_making.proofs.elf_object.StepLaws.{first_refusal-met, first_refusal-more}
+use Rattle.update_plan.specs.elf_descriptor.State.{State}
+use Rattle.update_plan.specs.elf_descriptor.Edits.{StepsTo}
+use Rattle.object_making.specs.command_objects.Arranged.{Rebuilt, over_base, base_end, tail_of, tail_refusal, placed_from, arranged}
+use Rattle.object_making.specs.elf_object.Sections.{is_among, is_program}
+use Rattle.object_making.specs.command_objects.Followed.{kept_from_1}
+use Rattle.object_making.specs.command_objects.Rebuilt.{assembled, rebuilt, rebuild_refusal, rebuilt_object, rebuilt_sections, rebuilt_index, rebuilt_tail, renews_names, kept_names, table_refusal, kept_refusal, items_follow, index_refusal}
 use Rattle.object_making.specs.Based.{IsMadeOver}
 use Rattle.object_making.specs.Placing.{made_of, arranged_refusal, arranged_state}
 use Rattle.object_making.specs.Refused.{UnreadBy}
-use Rattle.strip_removed.specs.Steps.{IsRemovable}
+use Rattle.strip_items.specs.strip_removed.Steps.{IsRemovable}
 use Rattle.strip_rebuild.specs.declared.naming.Names.{Names}
 use Rattle.strip_rebuild.specs.declared.naming.Names.TheVariants as names
 use Rattle.strip_rebuild.specs.declared.keepers.Keeper.{Keeper}

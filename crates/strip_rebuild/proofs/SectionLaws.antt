@@ -12,18 +12,18 @@ use Rattle.elf_types.specs.declared.constants.TheConstants.{SHT_SYMTAB_SHNDX}
 use Rattle.elf_types.specs.declared.errors.ElfError.{ElfError}
 use Rattle.elf_types.specs.declared.errors.ElfError.TheVariants.{OutOfFile, Ragged}
 use Rattle.elf_types.specs.Answers.{first_refusal}
-use Rattle.elf_xlate.specs.declared.content.Items.{Items}
-use Rattle.elf_xlate.specs.declared.content.Items.TheVariants as items
-use Rattle.elf_xlate.specs.Translation.{decoded}
+use Rattle.strip_names.specs.elf_xlate.declared.content.Items.{Items}
+use Rattle.strip_names.specs.elf_xlate.declared.content.Items.TheVariants as items
+use Rattle.strip_names.specs.elf_xlate.Translation.{decoded}
 use Rattle.strtab_build.specs.Table.{table, place_of}
-use Rattle.elf_object.specs.Object.{Object, Section, section_at, is_dirty, new_section}
-use Rattle.elf_object.specs.Answers.{content, or_empty, items_at, words_of, syms_of, raw_refusal, data_refusal}
-use Rattle.elf_object.specs.Strings.{section_name, or_empty_name}
-use Rattle.elf_object.specs.Valid.{IsObject}
-use Rattle.elf_object.proofs.PassedLaws.{none_first, not_refused}
-use Rattle.elf_object.specs.Sections.{header_at, is_among, is_loose}
-use Rattle.command_objects.specs.Followed.{renumbering, Renumbering, kept_from_1, followed_header, followed_group, followed_syms, followed_words, symbols_follow, members_follow, indexes_follow, extended_table, is_the, words_for, syms_in}
-use Rattle.command_objects.specs.Rebuilt.{made_section, renews_names, kept_names, kept_refusal, kept_items, items_follow, rebuilt_items, rebuilt_name, rebuilt_header, rebuilt_section, rebuilt_sections}
+use Rattle.object_making.specs.elf_object.Object.{Object, Section, section_at, is_dirty, new_section}
+use Rattle.object_making.specs.elf_object.Answers.{content, or_empty, items_at, words_of, syms_of, raw_refusal, data_refusal}
+use Rattle.object_making.specs.elf_object.Strings.{section_name, or_empty_name}
+use Rattle.object_making.specs.elf_object.Valid.{IsObject}
+use Rattle.object_making.proofs.elf_object.PassedLaws.{none_first, not_refused}
+use Rattle.object_making.specs.elf_object.Sections.{header_at, is_among, is_loose}
+use Rattle.object_making.specs.command_objects.Followed.{renumbering, Renumbering, kept_from_1, followed_header, followed_group, followed_syms, followed_words, symbols_follow, members_follow, indexes_follow, extended_table, is_the, words_for, syms_in}
+use Rattle.object_making.specs.command_objects.Rebuilt.{made_section, renews_names, kept_names, kept_refusal, kept_items, items_follow, rebuilt_items, rebuilt_name, rebuilt_header, rebuilt_section, rebuilt_sections}
 use Rattle.object_making.specs.Making.{sections_by}
 use Rattle.strip_names.specs.declared.building.NewNames.{NewNames}
 use Rattle.strip_names.specs.Names.{new_names, name_place}

@@ -2,8 +2,8 @@
 use Rattle.std.proofs.Common.{◌≡◌, ◌==◌, ℕ, Bool, List, Option, Some, None, if◌then◌else◌, refl, sym, ap, ◌∙◌, subst}
 use Rattle.std.specs.Prelude.{IfSome}
 use Rattle.std.specs.Borrow.{Bor}
-use Rattle.elf_xlate.specs.declared.content.Items.TheVariants as items
-use Rattle.elf_object.specs.Object.{Object}
+use Rattle.strip_names.specs.elf_xlate.declared.content.Items.TheVariants as items
+use Rattle.object_making.specs.elf_object.Object.{Object}
 use Rattle.strip_rebuild.specs.declared.naming.Names.{Names}
 use Rattle.strip_rebuild.specs.declared.naming.Names.TheVariants.{Stay, Anew, TooLarge}
 use Rattle.strip_rebuild.specs.declared.keepers.Keeper.{Keeper}

@@ -3,17 +3,17 @@ use Rattle.std.proofs.Common.{◌≡◌, ◌⊎◌, inl, ℕ, ◌+◌, ◌≤◌
 use Rattle.std.specs.Prelude.{IsTrue, IfErr, unwrap_or}
 use Rattle.elf_types.specs.declared.errors.ElfError.{ElfError}
 use Rattle.elf_types.specs.declared.errors.ElfError.TheVariants.{Memory, Read}
-use Rattle.elf_outside.specs.declared.sources.Source.{Ghosts}
-use Rattle.elf_object.specs.Object.{Object, is_dirty}
-use Rattle.elf_object.specs.Due.{homes_due}
-use Rattle.elf_object.specs.Valid.{IsObject}
-use Rattle.elf_descriptor.specs.State.{State}
-use Rattle.command_objects.specs.Arranged.{Rebuilt}
-use Rattle.command_objects.specs.Followed.{kept_from_1}
-use Rattle.command_objects.specs.Rebuilt.{rebuilt, rebuilt_tail}
+use Rattle.object_making.specs.elf_outside.declared.sources.Source.{Ghosts}
+use Rattle.object_making.specs.elf_object.Object.{Object, is_dirty}
+use Rattle.object_making.specs.elf_object.Due.{homes_due}
+use Rattle.object_making.specs.elf_object.Valid.{IsObject}
+use Rattle.update_plan.specs.elf_descriptor.State.{State}
+use Rattle.object_making.specs.command_objects.Arranged.{Rebuilt}
+use Rattle.object_making.specs.command_objects.Followed.{kept_from_1}
+use Rattle.object_making.specs.command_objects.Rebuilt.{rebuilt, rebuilt_tail}
 use Rattle.object_making.specs.Based.{IsMadeOver}
-use Rattle.strip_removed.specs.Calls.{names_home}
-use Rattle.strip_removed.specs.Steps.{IsRemovable}
+use Rattle.strip_items.specs.strip_removed.Calls.{names_home}
+use Rattle.strip_items.specs.strip_removed.Steps.{IsRemovable}
 use Rattle.strip_rebuild.specs.declared.keepers.Keeper.{Keeper}
 use Rattle.strip_rebuild.specs.Makes.{AsksFor}
 use Rattle.strip_rebuild.specs.Keepers.{KeepsFor}

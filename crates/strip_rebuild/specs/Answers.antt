@@ -6,19 +6,19 @@ use Rattle.elf_types.specs.declared.records.Shdr.{Shdr}
 use Rattle.elf_types.specs.declared.errors.ElfError.{ElfError}
 use Rattle.elf_types.specs.declared.errors.ElfError.TheVariants as errors
 use Rattle.elf_types.specs.declared.errors.ElfError.TheVariants.{Memory, Read, Write}
-use Rattle.elf_outside.specs.declared.sources.Source.{Ghosts}
-use Rattle.elf_xlate.specs.declared.content.Items.{Items}
-use Rattle.elf_object.specs.Object.{Object, Section, new_section}
-use Rattle.elf_object.specs.Calls.{newphdr_refusal}
-use Rattle.elf_object.specs.Due.{homes_due}
-use Rattle.elf_object.specs.Steps.{with_sections}
-use Rattle.elf_descriptor.specs.State.{State}
-use Rattle.command_objects.specs.Arranged.{Rebuilt}
-use Rattle.elf_object.specs.Sections.{header_at, number_or_0}
-use Rattle.command_objects.specs.Followed.{kept_from_1, symbols_follow, members_follow, indexes_follow, extended_table}
-use Rattle.command_objects.specs.Rebuilt.{assembled, rebuilt, kept_refusal, index_refusal, rebuilt_sections, rebuilt_index, rebuilt_tail}
+use Rattle.object_making.specs.elf_outside.declared.sources.Source.{Ghosts}
+use Rattle.strip_names.specs.elf_xlate.declared.content.Items.{Items}
+use Rattle.object_making.specs.elf_object.Object.{Object, Section, new_section}
+use Rattle.object_making.specs.elf_object.Calls.{newphdr_refusal}
+use Rattle.object_making.specs.elf_object.Due.{homes_due}
+use Rattle.object_making.specs.elf_object.Steps.{with_sections}
+use Rattle.update_plan.specs.elf_descriptor.State.{State}
+use Rattle.object_making.specs.command_objects.Arranged.{Rebuilt}
+use Rattle.object_making.specs.elf_object.Sections.{header_at, number_or_0}
+use Rattle.object_making.specs.command_objects.Followed.{kept_from_1, symbols_follow, members_follow, indexes_follow, extended_table}
+use Rattle.object_making.specs.command_objects.Rebuilt.{assembled, rebuilt, kept_refusal, index_refusal, rebuilt_sections, rebuilt_index, rebuilt_tail}
 use Rattle.object_making.specs.Making.{sections_by}
-use Rattle.strip_removed.specs.Calls.{names_home}
+use Rattle.strip_items.specs.strip_removed.Calls.{names_home}
 use Rattle.strip_rebuild.specs.declared.naming.Names.{Names}
 use Rattle.strip_rebuild.specs.declared.naming.Names.TheVariants.{Stay, Anew, TooLarge}
 use Rattle.strip_rebuild.specs.declared.keepers.Keeper.{Keeper}

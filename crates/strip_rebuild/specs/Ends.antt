@@ -3,9 +3,9 @@ use Rattle.std.specs.Prelude.{ℕ, ◌+◌, ◌-◌, ◌^◌, min, Bool, not, �
 use Rattle.elf_types.specs.declared.records.Phdr.{Phdr}
 use Rattle.elf_types.specs.declared.records.Shdr.{Shdr}
 use Rattle.elf_types.specs.declared.constants.TheConstants.{PT_NULL}
-use Rattle.elf_object.specs.Object.{Object, section_at}
-use Rattle.elf_object.specs.Sections.{is_allocated, is_among}
-use Rattle.command_objects.specs.Arranged.{loaded_end}
+use Rattle.object_making.specs.elf_object.Object.{Object, section_at}
+use Rattle.object_making.specs.elf_object.Sections.{is_allocated, is_among}
+use Rattle.object_making.specs.command_objects.Arranged.{loaded_end}
 
 -- a number, and 2^64 - 1 where it is more
 abbrev pub at_most_word : ℕ → ℕ

@@ -7,13 +7,13 @@ use Rattle.elf_types.specs.declared.records.Kind.{Kind}
 use Rattle.elf_types.specs.declared.records.Sym.{Sym}
 use Rattle.elf_types.specs.declared.errors.ElfError.{ElfError}
 use Rattle.elf_types.specs.declared.errors.ElfError.TheVariants.{Memory, Read, Ragged}
-use Rattle.elf_xlate.specs.declared.content.Items.{Items}
-use Rattle.elf_xlate.specs.declared.content.Items.TheVariants as items
-use Rattle.elf_xlate.specs.declared.failure.XlateError.{XlateError}
-use Rattle.elf_xlate.specs.declared.failure.XlateError.TheVariants as failures
-use Rattle.elf_xlate.specs.Translation.{decoded}
-use Rattle.elf_object.specs.Object.{Object, section_at}
-use Rattle.elf_object.specs.Answers.{kind_at, raw_refusal, no_data, words_of, syms_of}
+use Rattle.strip_names.specs.elf_xlate.declared.content.Items.{Items}
+use Rattle.strip_names.specs.elf_xlate.declared.content.Items.TheVariants as items
+use Rattle.strip_names.specs.elf_xlate.declared.failure.XlateError.{XlateError}
+use Rattle.strip_names.specs.elf_xlate.declared.failure.XlateError.TheVariants as failures
+use Rattle.strip_names.specs.elf_xlate.Translation.{decoded}
+use Rattle.object_making.specs.elf_object.Object.{Object, section_at}
+use Rattle.object_making.specs.elf_object.Answers.{kind_at, raw_refusal, no_data, words_of, syms_of}
 use Rattle.object_making.specs.Refused.{RefusedBy}
 use Rattle.strip_rebuild.specs.Makes.{FitsAs}
 

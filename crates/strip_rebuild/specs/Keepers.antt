@@ -5,14 +5,14 @@ use Rattle.std.specs.Prelude.{◌≡◌, ℕ, ◌==◌, ◌&&◌, ◌||◌, Bool
 use Rattle.elf_types.specs.declared.records.Shdr.{Shdr}
 use Rattle.elf_types.specs.declared.errors.ElfError.{ElfError}
 use Rattle.elf_types.specs.declared.errors.ElfError.TheVariants as errors
-use Rattle.elf_xlate.specs.declared.content.Items.{Items}
-use Rattle.elf_xlate.specs.declared.content.Items.TheVariants as items
-use Rattle.elf_object.specs.Object.{Object}
-use Rattle.elf_object.specs.Answers.{raw_refusal, words_of, syms_of}
-use Rattle.elf_object.specs.Sections.{header_at, is_among}
-use Rattle.command_objects.specs.Followed.{renumbering, kept_from_1, followed, followed_header, followed_group, followed_syms, followed_words, symbols_follow, members_follow}
-use Rattle.command_objects.specs.Rebuilt.{renews_names, kept_names, table_refusal}
-use Rattle.strip_kept.specs.Tables.{extended_tables}
+use Rattle.strip_names.specs.elf_xlate.declared.content.Items.{Items}
+use Rattle.strip_names.specs.elf_xlate.declared.content.Items.TheVariants as items
+use Rattle.object_making.specs.elf_object.Object.{Object}
+use Rattle.object_making.specs.elf_object.Answers.{raw_refusal, words_of, syms_of}
+use Rattle.object_making.specs.elf_object.Sections.{header_at, is_among}
+use Rattle.object_making.specs.command_objects.Followed.{renumbering, kept_from_1, followed, followed_header, followed_group, followed_syms, followed_words, symbols_follow, members_follow}
+use Rattle.object_making.specs.command_objects.Rebuilt.{renews_names, kept_names, table_refusal}
+use Rattle.strip_names.specs.strip_kept.Tables.{extended_tables}
 use Rattle.strip_names.specs.Names.{new_names}
 use Rattle.strip_rebuild.specs.declared.naming.Names.{Names}
 use Rattle.strip_rebuild.specs.declared.naming.Names.TheVariants.{Stay, Anew, TooLarge}

@@ -1,7 +1,7 @@
 -- The numbers of the sections that are kept, found one after another.
 use Rattle.std.specs.Prelude.{ℕ, ◌-◌, Bool, not, ◌==◌, ◌&&◌, List, [], ◌∷◌, filter, if◌then◌else◌}
 use Rattle.std.specs.List.{range_with_len}
-use Rattle.elf_object.specs.Sections.{is_among}
+use Rattle.object_making.specs.elf_object.Sections.{is_among}
 
 abbrev pub stays : List ℕ → ℕ → Bool
 stays removed s = not (s == 0) && not (is_among removed s)

@@ -3,18 +3,18 @@
 ghost use Rattle.std.specs.Prelude.{◌≡◌, ◌≤◌, ◌<◌, ◌-◌, [], length, map, All, None, OnOk, IfErr};
 ghost use Rattle.std.specs.List.{flat_map};
 ghost use Rattle.elf_types.specs.Answers.{first_refusal};
-ghost use Rattle.elf_object.specs.Due.{homes_due};
-ghost use Rattle.command_objects.specs.Followed.{kept_from_1};
+ghost use Rattle.object_making.specs.elf_object.Due.{homes_due};
+ghost use Rattle.object_making.specs.command_objects.Followed.{kept_from_1};
 ghost use Rattle.object_making.specs.Refused.{UnreadBy};
 ghost use Rattle.strip_rebuild.specs.Answers.{filled_sections, filled_refusal, sections_of, refusal_of, HasSections, IsFilled};
 ghost use Rattle.strip_rebuild.specs.Keepers.{reads_by, index_by};
 ghost use Rattle.strip_rebuild.specs.Makes.{AsksFor};
 
 use crate::keepers::Keeper;
-use elf_descriptor::Elf;
-use elf_outside::{NoSource, Source};
 use elf_types::ElfError;
+use object_making::prelude::{NoSource, Source};
 use object_making::{SectionMaker, assemble, copy_segments, finish_header};
+use update_plan::prelude::Elf;
 
 /// Gives an object section 0 and the sections that a maker makes of those with these numbers, where
 /// the other one has sections. It refuses the first that is refused, and besides `Memory` and

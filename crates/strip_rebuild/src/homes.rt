@@ -1,18 +1,17 @@
 //! The items of a section's home, from its bytes.
 
 ghost use Rattle.std.specs.Prelude.{◌≡◌, ◌<◌, ◌∷◌, [], length, None, IfOk, IfErr};
-ghost use Rattle.elf_xlate.specs.declared.content.Items.TheVariants as items;
-ghost use Rattle.elf_object.specs.Answers.{words_of, syms_of, raw_refusal};
+ghost use Rattle.strip_names.specs.elf_xlate.declared.content.Items.TheVariants as items;
+ghost use Rattle.object_making.specs.elf_object.Answers.{words_of, syms_of, raw_refusal};
 ghost use Rattle.strip_rebuild.specs.Makes.{Makes, FitsAs, FitsAny, SymsFit};
 ghost use Rattle.strip_rebuild.specs.Homes.{home_items, home_refusal, bytes_at_home, is_there, words_at_home, syms_at_home, words_found, syms_found, section_refusal, Decodes, DecodesIf};
 
 use crate::lists::{none_if_refused, syms_in, words_in};
-use elf_descriptor::Elf;
-use elf_outside::Source;
 use elf_types::{Class, DataId, ElfError, Kind, List, Octets, Order, ScnId, Syms, Words};
-use elf_xlate::{Items, XlateError, to_memory};
-use shared_bytes::SharedBytes;
+use object_making::prelude::Source;
 use std::alloc::Global;
+use strip_names::prelude::{Items, SharedBytes, XlateError, to_memory};
+use update_plan::prelude::Elf;
 
 /// The refusal of a translation, as that of the section with a number.
 fn section_refusal(s: u32, e: XlateError) -> ElfError

@@ -1,10 +1,10 @@
 //! What is made of each section that is kept.
 
 ghost use Rattle.std.specs.Prelude.{◌≡◌, ◌==◌, ◌<◌, ◌∷◌, [], length, slice_index, None, IfSome};
-ghost use Rattle.elf_xlate.specs.declared.content.Items.TheVariants as items;
-ghost use Rattle.elf_object.specs.Answers.{syms_of};
-ghost use Rattle.elf_object.specs.Sections.{header_at};
-ghost use Rattle.command_objects.specs.Followed.{followed_syms, followed_words};
+ghost use Rattle.strip_names.specs.elf_xlate.declared.content.Items.TheVariants as items;
+ghost use Rattle.object_making.specs.elf_object.Answers.{syms_of};
+ghost use Rattle.object_making.specs.elf_object.Sections.{header_at};
+ghost use Rattle.object_making.specs.command_objects.Followed.{followed_syms, followed_words};
 ghost use Rattle.strip_rebuild.specs.Homes.{home_items, home_refusal, syms_found};
 ghost use Rattle.strip_rebuild.specs.Makes.{Makes, FitsAs};
 ghost use Rattle.strip_rebuild.specs.Keepers.{header_by, items_by, kept_by, symbols_by, group_by, words_by, indexes_by, serves, name_by, items_or_names, follows_by, is_renewed, makes_by, kept_refusal_by, refusal_or_none, refusal_by, reads_by, IsTableIn, HasTable};
@@ -12,16 +12,14 @@ ghost use Rattle.strip_rebuild.specs.Keepers.{header_by, items_by, kept_by, symb
 use crate::homes::{bytes_at_home, copy_shared, home_syms, home_words, own_syms, own_words};
 use crate::making::{group_items, index_items, symbol_items};
 use crate::naming::Names;
-use elf_descriptor::Elf;
-use elf_outside::Source;
 use elf_types::{ElfError, ScnId, Shdr, Words};
-use elf_xlate::Items;
 use object_making::SectionMaker;
-use shared_bytes::SharedBytes;
+use object_making::prelude::Source;
+use strip_items::prelude::SectionSet;
 use strip_items::{Numbering, followed_header};
-use strip_kept::{is_group, is_kept, is_symbol_table};
 use strip_names::NewNames;
-use strip_removed::SectionSet;
+use strip_names::prelude::{Items, SharedBytes, is_group, is_kept, is_symbol_table};
+use update_plan::prelude::Elf;
 
 /// What makes the sections that are kept, by what was worked out before.
 #[derive(Drop)]
@@ -84,7 +82,7 @@ fn is_renewed(names: &Names, is_names: bool) -> bool
 impl Keeper<'_> {
     /// Whether a table that is there is one of symbols that follow, whose extended indexes a
     /// section holds.
-    #[tactic(auto, unfolding(command_objects::specs::Followed::symbols_follow))]
+    #[tactic(auto, unfolding(object_making::specs::Passed::symbols_follow))]
     fn serves<S: Source>(&self, elf: &Elf<S>, s: ScnId, table: ScnId) -> bool
         requires { table.0 < length elf.now.o.sections }
         ensures { result ≡ serves self.now elf.now.o s.0 table.0 }
@@ -105,7 +103,7 @@ impl Keeper<'_> {
     }
 
     /// Whether the items of a section that is there follow.
-    #[tactic(auto, unfolding(command_objects::specs::Followed::symbols_follow, command_objects::specs::Followed::members_follow))]
+    #[tactic(auto, unfolding(object_making::specs::Passed::symbols_follow, object_making::specs::Passed::members_follow))]
     fn follows<S: Source>(&self, elf: &Elf<S>, s: ScnId) -> bool
         requires { s.0 < length elf.now.o.sections }
         ensures { result ≡ follows_by self.now elf.now.o s.0 }
@@ -220,7 +218,7 @@ impl Keeper<'_> {
 
     /// The items of a section that is there and is not the table of the names where that is made
     /// anew.
-    #[tactic(auto, unfolding(command_objects::specs::Followed::symbols_follow, command_objects::specs::Followed::members_follow))]
+    #[tactic(auto, unfolding(object_making::specs::Passed::symbols_follow, object_making::specs::Passed::members_follow))]
     fn kept<S: Source>(&self, elf: &mut Elf<S>, s: ScnId) -> Result<Items, ElfError>
         requires { s.0 < length elf.old.o.sections }
         ensures { Makes S.Source (λ o. kept_by self.now o s.0) FitsAs

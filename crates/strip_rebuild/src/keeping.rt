@@ -2,21 +2,21 @@
 
 ghost use Rattle.std.specs.Prelude.{◌≡◌, ◌⊎◌, [], false, IfOk, IfErr};
 ghost use Rattle.elf_types.specs.declared.errors.ElfError.TheVariants.{Memory, Read};
-ghost use Rattle.elf_object.specs.Due.{homes_due};
-ghost use Rattle.elf_object.specs.Sections.{is_among};
-ghost use Rattle.strip_removed.specs.Calls.{names_home};
+ghost use Rattle.object_making.specs.elf_object.Due.{homes_due};
+ghost use Rattle.object_making.specs.elf_object.Sections.{is_among};
+ghost use Rattle.strip_items.specs.strip_removed.Calls.{names_home};
 ghost use Rattle.strip_rebuild.specs.Keepers.{KeepsFor};
 ghost use Rattle.strip_rebuild.specs.Makes.{AsksFor};
 
 use crate::keepers::Keeper;
 use crate::naming::make_names;
-use elf_descriptor::Elf;
-use elf_outside::Source;
 use elf_types::ElfError;
+use object_making::prelude::Source;
 use std::alloc::Global;
 use strip_items::Numbering;
-use strip_kept::extended_tables;
-use strip_removed::SectionSet;
+use strip_items::prelude::SectionSet;
+use strip_names::prelude::extended_tables;
+use update_plan::prelude::Elf;
 
 /// What makes the sections of an object without the removed ones, of which section 0 is none. It
 /// refuses `Memory` and `Read` alone, and reads the home of the names at the first use.

@@ -11,6 +11,7 @@ mod lists;
 mod making;
 mod naming;
 mod numbers;
+pub mod prelude;
 mod rebuilding;
 mod tails;
 

@@ -1,12 +1,12 @@
 //! The lists in items.
 
 ghost use Rattle.std.specs.Prelude.{◌≡◌};
-ghost use Rattle.elf_object.specs.Answers.{words_of, syms_of};
+ghost use Rattle.object_making.specs.elf_object.Answers.{words_of, syms_of};
 ghost use Rattle.strip_rebuild.specs.Homes.{NoneIfRefused};
 
 use elf_types::{ElfError, List, Syms, Words};
-use elf_xlate::Items;
 use std::alloc::Global;
+use strip_names::prelude::Items;
 
 /// The words among items, and none where those are of another kind.
 pub(crate) fn words_in(alloc: Global, items: Items) -> Words

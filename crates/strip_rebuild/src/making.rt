@@ -1,13 +1,13 @@
 //! Items that follow, as the data of a section.
 
 ghost use Rattle.std.specs.Prelude.{◌≡◌, IfOk, IfErr};
-ghost use Rattle.elf_xlate.specs.declared.content.Items.TheVariants as items;
-ghost use Rattle.command_objects.specs.Followed as rules;
+ghost use Rattle.strip_names.specs.elf_xlate.declared.content.Items.TheVariants as items;
+ghost use Rattle.object_making.specs.command_objects.Followed as rules;
 
 use elf_types::{ElfError, Sym};
-use elf_xlate::Items;
 use std::alloc::Global;
 use strip_items::{Numbering, followed_group, followed_syms, followed_words};
+use strip_names::prelude::Items;
 
 /// Symbols, with the words of their extended indexes. It refuses `Memory` alone.
 pub(crate) fn symbol_items(

@@ -2,20 +2,20 @@
 
 ghost use Rattle.std.specs.Prelude.{◌≡◌, [], ◌⊎◌, true, IsTrue, IfOk, IfErr};
 ghost use Rattle.elf_types.specs.declared.errors.ElfError.TheVariants.{Memory, Read};
-ghost use Rattle.elf_object.specs.Due.{homes_due};
-ghost use Rattle.command_objects.specs.Rebuilt.{renews_names};
-ghost use Rattle.strip_removed.specs.Calls.{names_home};
+ghost use Rattle.object_making.specs.elf_object.Due.{homes_due};
+ghost use Rattle.object_making.specs.command_objects.Rebuilt.{renews_names};
+ghost use Rattle.strip_items.specs.strip_removed.Calls.{names_home};
 ghost use Rattle.strip_rebuild.specs.Answers.{ChecksNames};
 ghost use Rattle.strip_rebuild.specs.Keepers.{AreNames, NamesFor, RenewsAs};
 ghost use Rattle.strip_rebuild.specs.Makes.{AsksFor};
 
-use elf_descriptor::Elf;
-use elf_outside::Source;
 use elf_types::ElfError;
+use object_making::prelude::Source;
 use std::alloc::Global;
-use strip_kept::renews_names;
+use strip_items::prelude::SectionSet;
+use strip_names::prelude::renews_names;
 use strip_names::{NewNames, build_names};
-use strip_removed::SectionSet;
+use update_plan::prelude::Elf;
 
 /// What becomes of the names.
 #[derive(Drop)]

@@ -2,14 +2,14 @@
 
 ghost use Rattle.std.specs.Prelude.{◌≡◌, ◌++◌, [], IfOk, IfErr, OnOk};
 ghost use Rattle.elf_types.specs.declared.errors.ElfError.TheVariants.{Memory};
-ghost use Rattle.command_objects.specs.Followed.{kept_from_1};
+ghost use Rattle.object_making.specs.command_objects.Followed.{kept_from_1};
 ghost use Rattle.strip_rebuild.specs.Numbers.{stays, kept_alone, kept_below};
 
-use elf_descriptor::Elf;
-use elf_outside::Source;
 use elf_types::{ElfError, List, Words};
+use object_making::prelude::Source;
 use std::alloc::Global;
-use strip_removed::SectionSet;
+use strip_items::prelude::SectionSet;
+use update_plan::prelude::Elf;
 
 /// Whether a number is not 0, and that of no section that is removed.
 fn stays(removed: &SectionSet, s: u32) -> bool

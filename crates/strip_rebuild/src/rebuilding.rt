@@ -1,13 +1,13 @@
 //! The object that is made anew.
 
 ghost use Rattle.std.specs.Prelude.{◌≡◌, false, true, IsTrue, OnOk, IfOk, IfErr};
-ghost use Rattle.elf_object.specs.Object.{is_dirty};
-ghost use Rattle.elf_object.specs.Valid.{IsObject};
-ghost use Rattle.elf_object.specs.Words.{result_map};
-ghost use Rattle.command_objects.specs.Followed.{kept_from_1};
-ghost use Rattle.command_objects.specs.Rebuilt.{rebuilt, rebuilt_tail};
+ghost use Rattle.object_making.specs.elf_object.Object.{is_dirty};
+ghost use Rattle.object_making.specs.elf_object.Valid.{IsObject};
+ghost use Rattle.object_making.specs.elf_object.Words.{result_map};
+ghost use Rattle.object_making.specs.command_objects.Followed.{kept_from_1};
+ghost use Rattle.object_making.specs.command_objects.Rebuilt.{rebuilt, rebuilt_tail};
 ghost use Rattle.object_making.specs.Based.{IsMadeOver};
-ghost use Rattle.strip_removed.specs.Steps.{IsRemovable};
+ghost use Rattle.strip_items.specs.strip_removed.Steps.{IsRemovable};
 ghost use Rattle.strip_rebuild.specs.Answers.{RebuildAnswers, EarlyBy, early_refusal, Rebuilds, homes_asked, made_due, rebuild_due};
 ghost use Rattle.strip_rebuild.specs.Keepers.{KeepsFor};
 ghost use Rattle.strip_rebuild.specs.Makes.{AsksFor};
@@ -18,12 +18,12 @@ use crate::keeping::keep_sections;
 use crate::naming::check_names;
 use crate::numbers::kept_numbers;
 use crate::tails::tail_of;
-use elf_descriptor::Elf;
-use elf_outside::{NoSource, Source};
 use elf_types::ElfError;
+use object_making::prelude::{NoSource, Source};
 use object_making::{arrange, create_over_base};
 use std::alloc::Global;
-use strip_removed::SectionSet;
+use strip_items::prelude::SectionSet;
+use update_plan::prelude::Elf;
 
 /// An object that is made anew, and for a program the place from which on what is not loaded
 /// stands.

@@ -1,20 +1,20 @@
 //! What a program's base reaches to.
 
 ghost use Rattle.std.specs.Prelude.{◌≡◌, ◌<◌, ◌+◌, ◌*◌, length, map, max};
-ghost use Rattle.elf_xlate.specs.Headers.{phdr_size};
-ghost use Rattle.elf_object.specs.Object.{section_at};
-ghost use Rattle.command_objects.specs.Arranged.{segment_end, loaded_end};
-ghost use Rattle.elf_object.specs.Sections.{greatest};
-ghost use Rattle.command_objects.specs.Followed.{kept_sections};
-ghost use Rattle.command_objects.specs.Rebuilt.{rebuilt_tail};
+ghost use Rattle.strip_names.specs.elf_xlate.Headers.{phdr_size};
+ghost use Rattle.object_making.specs.elf_object.Object.{section_at};
+ghost use Rattle.object_making.specs.command_objects.Arranged.{segment_end, loaded_end};
+ghost use Rattle.object_making.specs.elf_object.Sections.{greatest};
+ghost use Rattle.object_making.specs.command_objects.Followed.{kept_sections};
+ghost use Rattle.object_making.specs.command_objects.Rebuilt.{rebuilt_tail};
 ghost use Rattle.strip_rebuild.specs.Ends.{at_most_word, is_bare, home_end, kept_end};
 
-use elf_descriptor::Elf;
-use elf_outside::Source;
 use elf_types::constants::PT_NULL;
 use elf_types::{Phdr, ScnId, Shdr};
-use elf_xlate::{ehdr_size, phdr_size};
-use strip_removed::{SectionSet, is_allocated};
+use object_making::prelude::Source;
+use strip_items::prelude::{SectionSet, strip_removed_is_allocated as is_allocated};
+use strip_names::prelude::{ehdr_size, phdr_size};
+use update_plan::prelude::Elf;
 
 /// Whether a segment has no bytes in the file.
 fn is_bare(p: &Phdr) -> bool

@@ -4,10 +4,10 @@ use Rattle.std.specs.Prelude.{IsTrue, IfOk, OnOk}
 use Rattle.std.specs.List.{list_any, range_with_len}
 use Rattle.std.proofs.lemmas.Bool.{and_right}
 use Rattle.elf_types.specs.declared.errors.ElfError.{ElfError}
-use Rattle.elf_object.specs.Object.{Object}
-use Rattle.elf_object.specs.Words.{Wants, Answers}
-use Rattle.elf_object.specs.Strings.{section_name, is_name}
-use Rattle.elf_object.specs.Sections.{is_allocated, header_at, is_among}
+use Rattle.command_objects.specs.elf_object.Object.{Object}
+use Rattle.command_objects.specs.elf_object.Words.{Wants, Answers}
+use Rattle.command_objects.specs.elf_object.Strings.{section_name, is_name}
+use Rattle.command_objects.specs.elf_object.Sections.{is_allocated, header_at, is_among}
 use Rattle.command_objects.specs.Removed.{is_named, is_debug_data, has_debug_name, is_debug_name}
 use Rattle.sought_names.specs.Names.{is_sought}
 use Rattle.strip_removed.specs.Steps.{goes_by_name, goes, may_go, AreApart}

@@ -6,7 +6,7 @@ use Rattle.std.specs.Str.{bytes_eq}
 use Rattle.std.specs.Cmp.Lexicographic.{pointwise, unequal}
 use Rattle.std.proofs.lemmas.Bool.{cases_lt, false_from_ne_true}
 use Rattle.std.proofs.lemmas.List.{take_all, take-take, length-take-le}
-use Rattle.elf_object.specs.Words.{Wants, Answers}
+use Rattle.command_objects.specs.elf_object.Words.{Wants, Answers}
 use Rattle.command_objects.specs.Removed.{is_debug_name}
 use Rattle.gelf_view.specs.Records.{front_of}
 use Rattle.sought_names.specs.Names.{is_sought, AreUpTo}

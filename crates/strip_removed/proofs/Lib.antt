@@ -1,3 +1,5 @@
+pub use Rattle.gelf_view.proofs.elf_descriptor
+pub use Rattle.gelf_view.proofs as gelf_view
 pub mod SetLaws
 pub mod StepLaws
 pub mod LinkLaws

@@ -4,9 +4,9 @@ use Rattle.std.specs.Prelude.{filter, slice_set, nat_lt, if◌then◌else◌}
 use Rattle.std.specs.List.{range_with_len, list_any}
 use Rattle.std.proofs.Math.ListN.{length-set}
 use Rattle.std.proofs.lemmas.Bool.{eqb-true, eq-eqb, ne_eqb, lt-ltb, le-ltb, cases_lt, cases_eq, and_parts, both_ways, not-true}
-use Rattle.elf_object.specs.Object.{Object}
-use Rattle.elf_object.specs.Layout.{section_numbers}
-use Rattle.elf_object.specs.Sections.{header_at}
+use Rattle.command_objects.specs.elf_object.Object.{Object}
+use Rattle.command_objects.specs.elf_object.Layout.{section_numbers}
+use Rattle.command_objects.specs.elf_object.Sections.{header_at}
 use Rattle.strip_removed.specs.Sets.{is_marked, numbers_of}
 use Rattle.strip_removed.specs.Steps.{links_to, linked_by}
 use Rattle.strip_removed.specs.Marking.{no_marks, with_mark, AreLinked}

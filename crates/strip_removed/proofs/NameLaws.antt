@@ -4,14 +4,14 @@ use Rattle.std.specs.Prelude.{IsTrue, IfErr, if◌then◌else◌}
 use Rattle.std.proofs.lemmas.Bool.{ltb-true, lt-ltb}
 use Rattle.elf_types.specs.declared.errors.ElfError.{ElfError}
 use Rattle.elf_types.specs.declared.errors.ElfError.TheVariants.{Memory, Read}
-use Rattle.elf_outside.specs.declared.sources.Source.{Ghosts}
-use Rattle.elf_outside.proofs.AskLemmas.{read_rose_on}
-use Rattle.elf_object.specs.Words.{Answers}
-use Rattle.elf_object.specs.Object.{Object}
-use Rattle.elf_object.specs.Due.{is_loaded, homes_due, when_clean, is_refused_unread, unless_refused}
-use Rattle.elf_descriptor.specs.State.{State}
-use Rattle.elf_descriptor.specs.Reads.{Reads, Queries, wanted}
-use Rattle.elf_descriptor.proofs.ReadsLaws.{reads_then, reads_nothing, reads_wider, reads_within, dues_stay, reads_among}
+use Rattle.command_objects.specs.elf_outside.declared.sources.Source.{Ghosts}
+use Rattle.command_objects.proofs.elf_outside.AskLemmas.{read_rose_on}
+use Rattle.command_objects.specs.elf_object.Words.{Answers}
+use Rattle.command_objects.specs.elf_object.Object.{Object}
+use Rattle.command_objects.specs.elf_object.Due.{is_loaded, homes_due, when_clean, is_refused_unread, unless_refused}
+use Rattle.gelf_view.specs.elf_descriptor.State.{State}
+use Rattle.gelf_view.specs.elf_descriptor.Reads.{Reads, Queries, wanted}
+use Rattle.gelf_view.proofs.elf_descriptor.ReadsLaws.{reads_then, reads_nothing, reads_wider, reads_within, dues_stay, reads_among}
 use Rattle.gelf_view.specs.SectionNames.{name_reads, section_name}
 use Rattle.strip_removed.specs.Calls.{names_home, MayEnd, ReadsNames, numbers_call, found}
 

@@ -5,7 +5,7 @@ use Rattle.std.specs.List.{range_with_len, list_any}
 use Rattle.std.proofs.lemmas.Bool.{eq-eqb, eqb-true, and_right, cases_lt}
 use Rattle.std.proofs.lemmas.Option.{unwrap_or-slice_get, slice_get_past}
 use Rattle.std.proofs.lemmas.List.FromFn.{get_or-map-range_with_len, length-map-range_with_len}
-use Rattle.elf_object.specs.Sections.{is_among}
+use Rattle.command_objects.specs.elf_object.Sections.{is_among}
 use Rattle.strip_removed.specs.Sets.{is_marked, numbers_of}
 
 -- ---- Tests of two lists

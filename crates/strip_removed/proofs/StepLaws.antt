@@ -4,10 +4,10 @@ use Rattle.std.specs.Prelude.{filter}
 use Rattle.std.specs.List.{range_with_len}
 use Rattle.std.proofs.lemmas.Bool.{and_right, ne_eqb}
 use Rattle.std.proofs.lemmas.List.FromFn.{map-range_with_len_more}
-use Rattle.elf_object.specs.Object.{Object}
-use Rattle.elf_object.specs.Layout.{section_numbers}
-use Rattle.elf_object.specs.Due.{all_sections}
-use Rattle.elf_object.specs.Sections.{is_among}
+use Rattle.command_objects.specs.elf_object.Object.{Object}
+use Rattle.command_objects.specs.elf_object.Layout.{section_numbers}
+use Rattle.command_objects.specs.elf_object.Due.{all_sections}
+use Rattle.command_objects.specs.elf_object.Sections.{is_among}
 use Rattle.command_objects.specs.Removed.{removable, with_found}
 use Rattle.strip_removed.specs.Sets.{is_marked, numbers_of}
 use Rattle.strip_removed.specs.Steps.{may_go, goes, IsRemovable, AreApart}

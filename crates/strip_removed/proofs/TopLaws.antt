@@ -3,10 +3,10 @@ use Rattle.std.proofs.Common.{◌≡◌, ◌||◌, ℕ, Bool, true, false, not, 
 use Rattle.std.specs.Prelude.{IsTrue, IfOk, IfErr, if◌then◌else◌}
 use Rattle.elf_types.specs.declared.errors.ElfError.{ElfError}
 use Rattle.elf_types.specs.declared.errors.ElfError.TheVariants.{Memory}
-use Rattle.elf_object.specs.Object.{Object}
-use Rattle.elf_object.specs.Words.{Answers}
-use Rattle.elf_descriptor.specs.State.{State}
-use Rattle.elf_descriptor.specs.Reads.{wanted}
+use Rattle.command_objects.specs.elf_object.Object.{Object}
+use Rattle.command_objects.specs.elf_object.Words.{Answers}
+use Rattle.gelf_view.specs.elf_descriptor.State.{State}
+use Rattle.gelf_view.specs.elf_descriptor.Reads.{wanted}
 use Rattle.command_objects.specs.Removed.{with_found, with_followers, relocates_removed, is_unneeded_symtab, indexes_removed, has_removed_users, is_named, is_debug_data, removed_sections, removed_by_name}
 use Rattle.strip_removed.specs.Steps.{goes_by_name, IsRemovable}
 use Rattle.strip_removed.specs.Calls.{MayEnd, numbers_call}

@@ -4,10 +4,10 @@ use Rattle.std.specs.Prelude.{filter}
 use Rattle.std.specs.List.{list_any, list_all}
 use Rattle.std.proofs.lemmas.Bool.{ne_eqb}
 use Rattle.elf_types.specs.declared.constants.TheConstants.{SHT_SYMTAB, SHT_STRTAB}
-use Rattle.elf_object.specs.Object.{Object}
-use Rattle.elf_object.specs.Layout.{section_numbers}
-use Rattle.elf_object.specs.Due.{all_sections}
-use Rattle.elf_object.specs.Sections.{is_allocated, header_at, is_among}
+use Rattle.command_objects.specs.elf_object.Object.{Object}
+use Rattle.command_objects.specs.elf_object.Layout.{section_numbers}
+use Rattle.command_objects.specs.elf_object.Due.{all_sections}
+use Rattle.command_objects.specs.elf_object.Sections.{is_allocated, header_at, is_among}
 use Rattle.command_objects.specs.Removed.{with_found, needs_symbols, is_unneeded_symtab, linking_to, has_removed_users}
 use Rattle.strip_removed.specs.Steps.{links_to, linked_by}
 use Rattle.strip_removed.specs.Users.{needs_some, is_unneeded_by, is_left_by, AreUsers}

@@ -4,15 +4,15 @@ use Rattle.std.specs.Prelude.{◌≡◌, ℕ, ◌==◌, ◌<◌, ◌&&◌, ◌||
 use Rattle.std.specs.List.{list_any}
 use Rattle.elf_types.specs.declared.errors.ElfError.{ElfError}
 use Rattle.elf_types.specs.declared.errors.ElfError.TheVariants.{Memory, Read}
-use Rattle.elf_outside.specs.declared.sources.Source.{Ghosts}
-use Rattle.elf_object.specs.Object.{Object}
-use Rattle.elf_object.specs.Calls.{Call, some_memory}
-use Rattle.elf_object.specs.Due.{when_clean, homes_due}
-use Rattle.elf_object.specs.Strings.{section_name, is_name}
+use Rattle.command_objects.specs.elf_outside.declared.sources.Source.{Ghosts}
+use Rattle.command_objects.specs.elf_object.Object.{Object}
+use Rattle.command_objects.specs.elf_object.Calls.{Call, some_memory}
+use Rattle.command_objects.specs.elf_object.Due.{when_clean, homes_due}
+use Rattle.command_objects.specs.elf_object.Strings.{section_name, is_name}
 use Rattle.command_objects.specs.Removed as rules
 use Rattle.gelf_view.specs.SectionNames.{name_reads, name_memory}
-use Rattle.elf_descriptor.specs.State.{State}
-use Rattle.elf_descriptor.specs.Reads.{Reads}
+use Rattle.gelf_view.specs.elf_descriptor.State.{State}
+use Rattle.gelf_view.specs.elf_descriptor.Reads.{Reads}
 
 -- the home of the names, where they are looked up in one
 unfoldable pub names_home : Object → List ℕ

@@ -2,7 +2,7 @@
 use Rattle.std.specs.Prelude.{◌≡◌, ℕ, ◌-◌, ◌<◌, Bool, true, false, List, length, slice_set, nat_lt, if◌then◌else◌}
 use Rattle.std.specs.List.{range_with_len, list_any}
 use Rattle.std.proofs.Math.ListN.{replicate}
-use Rattle.elf_object.specs.Object.{Object}
+use Rattle.command_objects.specs.elf_object.Object.{Object}
 use Rattle.strip_removed.specs.Sets.{is_marked}
 use Rattle.strip_removed.specs.Steps.{links_to}
 

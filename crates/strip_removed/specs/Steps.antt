@@ -2,10 +2,10 @@
 -- are linked to.
 use Rattle.std.specs.Prelude.{◌≡◌, ℕ, Bool, true, not, ◌==◌, ◌&&◌, ◌||◌, List, filter, length}
 use Rattle.std.specs.List.{list_any}
-use Rattle.elf_object.specs.Object.{Object}
-use Rattle.elf_object.specs.Layout.{section_numbers}
-use Rattle.elf_object.specs.Due.{all_sections}
-use Rattle.elf_object.specs.Sections.{header_at, is_among}
+use Rattle.command_objects.specs.elf_object.Object.{Object}
+use Rattle.command_objects.specs.elf_object.Layout.{section_numbers}
+use Rattle.command_objects.specs.elf_object.Due.{all_sections}
+use Rattle.command_objects.specs.elf_object.Sections.{header_at, is_among}
 use Rattle.command_objects.specs.Removed.{removable, is_named, is_debug_data}
 use Rattle.strip_removed.specs.Sets.{is_marked}
 

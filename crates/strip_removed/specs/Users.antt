@@ -1,8 +1,8 @@
 -- Steps 3 and 5 as they are looked at: by the sections to which others link.
 use Rattle.std.specs.Prelude.{◌≡◌, ℕ, Bool, true, not, ◌==◌, ◌&&◌, ◌||◌, List}
 use Rattle.elf_types.specs.declared.constants.TheConstants.{SHT_SYMTAB, SHT_STRTAB, SHT_GROUP}
-use Rattle.elf_object.specs.Object.{Object}
-use Rattle.elf_object.specs.Sections.{is_allocated, is_relocations, header_at, is_among}
+use Rattle.command_objects.specs.elf_object.Object.{Object}
+use Rattle.command_objects.specs.elf_object.Sections.{is_allocated, is_relocations, header_at, is_among}
 use Rattle.strip_removed.specs.Steps.{linked_by}
 
 -- ---- Step 3

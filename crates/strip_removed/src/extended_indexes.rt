@@ -6,10 +6,10 @@ ghost use Rattle.command_objects.specs.Removed as rules;
 
 use crate::sets::SectionSet;
 use crate::walks::{SectionTest, with_found};
-use elf_descriptor::Elf;
-use elf_outside::Source;
+use command_objects::prelude::Source;
 use elf_types::constants::SHT_SYMTAB_SHNDX;
 use elf_types::{ElfError, ScnId};
+use gelf_view::prelude::Elf;
 use std::alloc::Global;
 
 /// Extended indexes that link to a section that was removed.

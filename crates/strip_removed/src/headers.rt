@@ -1,7 +1,7 @@
 //! Small questions on section headers.
 
 ghost use Rattle.std.specs.Prelude.{◌≡◌};
-ghost use Rattle.elf_object.specs.Sections as words;
+ghost use Rattle.command_objects.specs.elf_object.Sections as words;
 
 use elf_types::Shdr;
 use elf_types::constants::{SHF_ALLOC, SHT_REL, SHT_RELA};
@@ -9,7 +9,7 @@ use elf_types::constants::{SHF_ALLOC, SHT_REL, SHT_RELA};
 /// Whether a section is in memory when the program runs.
 ///
 /// Source: gABI chapter 4, "Sections", SHF_ALLOC.
-#[tactic(auto, unfolding(elf_object::specs::Sections::is_allocated))]
+#[tactic(auto, unfolding(command_objects::specs::Passed::is_allocated))]
 pub fn is_allocated(h: &Shdr) -> bool
     ensures { result ≡ words.is_allocated h.now }
 {
@@ -19,7 +19,7 @@ pub fn is_allocated(h: &Shdr) -> bool
 /// Whether a section holds relocations.
 ///
 /// Source: gABI chapter 4, "Sections", SHT_REL and SHT_RELA.
-#[tactic(auto, unfolding(elf_object::specs::Sections::is_relocations))]
+#[tactic(auto, unfolding(command_objects::specs::Passed::is_relocations))]
 pub fn is_relocations(h: &Shdr) -> bool
     ensures { result ≡ words.is_relocations h.now }
 {

@@ -9,6 +9,7 @@ mod extended_indexes;
 mod headers;
 mod links;
 mod names;
+pub mod prelude;
 mod relocations;
 mod removing;
 mod sets;

@@ -7,9 +7,9 @@ ghost use Rattle.strip_removed.specs.Marking.{with_mark, no_marks, AreLinked};
 
 use crate::sets::SectionSet;
 use crate::walks::SectionTest;
-use elf_descriptor::Elf;
-use elf_outside::Source;
+use command_objects::prelude::Source;
 use elf_types::{ElfError, List, ScnId};
+use gelf_view::prelude::Elf;
 use std::alloc::Global;
 
 /// Marks a section, where there is a mark for it.

@@ -3,21 +3,21 @@
 ghost use Rattle.std.specs.Prelude.{◌≡◌, ◌<◌, ◌≤◌, ◌+◌, ◌++◌, ◌∷◌, ◌&&◌, not, ℕ, List, [], codes, length, map, true, IsTrue, OnOk, IfOk, IfErr};
 ghost use Rattle.std.specs.Option.{option_copied};
 ghost use Rattle.elf_types.specs.declared.errors.ElfError.TheVariants.{Memory};
-ghost use Rattle.elf_object.specs.Due.{all_sections};
-ghost use Rattle.elf_object.specs.Sections.{is_allocated, header_at};
+ghost use Rattle.command_objects.specs.elf_object.Due.{all_sections};
+ghost use Rattle.command_objects.specs.elf_object.Sections.{is_allocated, header_at};
 ghost use Rattle.command_objects.specs.Removed as rules;
 ghost use Rattle.strip_removed.specs.Steps.{IsRemovable, AreApart, goes, goes_by_name, may_go};
-ghost use Rattle.elf_object.specs.Words.{Answers};
-ghost use Rattle.elf_descriptor.specs.Reads.{Queries, wanted};
+ghost use Rattle.command_objects.specs.elf_object.Words.{Answers};
+ghost use Rattle.gelf_view.specs.elf_descriptor.Reads.{Queries, wanted};
 ghost use Rattle.strip_removed.specs.Calls.{ReadsNames, found, found_by};
 ghost use Rattle.sought_names.specs.Names.{is_sought, AreUpTo};
 
 use crate::headers::is_allocated;
 use crate::sets::SectionSet;
 use crate::walks::may_go;
-use elf_descriptor::Elf;
-use elf_outside::Source;
+use command_objects::prelude::Source;
 use elf_types::{ElfError, List, ScnId};
+use gelf_view::prelude::Elf;
 use gelf_view::section_name_front;
 use sought_names::NameSet;
 use std::alloc::Global;

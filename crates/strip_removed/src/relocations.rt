@@ -7,9 +7,9 @@ ghost use Rattle.command_objects.specs.Removed as rules;
 use crate::headers::{is_allocated, is_relocations};
 use crate::sets::SectionSet;
 use crate::walks::{SectionTest, with_found};
-use elf_descriptor::Elf;
-use elf_outside::Source;
+use command_objects::prelude::Source;
 use elf_types::{ElfError, ScnId};
+use gelf_view::prelude::Elf;
 use std::alloc::Global;
 
 /// Relocations without `SHF_ALLOC` of a section that was removed.

@@ -2,8 +2,8 @@
 
 ghost use Rattle.std.specs.Prelude.{◌≡◌, [], IfOk, IfErr, if◌then◌else◌};
 ghost use Rattle.elf_types.specs.declared.errors.ElfError.TheVariants.{Memory};
-ghost use Rattle.elf_object.specs.Words.{Answers};
-ghost use Rattle.elf_descriptor.specs.Reads.{Queries, wanted};
+ghost use Rattle.command_objects.specs.elf_object.Words.{Answers};
+ghost use Rattle.gelf_view.specs.elf_descriptor.Reads.{Queries, wanted};
 ghost use Rattle.command_objects.specs.Removed as rules;
 ghost use Rattle.strip_removed.specs.Steps.{IsRemovable};
 ghost use Rattle.strip_removed.specs.Calls as calls;
@@ -14,9 +14,9 @@ use crate::relocations::with_relocations;
 use crate::sets::SectionSet;
 use crate::string_tables::with_string_tables;
 use crate::symbol_tables::with_symbol_tables;
-use elf_descriptor::Elf;
-use elf_outside::Source;
+use command_objects::prelude::Source;
 use elf_types::ElfError;
+use gelf_view::prelude::Elf;
 use std::alloc::Global;
 use tool_text::Args;
 

@@ -1,7 +1,7 @@
 //! Sets of sections.
 
 ghost use Rattle.std.specs.Prelude.{◌≡◌, []};
-ghost use Rattle.elf_object.specs.Sections.{is_among};
+ghost use Rattle.command_objects.specs.elf_object.Sections.{is_among};
 
 use elf_types::List;
 use std::alloc::Global;

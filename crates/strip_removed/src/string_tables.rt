@@ -3,17 +3,17 @@
 ghost use Rattle.std.specs.Prelude.{◌≡◌, true, not, IfOk, IfErr};
 ghost use Rattle.elf_types.specs.declared.errors.ElfError.TheVariants.{Memory};
 ghost use Rattle.command_objects.specs.Removed as rules;
-ghost use Rattle.elf_object.specs.Sections.{is_among};
+ghost use Rattle.command_objects.specs.elf_object.Sections.{is_among};
 ghost use Rattle.strip_removed.specs.Users.{is_left_by, AreUsers};
 
 use crate::headers::is_allocated;
 use crate::links::linked_by;
 use crate::sets::SectionSet;
 use crate::walks::{SectionTest, with_found};
-use elf_descriptor::Elf;
-use elf_outside::Source;
+use command_objects::prelude::Source;
 use elf_types::constants::SHT_STRTAB;
 use elf_types::{ElfError, ScnId};
+use gelf_view::prelude::Elf;
 use std::alloc::Global;
 
 /// Any section.

@@ -4,17 +4,17 @@ ghost use Rattle.std.specs.Prelude.{◌≡◌, ◌==◌, ◌&&◌, not, IfOk, If
 ghost use Rattle.elf_types.specs.declared.errors.ElfError.TheVariants.{Memory};
 ghost use Rattle.elf_types.specs.declared.constants.TheConstants.{SHT_SYMTAB};
 ghost use Rattle.command_objects.specs.Removed as rules;
-ghost use Rattle.elf_object.specs.Sections as words;
+ghost use Rattle.command_objects.specs.elf_object.Sections as words;
 ghost use Rattle.strip_removed.specs.Users.{needs_some, is_unneeded_by};
 
 use crate::headers::{is_allocated, is_relocations};
 use crate::links::linked_by;
 use crate::sets::SectionSet;
 use crate::walks::{SectionTest, with_found};
-use elf_descriptor::Elf;
-use elf_outside::Source;
+use command_objects::prelude::Source;
 use elf_types::constants::{SHT_GROUP, SHT_SYMTAB};
 use elf_types::{ElfError, ScnId};
+use gelf_view::prelude::Elf;
 use std::alloc::Global;
 
 /// Relocations and groups that are left: each needs the symbols of the section to which it links.

@@ -2,15 +2,15 @@
 
 ghost use Rattle.std.specs.Prelude.{◌≡◌, ◌<◌, length, map, OnOk, IfOk, IfErr, Ok, []};
 ghost use Rattle.elf_types.specs.declared.errors.ElfError.TheVariants.{Memory};
-ghost use Rattle.elf_object.specs.Calls as calls;
-ghost use Rattle.elf_object.specs.Due.{all_sections};
+ghost use Rattle.command_objects.specs.elf_object.Calls as calls;
+ghost use Rattle.command_objects.specs.elf_object.Due.{all_sections};
 ghost use Rattle.command_objects.specs.Removed.{with_found};
 ghost use Rattle.strip_removed.specs.Steps.{may_go, goes};
 
 use crate::sets::SectionSet;
-use elf_descriptor::Elf;
-use elf_outside::Source;
+use command_objects::prelude::Source;
 use elf_types::{ElfError, List, ScnId};
+use gelf_view::prelude::Elf;
 use std::alloc::Global;
 
 /// A test of a section by its header.
@@ -18,7 +18,7 @@ use std::alloc::Global;
 /// - `passes` tells which sections of an object pass.
 pub trait SectionTest {
     ghost use Rattle.std.specs.Prelude.{ℕ, Bool};
-    ghost use Rattle.elf_object.specs.Object.{Object};
+    ghost use Rattle.command_objects.specs.elf_object.Object.{Object};
 
     ghost passes: { Self → Object → ℕ → Bool };
 

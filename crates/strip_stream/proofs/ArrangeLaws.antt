@@ -11,14 +11,14 @@ use Rattle.elf_types.specs.declared.records.Ehdr.{Ehdr}
 use Rattle.elf_types.specs.declared.records.Shdr.{Shdr}
 use Rattle.elf_types.specs.declared.errors.ElfError.{ElfError}
 use Rattle.elf_types.specs.declared.errors.ElfError.TheVariants.{Memory, TooLarge}
-use Rattle.elf_ident.specs.Front.{zero_shdr}
+use Rattle.command_objects.specs.elf_ident.Front.{zero_shdr}
 use Rattle.elf_layout.specs.Layout.{place_of, rounded_up, some_above, limit_of}
-use Rattle.elf_object.specs.Blocks.{stacked, last_end, spread}
-use Rattle.elf_object.specs.Joined.{aligned_pieces, piece_blocks, pieces_end, file_bytes}
-use Rattle.elf_object.specs.Object.{Object, Section, section_at, absent_section, has_file_bytes, header_of}
-use Rattle.elf_object.specs.Steps.{with_ehdr, stored_ehdr}
-use Rattle.elf_object.specs.Layout.{section_part, table_part, table_alignment}
-use Rattle.elf_object.specs.Sections.{header_at}
+use Rattle.command_objects.specs.elf_object.Blocks.{stacked, last_end, spread}
+use Rattle.command_objects.specs.elf_object.Joined.{aligned_pieces, piece_blocks, pieces_end, file_bytes}
+use Rattle.command_objects.specs.elf_object.Object.{Object, Section, section_at, absent_section, has_file_bytes, header_of}
+use Rattle.command_objects.specs.elf_object.Steps.{with_ehdr, stored_ehdr}
+use Rattle.command_objects.specs.elf_object.Layout.{section_part, table_part, table_alignment}
+use Rattle.command_objects.specs.elf_object.Sections.{header_at}
 use Rattle.command_objects.specs.Arranged.{place_from, section_from, parts_from, placed_from, table_place_from, tail_refusal}
 use Rattle.object_making.specs.Placing.{is_movable, end_below, sections_from, MayStand}
 use Rattle.object_making.proofs.TailLaws.{walk_begins, walk_goes_on, walk_stops, section_stands, section_keeps, first_keeps, table_found}

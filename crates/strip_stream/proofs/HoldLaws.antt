@@ -3,12 +3,12 @@ use Rattle.std.proofs.Common.{◌≡◌, ℕ, ◌<◌, List, ◌++◌, length, m
 use Rattle.std.proofs.lemmas.List.{length-map, get_or-map, ext_get_or}
 use Rattle.elf_types.specs.declared.records.Ehdr.{Ehdr}
 use Rattle.elf_types.specs.declared.records.Phdr.{Phdr}
-use Rattle.elf_ident.specs.Front.{zero_shdr}
+use Rattle.command_objects.specs.elf_ident.Front.{zero_shdr}
 use Rattle.elf_xlate.specs.Headers.{ehdr_bytes}
-use Rattle.elf_object.specs.Object.{Object, Section, section_at, absent_section}
-use Rattle.elf_object.specs.Open.{front_in_image, phdrs_bytes, shdrs_bytes}
-use Rattle.elf_object.specs.Derived.{written_header}
-use Rattle.elf_object.specs.Image.{front_blocks}
+use Rattle.command_objects.specs.elf_object.Object.{Object, Section, section_at, absent_section}
+use Rattle.command_objects.specs.elf_object.Open.{front_in_image, phdrs_bytes, shdrs_bytes}
+use Rattle.command_objects.specs.elf_object.Derived.{written_header}
+use Rattle.command_objects.specs.elf_object.Image.{front_blocks}
 use Rattle.elf_update.proofs.FrontLaws.{header_is, header_bytes_are}
 use Rattle.listed_layout.specs.declared.listed.Listed.{Listed}
 use Rattle.listed_layout.specs.Listing.{IsListed}

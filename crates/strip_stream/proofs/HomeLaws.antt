@@ -10,17 +10,17 @@ use Rattle.elf_types.specs.declared.records.Class.{Class}
 use Rattle.elf_types.specs.declared.records.Order.{Order}
 use Rattle.elf_types.specs.declared.records.Shdr.{Shdr}
 use Rattle.elf_types.specs.declared.errors.ElfError.{ElfError}
-use Rattle.elf_ident.specs.declared.fronts.Front.{Front}
-use Rattle.elf_ident.specs.Front.{front}
+use Rattle.command_objects.specs.elf_ident.declared.fronts.Front.{Front}
+use Rattle.command_objects.specs.elf_ident.Front.{front}
 use Rattle.elf_xlate.specs.declared.content.Items.{Items}
 use Rattle.elf_xlate.specs.declared.content.Items.TheVariants as items
 use Rattle.elf_xlate.specs.Translation.{encoded}
 use Rattle.elf_xlate.proofs.Bytes.{lowest_same}
-use Rattle.elf_object.specs.Object.{Object, Section, section_at, absent_section, occupies_file}
-use Rattle.elf_object.specs.Open.{home_of, home_bytes, home_len, opened_section, begun, begun_or_refused, opened}
-use Rattle.elf_object.specs.Valid.{IsObject, IsSection, as_opened}
-use Rattle.elf_object.specs.Joined.{aligned_pieces, piece_bytes}
-use Rattle.elf_object.specs.Steps.{own_piece}
+use Rattle.command_objects.specs.elf_object.Object.{Object, Section, section_at, absent_section, occupies_file}
+use Rattle.command_objects.specs.elf_object.Open.{home_of, home_bytes, home_len, opened_section, begun, begun_or_refused, opened}
+use Rattle.command_objects.specs.elf_object.Valid.{IsObject, IsSection, as_opened}
+use Rattle.command_objects.specs.elf_object.Joined.{aligned_pieces, piece_bytes}
+use Rattle.command_objects.specs.elf_object.Steps.{own_piece}
 use Rattle.command_objects.specs.Rebuilt.{made_section}
 use Rattle.strip_stream.specs.Homes.{HomesStand, HomesAreStored}
 

@@ -3,12 +3,12 @@ use Rattle.std.proofs.Common.{◌≡◌, ◌-◌, ◌<◌, ◌^◌, ℕ, Bool, t
 use Rattle.std.specs.Prelude.{if◌then◌else◌}
 use Rattle.elf_types.specs.declared.records.Shdr.{Shdr}
 use Rattle.elf_layout.specs.Layout.{place_of, end_after, limit_of}
-use Rattle.elf_object.specs.Object.{Object, section_at, is_null, occupies_file}
-use Rattle.elf_object.specs.Joined.{pieces_end}
-use Rattle.elf_object.specs.Layout.{section_part}
-use Rattle.object_laws.proofs.ImageLaws.{length-joined}
-use Rattle.object_laws.proofs.StandLaws.{file_bytes_when}
-use Rattle.elf_object.specs.Sections.{is_allocated, header_at}
+use Rattle.command_objects.specs.elf_object.Object.{Object, section_at, is_null, occupies_file}
+use Rattle.command_objects.specs.elf_object.Joined.{pieces_end}
+use Rattle.command_objects.specs.elf_object.Layout.{section_part}
+use Rattle.elf_update.proofs.object_laws.ImageLaws.{length-joined}
+use Rattle.elf_update.proofs.object_laws.StandLaws.{file_bytes_when}
+use Rattle.command_objects.specs.elf_object.Sections.{is_allocated, header_at}
 use Rattle.object_making.specs.Placing.{is_movable, FitsBehind, MayStand}
 use Rattle.object_making.proofs.PlaceLaws.{limit_small, stays_behind, goes_behind}
 use Rattle.listed_layout.specs.Listing.{IsRow}

@@ -9,12 +9,12 @@ use Rattle.elf_layout.specs.declared.parts.Places.{Places}
 use Rattle.elf_layout.specs.Capping.{capped}
 use Rattle.elf_layout.specs.Layout.{placing, layout_refusal, MayWantMemory}
 use Rattle.elf_layout.specs.Meeting.{ranks_by_position}
-use Rattle.elf_object.specs.Object.{Object, header_of}
-use Rattle.elf_object.specs.Layout.{parts_of}
-use Rattle.object_laws.specs.Laws.{IsCappedAlike}
-use Rattle.update_plan.specs.Placing.{ArePlaced, IsRefused, IsUnplaced}
-use Rattle.update_plan.specs.Plans.{part_of_rank, stand_at}
-use Rattle.update_plan.proofs.PlacingLaws.{unplaced, are_placed, not_placed, wants_as}
+use Rattle.command_objects.specs.elf_object.Object.{Object, header_of}
+use Rattle.command_objects.specs.elf_object.Layout.{parts_of}
+use Rattle.elf_update.specs.object_laws.Laws.{IsCappedAlike}
+use Rattle.elf_update.specs.update_plan.Placing.{ArePlaced, IsRefused, IsUnplaced}
+use Rattle.elf_update.specs.update_plan.Plans.{part_of_rank, stand_at}
+use Rattle.elf_update.proofs.update_plan.PlacingLaws.{unplaced, are_placed, not_placed, wants_as}
 use Rattle.elf_update.specs.Updates.{IsPlanned}
 use Rattle.elf_update.proofs.UpdateLaws.{is_planned, wants_passed}
 use Rattle.listed_layout.specs.declared.listed.Listed.{Listed}

@@ -11,17 +11,17 @@ use Rattle.elf_types.specs.declared.records.Phdr.{Phdr}
 use Rattle.elf_types.specs.declared.records.Shdr.{Shdr}
 use Rattle.elf_types.specs.declared.errors.ElfError.{ElfError}
 use Rattle.elf_types.specs.declared.errors.ElfError.TheVariants.{Memory}
-use Rattle.elf_ident.specs.Front.{zero_shdr}
+use Rattle.command_objects.specs.elf_ident.Front.{zero_shdr}
 use Rattle.elf_layout.specs.declared.parts.Places.{Places}
 use Rattle.elf_xlate.specs.Headers.{ehdr_fits, phdr_fits, shdr_fits}
-use Rattle.elf_object.specs.Object.{Object, header_of, section_at, absent_section, no_phdr}
-use Rattle.elf_object.specs.Derived.{derived_header}
-use Rattle.elf_object.specs.Layout.{section_part, table_part, parts_of, places_of, placed, placed_by, placed_header}
-use Rattle.elf_object.specs.Valid.{IsObject, IsSection}
-use Rattle.object_laws.proofs.ImageLaws.{placed-dirty}
-use Rattle.object_laws.proofs.PlacedLaws.{placed_is}
-use Rattle.writing_laws.specs.Ready.{IsReady}
-use Rattle.update_plan.specs.Placing.{IsRefused}
+use Rattle.command_objects.specs.elf_object.Object.{Object, header_of, section_at, absent_section, no_phdr}
+use Rattle.command_objects.specs.elf_object.Derived.{derived_header}
+use Rattle.command_objects.specs.elf_object.Layout.{section_part, table_part, parts_of, places_of, placed, placed_by, placed_header}
+use Rattle.command_objects.specs.elf_object.Valid.{IsObject, IsSection}
+use Rattle.elf_update.proofs.object_laws.ImageLaws.{placed-dirty}
+use Rattle.elf_update.proofs.object_laws.PlacedLaws.{placed_is}
+use Rattle.elf_update.specs.writing_laws.Ready.{IsReady}
+use Rattle.elf_update.specs.update_plan.Placing.{IsRefused}
 use Rattle.elf_update.specs.declared.updates.PlannedParts.{PlannedParts}
 use Rattle.elf_update.specs.Updates.{IsPlanned}
 use Rattle.elf_update.proofs.FrontLaws.{header_is}

@@ -7,10 +7,10 @@ use Rattle.elf_types.specs.declared.records.Part.TheVariants as part
 use Rattle.elf_layout.specs.declared.parts.PartAt.{PartAt}
 use Rattle.elf_layout.specs.Layout.{in_order_from, standing, end_after}
 use Rattle.elf_layout.specs.Meeting.{has_bytes, ranks_by_position}
-use Rattle.elf_object.specs.Object.{Object, section_at, occupies_file}
-use Rattle.elf_object.specs.Joined.{file_bytes}
-use Rattle.elf_object.specs.Layout.{section_part, table_part, parts_of, placed_parts, placed}
-use Rattle.update_plan.specs.Plans.{no_part, part_of_rank}
+use Rattle.command_objects.specs.elf_object.Object.{Object, section_at, occupies_file}
+use Rattle.command_objects.specs.elf_object.Joined.{file_bytes}
+use Rattle.command_objects.specs.elf_object.Layout.{section_part, table_part, parts_of, placed_parts, placed}
+use Rattle.elf_update.specs.update_plan.Plans.{no_part, part_of_rank}
 use Rattle.elf_update.specs.declared.updates.PlannedParts.{PlannedParts}
 use Rattle.elf_update.specs.Descriptors.{stored_pieces, planned}
 use Rattle.elf_update.proofs.PlanLaws.{HasRank, ranks_ranked}

@@ -9,8 +9,8 @@ use Rattle.elf_outside.specs.Asks.{ReadRose}
 use Rattle.elf_outside.proofs.AskLemmas.{read_rose_refused}
 use Rattle.elf_layout.specs.declared.parts.PartAt.{PartAt}
 use Rattle.elf_layout.specs.Layout.{placing, placing_within, refusal_of, places_of, layout_refusal}
-use Rattle.elf_object.proofs.AnswerLaws.{answered_refusal}
-use Rattle.elf_object.proofs.RefusalLaws.{layout_refuses}
+use Rattle.command_objects.proofs.elf_object.AnswerLaws.{answered_refusal}
+use Rattle.command_objects.proofs.elf_object.RefusalLaws.{layout_refuses}
 
 -- want of memory
 pub wanted_unread : (T : Type 0) (e : ElfError) → e ≡ Memory → (a b : ℕ)

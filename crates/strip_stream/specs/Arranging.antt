@@ -3,9 +3,9 @@ use Rattle.std.specs.Prelude.{◌≡◌, ℕ, ◌<◌, true, List, length, Some,
 use Rattle.elf_types.specs.declared.records.Shdr.{Shdr}
 use Rattle.elf_types.specs.declared.errors.ElfError.{ElfError}
 use Rattle.elf_types.specs.declared.errors.ElfError.TheVariants.{TooLarge}
-use Rattle.elf_ident.specs.Front.{zero_shdr}
+use Rattle.command_objects.specs.elf_ident.Front.{zero_shdr}
 use Rattle.elf_layout.specs.Layout.{limit_of, some_above}
-use Rattle.elf_object.specs.Object.{Object, section_at}
+use Rattle.command_objects.specs.elf_object.Object.{Object, section_at}
 use Rattle.command_objects.specs.Arranged.{parts_from, section_from, placed_from, tail_refusal}
 use Rattle.object_making.proofs.TailLaws.{StandsBelow}
 use Rattle.listed_layout.specs.declared.listed.Listed.{Listed}

@@ -2,11 +2,11 @@
 use Rattle.std.specs.Prelude.{◌≡◌, ℕ, List, ◌++◌}
 use Rattle.elf_types.specs.declared.records.Phdr.{Phdr}
 use Rattle.elf_xlate.specs.Headers.{ehdr_bytes}
-use Rattle.elf_object.specs.Object.{Object}
-use Rattle.elf_object.specs.Open.{phdrs_bytes, shdrs_bytes}
-use Rattle.elf_object.specs.Derived.{written_header}
-use Rattle.elf_object.specs.Image.{front_blocks}
-use Rattle.elf_object.specs.Valid.{IsObject}
+use Rattle.command_objects.specs.elf_object.Object.{Object}
+use Rattle.command_objects.specs.elf_object.Open.{phdrs_bytes, shdrs_bytes}
+use Rattle.command_objects.specs.elf_object.Derived.{written_header}
+use Rattle.command_objects.specs.elf_object.Image.{front_blocks}
+use Rattle.command_objects.specs.elf_object.Valid.{IsObject}
 use Rattle.listed_layout.specs.declared.listed.Listed.{Listed}
 use Rattle.listed_layout.specs.Listing.{IsListed}
 use Rattle.image_ranges.specs.Ranges.{range_bytes}

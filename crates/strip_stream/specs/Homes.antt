@@ -5,9 +5,9 @@ use Rattle.elf_types.specs.declared.records.Class.{Class}
 use Rattle.elf_types.specs.declared.records.Order.{Order}
 use Rattle.elf_types.specs.declared.records.Shdr.{Shdr}
 use Rattle.elf_xlate.specs.declared.content.Items.TheVariants as items
-use Rattle.elf_object.specs.Object.{Object, section_at, is_dirty, occupies_file}
-use Rattle.elf_object.specs.Valid.{IsObject, IsTied}
-use Rattle.elf_object.specs.Joined.{aligned_pieces}
+use Rattle.command_objects.specs.elf_object.Object.{Object, section_at, is_dirty, occupies_file}
+use Rattle.command_objects.specs.elf_object.Valid.{IsObject, IsTied}
+use Rattle.command_objects.specs.elf_object.Joined.{aligned_pieces}
 use Rattle.command_objects.specs.Rebuilt.{made_section}
 
 -- the home's bytes stand in the base, where nothing of the object is dirty

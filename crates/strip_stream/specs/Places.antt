@@ -3,9 +3,9 @@
 use Rattle.std.specs.Prelude.{◌≡◌, ℕ, Option, Some, None, if◌then◌else◌}
 use Rattle.elf_types.specs.declared.records.Shdr.{Shdr}
 use Rattle.elf_layout.specs.Layout.{place_of}
-use Rattle.elf_object.specs.Object.{Object}
-use Rattle.elf_object.specs.Layout.{section_part}
-use Rattle.elf_object.specs.Sections.{header_at}
+use Rattle.command_objects.specs.elf_object.Object.{Object}
+use Rattle.command_objects.specs.elf_object.Layout.{section_part}
+use Rattle.command_objects.specs.elf_object.Sections.{header_at}
 use Rattle.object_making.specs.Placing.{is_movable, end_with, MayStand}
 
 -- the header with its place behind an end, where the section is placed

@@ -1,8 +1,8 @@
 -- An object of which the headers are listed, that an update writes where its places allow it.
 use Rattle.std.specs.Prelude.{◌≡◌, ℕ, Bool, true, None, length}
-use Rattle.elf_object.specs.Object.{Object, is_dirty}
-use Rattle.elf_object.specs.Refusal.{content_refusal}
-use Rattle.elf_object.specs.Valid.{IsObject}
+use Rattle.command_objects.specs.elf_object.Object.{Object, is_dirty}
+use Rattle.command_objects.specs.elf_object.Refusal.{content_refusal}
+use Rattle.command_objects.specs.elf_object.Valid.{IsObject}
 use Rattle.listed_layout.specs.declared.listed.Listed.{Listed}
 use Rattle.listed_layout.specs.Listing.{IsListed}
 

@@ -1,9 +1,9 @@
 -- When ranges are the parts of an object that is made anew.
 use Rattle.std.specs.Prelude.{◌≡◌, ℕ, ◌<◌, true, length}
 use Rattle.elf_types.specs.declared.records.Part.TheVariants as part
-use Rattle.elf_object.specs.Object.{Object, section_at, occupies_file}
-use Rattle.elf_object.specs.Layout.{placed}
-use Rattle.elf_object.specs.Image.{kept_base}
+use Rattle.command_objects.specs.elf_object.Object.{Object, section_at, occupies_file}
+use Rattle.command_objects.specs.elf_object.Layout.{placed}
+use Rattle.command_objects.specs.elf_object.Image.{kept_base}
 use Rattle.elf_update.specs.declared.updates.PlannedParts.{PlannedParts}
 use Rattle.elf_update.specs.Descriptors.{stored_pieces}
 use Rattle.elf_update.specs.Updates.{IsPlanned}

@@ -1,9 +1,9 @@
 -- What an image is written from, but for its sections.
 use Rattle.std.specs.Prelude.{◌≡◌, ℕ, List, ◌++◌}
 use Rattle.elf_types.specs.declared.records.Phdr.{Phdr}
-use Rattle.elf_object.specs.Object.{Object}
-use Rattle.elf_object.specs.Layout.{placed}
-use Rattle.writing_laws.specs.Ready.{IsReady}
+use Rattle.command_objects.specs.elf_object.Object.{Object}
+use Rattle.command_objects.specs.elf_object.Layout.{placed}
+use Rattle.elf_update.specs.writing_laws.Ready.{IsReady}
 use Rattle.listed_layout.specs.declared.listed.Listed.{Listed}
 use Rattle.listed_layout.specs.Listing.{IsListed}
 use Rattle.elf_update.specs.Updates.{IsPlanned}

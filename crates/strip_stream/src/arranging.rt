@@ -3,8 +3,8 @@
 ghost use Rattle.std.specs.Prelude.{◌≡◌, ◌<◌, ◌⊎◌, length, IfOk, IfErr};
 ghost use Rattle.elf_types.specs.declared.errors.ElfError.TheVariants.{Memory, TooLarge};
 ghost use Rattle.elf_layout.specs.Layout.{limit_of};
-ghost use Rattle.elf_object.specs.Object.{Object};
-ghost use Rattle.elf_object.specs.Layout as stated;
+ghost use Rattle.command_objects.specs.elf_object.Object.{Object};
+ghost use Rattle.command_objects.specs.elf_object.Layout as stated;
 ghost use Rattle.listed_layout.specs.Listing.{IsListed};
 ghost use Rattle.strip_stream.specs.Arranging.{ArePlacedBehind, IsAbove, IsArrangedBehind, IsRefusedBehind};
 

@@ -3,7 +3,7 @@
 ghost use Rattle.std.specs.Prelude.{◌≡◌, ◌≤◌, ◌-◌, true, ◌++◌, length, All, IsTrue, IfOk, IfErr, OnOk};
 ghost use Rattle.elf_types.specs.declared.errors.ElfError.TheVariants.{Memory};
 ghost use Rattle.elf_xlate.specs.Headers.{ehdr_size, phdr_size, shdr_size, ehdr_fits, phdr_fits, shdr_fits, ehdr_bytes, phdr_bytes, shdr_bytes, HasNarrowCounts};
-ghost use Rattle.elf_object.specs.Open.{phdrs_bytes, shdrs_bytes};
+ghost use Rattle.command_objects.specs.elf_object.Open.{phdrs_bytes, shdrs_bytes};
 ghost use Rattle.strip_stream.specs.Fronts.{HoldsMore};
 
 use elf_types::{Class, Ehdr, ElfError, Order, Phdr, Shdr};

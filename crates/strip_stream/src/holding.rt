@@ -6,7 +6,7 @@ ghost use Rattle.elf_xlate.specs.Headers.{ehdr_fits, phdr_fits, shdr_fits};
 ghost use Rattle.strip_stream.specs.Holding.{HoldsFront};
 
 use crate::fronts::{hold_header, hold_sections, hold_segments};
-use elf_object::written_header;
+use command_objects::prelude::written_header;
 use elf_types::{ElfError, Phdr};
 use image_ranges::ByteRange;
 use listed_layout::Listed;

@@ -11,6 +11,7 @@ mod items;
 pub mod laws;
 mod places;
 mod planning;
+pub mod prelude;
 mod streaming;
 
 pub use arranging::arrange_listed;

@@ -3,15 +3,15 @@
 ghost use Rattle.std.specs.Prelude.{◌≡◌, ◌<◌, ◌+◌, ◌&&◌, ℕ, true, not};
 ghost use Rattle.std.specs.Option.{SomeIff};
 ghost use Rattle.elf_layout.specs.Layout.{place_of, end_after, limit_of};
-ghost use Rattle.elf_object.specs.Object.{Object, is_null};
-ghost use Rattle.elf_object.specs.Layout as stated;
-ghost use Rattle.elf_object.specs.Sections.{is_allocated};
+ghost use Rattle.command_objects.specs.elf_object.Object.{Object, is_null};
+ghost use Rattle.command_objects.specs.elf_object.Layout as stated;
+ghost use Rattle.command_objects.specs.elf_object.Sections.{is_allocated};
 ghost use Rattle.object_making.specs.Placing.{is_movable, FitsBehind};
 ghost use Rattle.listed_layout.specs.Listing.{IsRow};
 ghost use Rattle.strip_stream.specs.Places.{IsArranged};
 
+use command_objects::prelude::occupies_file;
 use elf_layout::rounded_within;
-use elf_object::occupies_file;
 use elf_types::Shdr;
 use elf_types::constants::SHT_NULL;
 
@@ -19,7 +19,7 @@ use elf_types::constants::SHT_NULL;
 fn is_allocated(h: &Shdr) -> bool
     ensures { result ≡ is_allocated h.now }
 {
-    elf_object::is_allocated(h)
+    command_objects::prelude::elf_object_is_allocated(h)
 }
 
 /// Whether a section with that header has to be placed: it is neither `SHT_NULL` nor allocated.

@@ -3,18 +3,17 @@
 ghost use Rattle.std.specs.Prelude.{◌≡◌, ◌≤◌, ℕ, length, IfOk, IfErr};
 ghost use Rattle.elf_types.specs.declared.constants.TheConstants.{MAX_SECTIONS};
 ghost use Rattle.elf_outside.specs.Asks.{ReadRose};
-ghost use Rattle.elf_object.specs.Object.{Object};
-ghost use Rattle.update_plan.specs.Placing.{IsRefused};
+ghost use Rattle.command_objects.specs.elf_object.Object.{Object};
+ghost use Rattle.elf_update.specs.update_plan.Placing.{IsRefused};
 ghost use Rattle.elf_update.specs.Updates.{IsPlanned};
 ghost use Rattle.strip_stream.specs.Planning.{IsLaidOut};
 
 use elf_layout::place;
 use elf_types::ElfError;
 use elf_update::PlannedParts;
+use elf_update::prelude::{parts_may_be_capped, plan};
 use listed_layout::{Listed, list_parts};
-use object_laws::laws::parts_may_be_capped;
 use std::alloc::Global;
-use update_plan::plan;
 
 /// The plan of the image of an object of which the headers are listed, and where its parts stand:
 /// with `layout` where the headers say, over so many bytes of a base. It refuses as an update of

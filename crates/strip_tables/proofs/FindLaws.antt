@@ -16,17 +16,17 @@ use Rattle.elf_xlate.specs.declared.content.Items.TheVariants as items
 use Rattle.elf_xlate.specs.Items.{item_size, word_of}
 use Rattle.elf_xlate.specs.Translation.{items_of}
 use Rattle.elf_xlate.proofs.Pieces.{items_of_none}
-use Rattle.elf_object.specs.Object.{Object, section_at, is_dirty}
-use Rattle.elf_object.specs.Answers.{no_section, no_data, out_of_file, piece_refusal, raw_refusal, words_of, syms_of}
-use Rattle.elf_object.specs.Calls.{piece_kind_answer}
-use Rattle.elf_object.specs.Due.{is_loaded, home_due, homes_due}
-use Rattle.elf_object.specs.Valid.{IsObject, IsTied}
-use Rattle.elf_object.proofs.AnswerLaws.{piece_kind_value}
-use Rattle.elf_object.proofs.PassedLaws.{none_first, none_rest}
-use Rattle.object_laws.proofs.KeepLaws.{section_at_is}
-use Rattle.object_making.proofs.RefusedLaws.{alone, passes_first}
-use Rattle.elf_object.specs.Sections.{header_at}
-use Rattle.command_objects.specs.Followed.{followed_syms, followed_words, symbols_follow, members_follow}
+use Rattle.strip_stream.specs.elf_object.Object.{Object, section_at, is_dirty}
+use Rattle.strip_stream.specs.elf_object.Answers.{no_section, no_data, out_of_file, piece_refusal, raw_refusal, words_of, syms_of}
+use Rattle.strip_stream.specs.elf_object.Calls.{piece_kind_answer}
+use Rattle.strip_stream.specs.elf_object.Due.{is_loaded, home_due, homes_due}
+use Rattle.strip_stream.specs.elf_object.Valid.{IsObject, IsTied}
+use Rattle.strip_stream.proofs.elf_object.AnswerLaws.{piece_kind_value}
+use Rattle.strip_stream.proofs.elf_object.PassedLaws.{none_first, none_rest}
+use Rattle.strip_rebuild.proofs.object_laws.KeepLaws.{section_at_is}
+use Rattle.strip_stream.proofs.object_making.RefusedLaws.{alone, passes_first}
+use Rattle.strip_stream.specs.elf_object.Sections.{header_at}
+use Rattle.strip_stream.specs.command_objects.Followed.{followed_syms, followed_words, symbols_follow, members_follow}
 use Rattle.strip_rebuild.specs.declared.naming.Names.{Names}
 use Rattle.strip_rebuild.specs.declared.naming.Names.TheVariants.{Stay, Anew, TooLarge}
 use Rattle.strip_rebuild.specs.declared.keepers.Keeper.{Keeper}

@@ -13,7 +13,7 @@ use Rattle.elf_xlate.specs.Items.{item_size, word_of, sym_of}
 use Rattle.elf_xlate.specs.Translation.{encoded, between, items_between, items_count}
 use Rattle.elf_xlate.proofs.Pieces.{length_items_of}
 use Rattle.elf_xlate.proofs.Ranges.{encoded_ranges, whole_range}
-use Rattle.command_objects.specs.Followed.{Renumbering, followed_by_word, followed_syms, word_of_sym, followed_words}
+use Rattle.strip_stream.specs.command_objects.Followed.{Renumbering, followed_by_word, followed_syms, word_of_sym, followed_words}
 use Rattle.strip_tables.specs.declared.rows.FollowedRows.{FollowedRows}
 use Rattle.strip_tables.specs.Rows.{syms_in_base, words_in_base, made_of_rows, rows_made, rows_made_between, row_count}
 

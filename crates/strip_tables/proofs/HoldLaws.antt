@@ -12,9 +12,9 @@ use Rattle.elf_outside.specs.declared.sources.Source.{Ghosts}
 use Rattle.elf_xlate.specs.declared.content.Items.TheVariants as items
 use Rattle.elf_xlate.specs.Items.{item_size}
 use Rattle.elf_xlate.specs.Translation.{encoded, first_unfit}
-use Rattle.elf_object.specs.Object.{Object}
-use Rattle.elf_descriptor.specs.State.{State}
-use Rattle.command_objects.specs.Followed.{Renumbering, followed_syms}
+use Rattle.strip_stream.specs.elf_object.Object.{Object}
+use Rattle.strip_rebuild.specs.elf_descriptor.State.{State}
+use Rattle.strip_stream.specs.command_objects.Followed.{Renumbering, followed_syms}
 use Rattle.strip_rebuild.specs.Makes.{AsksFor}
 use Rattle.strip_rebuild.proofs.AskLaws.{asks_stop, asks_more, asks_nothing, asks_memory, asks_twice}
 use Rattle.strip_rebuild.proofs.FitLaws.{followed_fit}

@@ -2,10 +2,10 @@
 use Rattle.std.proofs.Common.{◌≡◌, ◌<◌, ℕ, Bool, length, Option, Result, Ok, Err, sym, ap, ◌∙◌}
 use Rattle.elf_types.specs.declared.errors.ElfError.{ElfError}
 use Rattle.elf_types.specs.Answers.{answered}
-use Rattle.elf_object.specs.Object.{Object, section_at}
-use Rattle.elf_object.specs.Answers.{no_section}
-use Rattle.elf_object.proofs.AnswerLaws.{answered_value}
-use Rattle.elf_descriptor.specs.Homes.{out_answer}
+use Rattle.strip_stream.specs.elf_object.Object.{Object, section_at}
+use Rattle.strip_stream.specs.elf_object.Answers.{no_section}
+use Rattle.strip_stream.proofs.elf_object.AnswerLaws.{answered_value}
+use Rattle.strip_rebuild.specs.elf_descriptor.Homes.{out_answer}
 use Rattle.strip_rebuild.proofs.HomeLaws.{no_section_there}
 
 pub out_value : (o : Object) (s : ℕ) (out : Bool)

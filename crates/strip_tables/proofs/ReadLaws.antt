@@ -14,7 +14,7 @@ use Rattle.elf_xlate.specs.declared.content.Items.TheVariants as items
 use Rattle.elf_xlate.specs.Items.{item_size, word_of, sym_of}
 use Rattle.elf_xlate.specs.Translation.{decoded, listed, items_of, between}
 use Rattle.elf_xlate.proofs.ListedItems.{word_decoded, sym_decoded, word_sized, sym_sized}
-use Rattle.elf_object.specs.Answers.{words_of, syms_of}
+use Rattle.strip_stream.specs.elf_object.Answers.{words_of, syms_of}
 use Rattle.strip_rebuild.specs.Homes.{or_empty_items, decoded_items, decoded_refusal}
 use Rattle.strip_tables.specs.declared.rows.TableAt.{TableAt}
 use Rattle.strip_tables.specs.declared.rows.FollowedRows.{FollowedRows}

@@ -4,9 +4,9 @@ use Rattle.std.specs.Prelude.{◌≡◌, ◌⊎◌, ℕ, ◌*◌, ◌≤◌, Boo
 use Rattle.elf_types.specs.declared.records.Kind.{Kind}
 use Rattle.elf_types.specs.declared.records.Kind.TheVariants as kinds
 use Rattle.elf_xlate.specs.Items.{item_size}
-use Rattle.elf_object.specs.Object.{Object, section_at}
-use Rattle.elf_object.specs.Answers.{kind_at, piece_refusal}
-use Rattle.elf_object.specs.Due.{homes_due}
+use Rattle.strip_stream.specs.elf_object.Object.{Object, section_at}
+use Rattle.strip_stream.specs.elf_object.Answers.{kind_at, piece_refusal}
+use Rattle.strip_stream.specs.elf_object.Due.{homes_due}
 use Rattle.strip_rebuild.specs.declared.keepers.Keeper.{Keeper}
 use Rattle.strip_rebuild.specs.Homes.{is_there}
 use Rattle.strip_rebuild.specs.Keepers.{items_by, refusal_by, reads_by}

@@ -7,7 +7,7 @@ use Rattle.elf_xlate.specs.declared.content.Items.{Items}
 use Rattle.elf_xlate.specs.declared.content.Items.TheVariants as items
 use Rattle.elf_xlate.specs.Items.{item_size, word_of, sym_of}
 use Rattle.elf_xlate.specs.Translation.{items_of, between}
-use Rattle.command_objects.specs.Followed.{Renumbering, followed_syms, followed_words}
+use Rattle.strip_stream.specs.command_objects.Followed.{Renumbering, followed_syms, followed_words}
 use Rattle.strip_tables.specs.declared.rows.TableAt.{TableAt}
 use Rattle.strip_tables.specs.declared.rows.FollowedRows.{FollowedRows}
 

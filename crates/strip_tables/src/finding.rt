@@ -2,20 +2,19 @@
 
 ghost use Rattle.std.specs.Prelude.{◌≡◌, ◌<◌, ◌+◌, ◌*◌, ◌≤◌, true, false, length, slice_index, IfSome, IsTrue};
 ghost use Rattle.elf_types.specs.declared.records.Kind.TheVariants as kinds;
-ghost use Rattle.elf_object.specs.Object.{is_dirty};
-ghost use Rattle.elf_object.specs.Valid.{IsObject, IsTied};
+ghost use Rattle.strip_stream.specs.elf_object.Object.{is_dirty};
+ghost use Rattle.strip_stream.specs.elf_object.Valid.{IsObject, IsTied};
 ghost use Rattle.strip_rebuild.specs.Homes.{is_there};
 ghost use Rattle.strip_rebuild.specs.Keepers.{makes_by};
 ghost use Rattle.strip_tables.specs.Finding.{HoldsKind, IsTableAt, AreItemsAt, AreWordsAt, AreSymbolRows, AreIndexRows, AreRowsOf};
 
 use crate::homes::{extent, is_out};
 use crate::rows::{FollowedRows, TableAt};
-use elf_descriptor::Elf;
 use elf_outside::Source;
 use elf_types::{DataId, Kind, ScnId, Words};
 use elf_xlate::item_size;
-use strip_kept::{is_group, is_symbol_table};
 use strip_rebuild::Keeper;
+use strip_rebuild::prelude::{Elf, is_group, is_symbol_table};
 
 /// The number at an index, and 0 where there is none.
 fn noted_at(numbers: &Words, i: u32) -> u32

@@ -4,20 +4,19 @@ ghost use Rattle.std.specs.Prelude.{◌≡◌, ◌++◌, ◌≤◌, ◌⊎◌, O
 ghost use Rattle.elf_types.specs.declared.errors.ElfError.TheVariants.{Memory, Read};
 ghost use Rattle.elf_xlate.specs.declared.content.Items.TheVariants as items;
 ghost use Rattle.elf_xlate.specs.Translation.{encoded, first_unfit};
-ghost use Rattle.command_objects.specs.Followed as rules;
+ghost use Rattle.strip_stream.specs.command_objects.Followed as rules;
 ghost use Rattle.strip_rebuild.specs.Makes.{AsksFor, SymsFit};
 ghost use Rattle.strip_tables.specs.Rows.{AreInBase, made_of_rows, rows_made, rows_made_between, rows_due, tables_due, HoldsMade};
 
 use crate::reading::{read_syms, read_words};
 use crate::rows::{FollowedRows, row_count};
-use elf_descriptor::Elf;
 use elf_outside::Source;
 use elf_types::{ElfError, Kind, Sym};
 use elf_xlate::{Items, item_size};
-use shared_bytes::SharedBytes;
 use std::alloc::Global;
-use strip_items::{Numbering, followed_syms, followed_words};
+use strip_rebuild::prelude::{Elf, Numbering, followed_syms, followed_words};
 use strip_stream::hold_items;
+use strip_stream::prelude::SharedBytes;
 
 /// How many rows are read at a time.
 const ROWS: u64 = 2_048;

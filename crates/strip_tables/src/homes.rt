@@ -1,11 +1,11 @@
 //! The home of a section that is there.
 
 ghost use Rattle.std.specs.Prelude.{◌≡◌, ◌<◌, length};
-ghost use Rattle.elf_object.specs.Object.{section_at};
+ghost use Rattle.strip_stream.specs.elf_object.Object.{section_at};
 
-use elf_descriptor::Elf;
 use elf_outside::Source;
 use elf_types::ScnId;
+use strip_rebuild::prelude::Elf;
 
 /// Whether the home of a section that is there is out of the file. It reads nothing and takes no
 /// memory.

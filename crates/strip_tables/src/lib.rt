@@ -7,6 +7,7 @@
 mod finding;
 mod holding;
 mod homes;
+pub mod prelude;
 mod reading;
 mod rows;
 

@@ -6,17 +6,17 @@ ghost use Rattle.elf_types.specs.declared.errors.ElfError.TheVariants.{Memory, R
 ghost use Rattle.elf_outside.specs.Asks.{Asks};
 ghost use Rattle.elf_xlate.specs.Items.{item_size};
 ghost use Rattle.elf_xlate.specs.Translation.{between};
-ghost use Rattle.elf_object.specs.Answers.{words_of, syms_of};
+ghost use Rattle.strip_stream.specs.elf_object.Answers.{words_of, syms_of};
 ghost use Rattle.strip_rebuild.specs.Homes.{decoded_items};
 ghost use Rattle.strip_rebuild.specs.Makes.{AsksFor, SymsFit};
 ghost use Rattle.strip_tables.specs.Rows.{LieInBase, items_within, syms_in_base, words_in_base};
 
 use crate::rows::{FollowedRows, TableAt};
-use elf_descriptor::Elf;
 use elf_outside::Source;
 use elf_types::{Class, ElfError, Kind, List, Octets, Order, Syms, Words};
 use elf_xlate::{Items, item_size, to_memory};
 use std::alloc::Global;
+use strip_rebuild::prelude::Elf;
 
 /// So many bytes of the base, from a place on. It refuses `Memory`, before it reads, and `Read`. It
 /// loads no section.

@@ -12,8 +12,8 @@ use Rattle.tool_output.specs.Made.{MakesFile}
 use Rattle.tool_output.specs.Steps.{Writes, LeavesOutputs}
 use Rattle.tool_output.proofs.FileLemmas.{totals_none}
 use Rattle.elf_outside.specs.Counts.{Rose}
-use Rattle.object_files.specs.Making.{ReadsFrom}
-use Rattle.object_files.proofs.WriteLemmas.{image_unput, image_done, image_stopped}
+use Rattle.object_writing.specs.object_files.Making.{ReadsFrom}
+use Rattle.object_writing.proofs.object_files.WriteLemmas.{image_unput, image_done, image_stopped}
 use Rattle.strip_tool.specs.Copies.{MakesPlan, WritesImage, unrefused}
 
 -- ---- A file

@@ -5,8 +5,8 @@ use Rattle.elf_outside.specs.Asks.{Leaves}
 use Rattle.elf_outside.specs.declared.sources.Source.{Ghosts as SourceGhosts}
 use Rattle.elf_outside.specs.declared.sinks.Sink.{Ghosts as SinkGhosts}
 use Rattle.elf_outside.specs.declared.file_sets.Files.{Ghosts as FilesGhosts}
-use Rattle.elf_object.specs.Object.{Object}
-use Rattle.elf_descriptor.specs.State.{State}
+use Rattle.command_outcomes.specs.elf_object.Object.{Object}
+use Rattle.object_writing.specs.elf_descriptor.State.{State}
 use Rattle.tool_output.specs.declared.stops.Stop.{Stop}
 use Rattle.tool_output.specs.declared.outputs.Outputs.{Outputs}
 use Rattle.tool_output.specs.Outcomes.{Does}
@@ -16,8 +16,8 @@ use Rattle.tool_output.specs.Statuses.{refused_status}
 use Rattle.tool_output.proofs.UnderWayLemmas.{shown_none}
 use Rattle.object_writing.specs.Writes.{WritesFile}
 use Rattle.object_writing.proofs.WriteLemmas.{DoesHere, written_then}
-use Rattle.image_ranges.specs.Images.{ranged_text}
-use Rattle.image_ranges.specs.Ranges.{KeptSource, kept_of_source}
+use Rattle.strip_contents.specs.image_ranges.Images.{ranged_text}
+use Rattle.strip_contents.specs.image_ranges.Ranges.{KeptSource, kept_of_source}
 use Rattle.strip_contents.specs.declared.plans.RangedPlan.{RangedPlan}
 use Rattle.strip_contents.specs.Plans.{CopiesAs, kept_with}
 use Rattle.strip_tool.specs.Copies.{WritesImage, IsOverSource, text_with, plan_text}

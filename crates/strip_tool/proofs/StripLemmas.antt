@@ -5,24 +5,24 @@ use Rattle.elf_types.specs.declared.errors.ElfError.{ElfError}
 use Rattle.elf_outside.specs.Asks.{Leaves}
 use Rattle.elf_outside.specs.declared.sources.Source.{Ghosts}
 use Rattle.elf_outside.proofs.AskLemmas.{read_rose_before, read_rose_on}
-use Rattle.elf_object.specs.Object.{Object}
-use Rattle.elf_object.specs.Open.{begun}
-use Rattle.elf_object.specs.Valid.{IsTied}
-use Rattle.elf_object.specs.Words.{Wants, Answers}
-use Rattle.elf_descriptor.specs.Begun.{begun_state, IsBegun}
-use Rattle.elf_descriptor.specs.Sound.{IsSound}
-use Rattle.elf_descriptor.specs.State.{State}
-use Rattle.elf_descriptor.specs.Reads.{Queries}
-use Rattle.elf_descriptor.specs.Views.{source_bytes}
-use Rattle.object_output.proofs.SourceSteps.{leaves_then}
-use Rattle.command_objects.specs.Files.{file_made}
-use Rattle.command_objects.specs.Removed.{removed_sections}
-use Rattle.command_objects.specs.Rebuilt.{rebuilt}
-use Rattle.strip_laws.specs.Made.{FitsClass}
-use Rattle.strip_laws.proofs.WritableLaws.{begun_fits_class}
-use Rattle.image_ranges.specs.Ranges.{KeptSource}
-use Rattle.image_ranges.proofs.RangeLaws.{kept_same}
-use Rattle.strip_removed.specs.Calls as calls
+use Rattle.command_outcomes.specs.elf_object.Object.{Object}
+use Rattle.command_outcomes.specs.elf_object.Open.{begun}
+use Rattle.command_outcomes.specs.elf_object.Valid.{IsTied}
+use Rattle.command_outcomes.specs.elf_object.Words.{Wants, Answers}
+use Rattle.object_writing.specs.elf_descriptor.Begun.{begun_state, IsBegun}
+use Rattle.object_writing.specs.elf_descriptor.Sound.{IsSound}
+use Rattle.object_writing.specs.elf_descriptor.State.{State}
+use Rattle.object_writing.specs.elf_descriptor.Reads.{Queries}
+use Rattle.object_writing.specs.elf_descriptor.Views.{source_bytes}
+use Rattle.command_outcomes.proofs.object_output.SourceSteps.{leaves_then}
+use Rattle.command_outcomes.specs.command_objects.Files.{file_made}
+use Rattle.command_outcomes.specs.command_objects.Removed.{removed_sections}
+use Rattle.command_outcomes.specs.command_objects.Rebuilt.{rebuilt}
+use Rattle.strip_contents.specs.strip_laws.Made.{FitsClass}
+use Rattle.strip_contents.proofs.strip_laws.WritableLaws.{begun_fits_class}
+use Rattle.strip_contents.specs.image_ranges.Ranges.{KeptSource}
+use Rattle.strip_contents.proofs.image_ranges.RangeLaws.{kept_same}
+use Rattle.strip_contents.specs.strip_removed.Calls as calls
 use Rattle.strip_contents.specs.declared.plans.RangedPlan.{RangedPlan}
 use Rattle.strip_contents.specs.Plans.{FileAnswers, StreamsRebuilt}
 use Rattle.strip_contents.proofs.RemovedLaws.{set_is, never_refused}

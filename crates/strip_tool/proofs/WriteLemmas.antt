@@ -7,17 +7,17 @@ use Rattle.elf_types.specs.Text.{error_text}
 use Rattle.elf_outside.specs.declared.sources.Source.{Ghosts as SourceGhosts}
 use Rattle.elf_outside.specs.declared.sinks.Sink.{Ghosts as SinkGhosts}
 use Rattle.elf_outside.specs.declared.file_sets.Files.{Ghosts as FilesGhosts}
-use Rattle.elf_object.specs.Object.{Object}
-use Rattle.elf_descriptor.specs.State.{State}
-use Rattle.command_objects.specs.Removed.{removed_sections}
-use Rattle.command_objects.specs.Rebuilt.{rebuilt}
-use Rattle.command_objects.specs.Files.{file_made}
+use Rattle.command_outcomes.specs.elf_object.Object.{Object}
+use Rattle.object_writing.specs.elf_descriptor.State.{State}
+use Rattle.command_outcomes.specs.command_objects.Removed.{removed_sections}
+use Rattle.command_outcomes.specs.command_objects.Rebuilt.{rebuilt}
+use Rattle.command_outcomes.specs.command_objects.Files.{file_made}
 use Rattle.command_outcomes.specs.Strip.{strip_alone}
 use Rattle.tool_output.specs.declared.stops.Stop.{Stop}
 use Rattle.tool_output.specs.declared.outputs.Outputs.{Outputs}
 use Rattle.tool_output.specs.Names.{file_name}
 use Rattle.tool_output.specs.Made.{complaint, written_outcome}
-use Rattle.object_output.specs.Refusals.{Refuses}
+use Rattle.command_outcomes.specs.object_output.Refusals.{Refuses}
 use Rattle.object_writing.specs.Writes.{WritesFile}
 use Rattle.object_writing.proofs.WriteLemmas.{refused_writes}
 use Rattle.strip_contents.specs.declared.plans.RangedPlan.{RangedPlan}

@@ -5,7 +5,7 @@ use Rattle.elf_outside.specs.Counts.{Rose}
 use Rattle.elf_outside.specs.declared.sources.Source.{Ghosts as SourceGhosts}
 use Rattle.elf_outside.specs.declared.sinks.Sink.{Ghosts as SinkGhosts}
 use Rattle.elf_outside.specs.declared.file_sets.Files.{Ghosts as FilesGhosts}
-use Rattle.elf_descriptor.specs.State.{State}
+use Rattle.object_writing.specs.elf_descriptor.State.{State}
 use Rattle.tool_output.specs.declared.stops.Stop.{Stop}
 use Rattle.tool_output.specs.declared.outputs.Outputs.{Outputs}
 use Rattle.tool_output.specs.Files.{LeavesFilesBy}
@@ -13,9 +13,9 @@ use Rattle.tool_output.specs.Made.{made_file, outcome_with, MakesFile}
 use Rattle.tool_output.specs.Outcomes.{Does}
 use Rattle.tool_output.specs.Reports.{no_report}
 use Rattle.tool_output.specs.Statuses.{refused_status}
-use Rattle.image_ranges.specs.declared.images.RangedImage.{RangedImage}
-use Rattle.image_ranges.specs.Images.{ranged_text}
-use Rattle.image_ranges.specs.Ranges.{KeptSource, bytes_of_source, kept_of_source, kept_of_parts}
+use Rattle.strip_contents.specs.image_ranges.declared.images.RangedImage.{RangedImage}
+use Rattle.strip_contents.specs.image_ranges.Images.{ranged_text}
+use Rattle.strip_contents.specs.image_ranges.Ranges.{KeptSource, bytes_of_source, kept_of_source, kept_of_parts}
 use Rattle.strip_contents.specs.declared.plans.RangedPlan.{RangedPlan}
 use Rattle.strip_contents.specs.Plans.{kept_with}
 

@@ -3,10 +3,10 @@ use Rattle.std.specs.Prelude.{◌≡◌, ◌≤◌, ℕ, Bool, List, IsTrue, Res
 use Rattle.elf_types.specs.declared.errors.ElfError.{ElfError}
 use Rattle.elf_outside.specs.declared.sources.Source.{Ghosts}
 use Rattle.elf_outside.specs.Asks.{Leaves, ReadRose}
-use Rattle.elf_descriptor.specs.State.{State}
-use Rattle.command_objects.specs.Files.{file_made}
-use Rattle.command_objects.specs.Removed.{removed_sections}
-use Rattle.command_objects.specs.Rebuilt.{rebuilt}
+use Rattle.object_writing.specs.elf_descriptor.State.{State}
+use Rattle.command_outcomes.specs.command_objects.Files.{file_made}
+use Rattle.command_outcomes.specs.command_objects.Removed.{removed_sections}
+use Rattle.command_outcomes.specs.command_objects.Rebuilt.{rebuilt}
 use Rattle.strip_contents.specs.declared.plans.RangedPlan.{RangedPlan}
 use Rattle.strip_contents.specs.Plans.{FileAnswers}
 

@@ -2,8 +2,8 @@
 use Rattle.std.specs.Prelude.{ℕ, Bool, List, Result, Ok}
 use Rattle.elf_types.specs.declared.errors.ElfError.{ElfError}
 use Rattle.elf_types.specs.Answers.{◌>>=◌}
-use Rattle.elf_object.specs.Object.{Object}
-use Rattle.command_objects.specs.Removed.{removed_sections}
+use Rattle.command_outcomes.specs.elf_object.Object.{Object}
+use Rattle.command_outcomes.specs.command_objects.Removed.{removed_sections}
 use Rattle.command_outcomes.specs.Strip.{strip_alone}
 use Rattle.tool_output.specs.Made.{Done, Complaint, made, of_file}
 

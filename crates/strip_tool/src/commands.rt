@@ -1,15 +1,15 @@
 //! The image of an open file without the sections that are removed, and the new file of it.
 
 ghost use Rattle.std.specs.Prelude.{codes};
-ghost use Rattle.object_output.specs.Images.{file_object};
+ghost use Rattle.command_outcomes.specs.object_output.Images.{file_object};
 ghost use Rattle.tool_output.specs.Made.{written_outcome};
 ghost use Rattle.object_writing.specs.Writes.{image_done};
 ghost use Rattle.strip_tool.specs.Writes.{object_done};
 
 use crate::writing::write_stripped;
+use command_outcomes::prelude::begin_image;
 use elf_outside::{Files, Sink, Source};
-use object_files::FileEdit;
-use object_output::begin_image;
+use object_writing::prelude::FileEdit;
 use object_writing::refuse_for;
 use std::alloc::Global;
 use tool_output::{Outputs, Stop};

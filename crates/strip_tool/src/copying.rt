@@ -4,10 +4,10 @@ ghost use Rattle.std.specs.Prelude.{◌≡◌};
 ghost use Rattle.strip_tool.specs.Copies.{MakesPlan, WritesImage, image_text, plan_text, unrefused};
 
 use elf_outside::{Files, Sink, Source};
-use image_ranges::{RangedImage, RangedParts};
-use object_files::make_file;
+use object_writing::prelude::make_file;
 use std::alloc::Global;
 use strip_contents::RangedPlan;
+use strip_contents::prelude::{RangedImage, RangedParts};
 use tool_output::{Outputs, Stop};
 
 /// Makes the new file of an image of ranges, where each range lies in its bytes and the parts stand

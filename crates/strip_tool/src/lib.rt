@@ -8,6 +8,7 @@ pub mod commands;
 pub mod copying;
 pub mod named;
 pub mod planning;
+pub mod prelude;
 mod writing;
 
 pub use commands::StripCommand;

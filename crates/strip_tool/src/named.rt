@@ -1,7 +1,7 @@
 //! The command by the name of its file.
 
 ghost use Rattle.std.specs.Prelude.{◌≡◌, ℕ, List, None, IsTrue, codes};
-ghost use Rattle.object_output.specs.Images.{file_object};
+ghost use Rattle.command_outcomes.specs.object_output.Images.{file_object};
 ghost use Rattle.tool_output.specs.Files.{LeavesFiles};
 ghost use Rattle.tool_output.specs.Made.{written_outcome};
 ghost use Rattle.tool_output.specs.Outcomes.{write_of, Does};
@@ -11,7 +11,7 @@ ghost use Rattle.strip_tool.specs.Writes.{object_done};
 
 use crate::commands::StripCommand;
 use elf_outside::{Files, Sink};
-use object_files::edit_file;
+use object_writing::prelude::edit_file;
 use std::alloc::Global;
 use tool_output::{Outputs, Stop};
 

@@ -1,17 +1,17 @@
 //! The plan of what is kept.
 
 ghost use Rattle.std.specs.Prelude.{◌≡◌, false, IsTrue};
-ghost use Rattle.elf_object.specs.Object.{is_dirty};
-ghost use Rattle.elf_object.specs.Valid.{IsTied};
-ghost use Rattle.strip_laws.specs.Made.{FitsClass};
+ghost use Rattle.command_outcomes.specs.elf_object.Object.{is_dirty};
+ghost use Rattle.command_outcomes.specs.elf_object.Valid.{IsTied};
+ghost use Rattle.strip_contents.specs.strip_laws.Made.{FitsClass};
 ghost use Rattle.strip_tool.specs.Steps.{PlansStripped};
 
-use elf_descriptor::Elf;
 use elf_outside::Source;
 use elf_types::ElfError;
+use object_writing::prelude::Elf;
 use std::alloc::Global;
+use strip_contents::prelude::removed;
 use strip_contents::{RangedPlan, plan_rebuilt};
-use strip_removed::removed;
 use tool_text::Args;
 
 /// The plan of the image of an object in which nothing is dirty, without the sections that the

@@ -1,9 +1,9 @@
 //! The new file of an open one.
 
 ghost use Rattle.std.specs.Prelude.{◌≡◌, false, IsTrue, codes};
-ghost use Rattle.elf_object.specs.Object.{is_dirty};
-ghost use Rattle.elf_object.specs.Valid.{IsTied};
-ghost use Rattle.strip_laws.specs.Made.{FitsClass};
+ghost use Rattle.command_outcomes.specs.elf_object.Object.{is_dirty};
+ghost use Rattle.command_outcomes.specs.elf_object.Valid.{IsTied};
+ghost use Rattle.strip_contents.specs.strip_laws.Made.{FitsClass};
 ghost use Rattle.tool_output.specs.Made.{written_outcome};
 ghost use Rattle.object_writing.specs.Writes.{WritesFile};
 ghost use Rattle.strip_tool.specs.Copies.{IsOverSource};
@@ -12,8 +12,8 @@ ghost use Rattle.strip_tool.specs.Writes.{object_done};
 use crate::commands::StripCommand;
 use crate::copying::write_plan;
 use crate::planning::plan_stripped;
-use elf_descriptor::Elf;
 use elf_outside::{Files, Sink, Source};
+use object_writing::prelude::Elf;
 use object_writing::refuse_for;
 use std::alloc::Global;
 use tool_output::{Outputs, Stop};

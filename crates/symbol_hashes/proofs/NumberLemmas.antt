@@ -4,9 +4,9 @@ use Rattle.std.proofs.lemmas.List.{take-take}
 use Rattle.std.proofs.Math.Nat.{div-eq_of_lt, pow-le-pow_right}
 use Rattle.elf_types.specs.declared.records.Class.TheVariants.{C32, C64}
 use Rattle.elf_types.specs.declared.records.Order.{Order}
-use Rattle.elf_xlate.specs.Numbers.{number_of, number_at}
-use Rattle.elf_xlate.specs.Fields.{number_in}
-use Rattle.elf_xlate.specs.Items.{word_of, word_fields, addr_of, addr_fields}
+use Rattle.hash_model.specs.elf_xlate.Numbers.{number_of, number_at}
+use Rattle.hash_model.specs.elf_xlate.Fields.{number_in}
+use Rattle.hash_model.specs.elf_xlate.Items.{word_of, word_fields, addr_of, addr_fields}
 
 pub word_is : (order : Order) (bytes : List ℕ) (place width : ℕ) → width ≡ 4 → word_of C32 order (take width (drop place bytes)) ≡ number_at order bytes place 4
 unfolding word_of word_fields number_in number_at

@@ -1,7 +1,7 @@
 //! The bloom of GNU's hash section.
 
 ghost use Rattle.std.specs.Prelude.{◌≡◌, ◌<◌, ◌≤◌, ◌+◌, ◌/◌, ◌^◌, length, nat_le, if◌then◌else◌, Some, None};
-ghost use Rattle.elf_xlate.specs.Numbers.{number_at};
+ghost use Rattle.hash_model.specs.elf_xlate.Numbers.{number_at};
 ghost use Rattle.hash_model.specs.HashSections as sections;
 
 use crate::numbers::{addr_in, word_in};

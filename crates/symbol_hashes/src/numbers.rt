@@ -1,10 +1,10 @@
 //! The numbers at a place of a section's bytes.
 
 ghost use Rattle.std.specs.Prelude.{◌≡◌, ◌+◌, length, nat_le, if◌then◌else◌, Some, None};
-ghost use Rattle.elf_xlate.specs.Numbers.{number_at};
+ghost use Rattle.hash_model.specs.elf_xlate.Numbers.{number_at};
 
 use elf_types::{Class, Order};
-use elf_xlate::{get_addr, get_word};
+use hash_model::prelude::{get_addr, get_word};
 
 /// The four-byte number at a place, in bytes from the start, or None where it does not lie in the
 /// bytes.

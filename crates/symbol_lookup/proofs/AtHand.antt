@@ -13,31 +13,31 @@ use Rattle.elf_types.specs.declared.records.Order.{Order}
 use Rattle.elf_types.specs.declared.errors.ElfError.{ElfError}
 use Rattle.elf_types.specs.declared.errors.ElfError.TheVariants.{Unended, OutOfFile, Ragged}
 use Rattle.elf_types.specs.Answers.{refused_if, first_refusal, answered, err_of}
-use Rattle.elf_xlate.specs.declared.content.Items.{Items}
-use Rattle.elf_xlate.specs.Translation.{encoded}
-use Rattle.elf_layout.specs.Layout.{rounded_up}
-use Rattle.strtab_build.specs.Table.{string_at}
-use Rattle.elf_object.proofs.RunningEnds.{first_place}
-use Rattle.elf_object.specs.Blocks.{Block, block_end, block_covers, stacked}
-use Rattle.elf_object.specs.Object.{Object, Piece, section_at, piece_at, home_piece}
-use Rattle.elf_object.specs.Answers.{no_section, no_data, piece_count, piece_refusal}
-use Rattle.elf_object.specs.Joined.{piece_bytes, aligned_pieces, piece_blocks}
-use Rattle.elf_object.specs.Strings.{piece_over, has_nul, bytes_from, string_refusal_unread, string_refusal, string_answer, readable, is_name}
-use Rattle.elf_object.proofs.PassedLaws.{none_first, none_rest, not_refused}
+use Rattle.hash_model.specs.elf_xlate.declared.content.Items.{Items}
+use Rattle.hash_model.specs.elf_xlate.Translation.{encoded}
+use Rattle.hash_model.specs.elf_layout.Layout.{rounded_up}
+use Rattle.hash_model.specs.strtab_build.Table.{string_at}
+use Rattle.hash_model.proofs.elf_object.RunningEnds.{first_place}
+use Rattle.hash_model.specs.elf_object.Blocks.{Block, block_end, block_covers, stacked}
+use Rattle.hash_model.specs.elf_object.Object.{Object, Piece, section_at, piece_at, home_piece}
+use Rattle.hash_model.specs.elf_object.Answers.{no_section, no_data, piece_count, piece_refusal}
+use Rattle.hash_model.specs.elf_object.Joined.{piece_bytes, aligned_pieces, piece_blocks}
+use Rattle.hash_model.specs.elf_object.Strings.{piece_over, has_nul, bytes_from, string_refusal_unread, string_refusal, string_answer, readable, is_name}
+use Rattle.hash_model.proofs.elf_object.PassedLaws.{none_first, none_rest, not_refused}
 use Rattle.elf_types.specs.declared.records.Kind.{Kind}
 use Rattle.elf_types.specs.declared.records.Kind.TheVariants as kinds
 use Rattle.elf_types.specs.declared.records.Sym.{Sym}
-use Rattle.elf_xlate.specs.declared.content.Items.TheVariants as items
-use Rattle.elf_xlate.specs.Items.{item_size, sym_of}
-use Rattle.elf_xlate.specs.Translation.{decoded, items_kind}
-use Rattle.elf_xlate.proofs.ListedItems.{sym_decoded}
-use Rattle.section_data.specs.Held.{or_empty, items_of_bytes}
-use Rattle.section_data.proofs.Items.{entry_there, whole_kind}
-use Rattle.elf_object.specs.Answers as answers
-use Rattle.elf_object.specs.Answers.{content, items_at, kind_at, no_content, lend_refusal, syms_of}
-use Rattle.elf_object.specs.Strings.{symbol_name}
-use Rattle.elf_object.proofs.AnswerLaws.{entry_value, lend_passed}
-use Rattle.elf_descriptor.specs.State.{State}
+use Rattle.hash_model.specs.elf_xlate.declared.content.Items.TheVariants as items
+use Rattle.hash_model.specs.elf_xlate.Items.{item_size, sym_of}
+use Rattle.hash_model.specs.elf_xlate.Translation.{decoded, items_kind}
+use Rattle.hash_model.proofs.elf_xlate.ListedItems.{sym_decoded}
+use Rattle.gelf_view.specs.section_data.Held.{or_empty, items_of_bytes}
+use Rattle.gelf_view.proofs.section_data.Items.{entry_there, whole_kind}
+use Rattle.hash_model.specs.elf_object.Answers as answers
+use Rattle.hash_model.specs.elf_object.Answers.{content, items_at, kind_at, no_content, lend_refusal, syms_of}
+use Rattle.hash_model.specs.elf_object.Strings.{symbol_name}
+use Rattle.hash_model.proofs.elf_object.AnswerLaws.{entry_value, lend_passed}
+use Rattle.gelf_view.specs.elf_descriptor.State.{State}
 use Rattle.hash_model.specs.Listed.{is_defined_global, listed_name, not_empty}
 use Rattle.symbol_lookup.specs.Lookups.{is_match, link_of}
 use Rattle.symbol_lookup.specs.Searches.{LacksName, LacksSymbol, LacksWhenListed, StandsAtHand}

@@ -8,29 +8,29 @@ use Rattle.elf_types.specs.declared.records.Kind.TheVariants as kinds
 use Rattle.elf_types.specs.declared.errors.ElfError.{ElfError}
 use Rattle.elf_types.specs.declared.errors.ElfError.TheVariants.{Memory, Read, Write, NoEntry, BadChain}
 use Rattle.elf_types.specs.Answers.{Follows, IsRefusal, or_refused, answered, err_of}
-use Rattle.elf_outside.specs.declared.sources.Source.{Ghosts}
-use Rattle.elf_outside.specs.Asks.{ReadRose}
-use Rattle.elf_object.specs.Words.{Wants, Answers, AnswersRead, Refusals}
-use Rattle.elf_object.specs.Object.{Object, section_at, piece_at, home_is_clean}
-use Rattle.elf_object.specs.Answers.{items_at, words_of, entry_answer, lend_refusal}
-use Rattle.elf_object.specs.Due.{is_loaded, holds_items, homes_due, is_refused_unread, unless_refused, when_clean, when_piece_clean}
-use Rattle.elf_object.specs.Calls.{Call, reader, word_answer}
-use Rattle.elf_object.specs.Calls as calls
+use Rattle.hash_model.specs.elf_outside.declared.sources.Source.{Ghosts}
+use Rattle.hash_model.specs.elf_outside.Asks.{ReadRose}
+use Rattle.hash_model.specs.elf_object.Words.{Wants, Answers, AnswersRead, Refusals}
+use Rattle.hash_model.specs.elf_object.Object.{Object, section_at, piece_at, home_is_clean}
+use Rattle.hash_model.specs.elf_object.Answers.{items_at, words_of, entry_answer, lend_refusal}
+use Rattle.hash_model.specs.elf_object.Due.{is_loaded, holds_items, homes_due, is_refused_unread, unless_refused, when_clean, when_piece_clean}
+use Rattle.hash_model.specs.elf_object.Calls.{Call, reader, word_answer}
+use Rattle.hash_model.specs.elf_object.Calls as calls
 use Rattle.gelf_view.specs.Calls as views
-use Rattle.elf_object.specs.Strings.{string_answer, strptr, symbol_name}
+use Rattle.hash_model.specs.elf_object.Strings.{string_answer, strptr, symbol_name}
 use Rattle.elf_types.specs.declared.records.Sym.{Sym}
 use Rattle.std.specs.List.{enumerate_from}
 use Rattle.std.proofs.lemmas.Option.{slice_get_cases, slice_get_within, get_or_from_slice_get}
 use Rattle.std.proofs.lemmas.List.FromFn.{get_or-enumerate_from, length-enumerate_from}
 use Rattle.hash_model.specs.Listed.{listed_name, listed_names, is_defined_global, not_empty}
-use Rattle.elf_object.specs.Answers.{bytes_of, syms_of}
-use Rattle.elf_object.specs.Calls.{sym_answer}
-use Rattle.elf_object.proofs.AnswerLaws.{sym_value}
+use Rattle.hash_model.specs.elf_object.Answers.{bytes_of, syms_of}
+use Rattle.hash_model.specs.elf_object.Calls.{sym_answer}
+use Rattle.hash_model.proofs.elf_object.AnswerLaws.{sym_value}
 use Rattle.symbol_lookup.proofs.FollowLaws.{later_follows}
-use Rattle.elf_object.specs.Strings.{readable, is_name}
-use Rattle.elf_descriptor.specs.State.{State}
-use Rattle.elf_descriptor.specs.Reads.{Queries, Looks, wanted}
-use Rattle.elf_descriptor.proofs.ReadsLaws.{reads_then}
+use Rattle.hash_model.specs.elf_object.Strings.{readable, is_name}
+use Rattle.gelf_view.specs.elf_descriptor.State.{State}
+use Rattle.gelf_view.specs.elf_descriptor.Reads.{Queries, Looks, wanted}
+use Rattle.gelf_view.proofs.elf_descriptor.ReadsLaws.{reads_then}
 use Rattle.symbol_lookup.specs.Walks.{hash_word}
 use Rattle.symbol_lookup.specs.Lookups.{Needs, needs_memory, or_bad, no_match, IsBad, is_match, link_of}
 use Rattle.symbol_lookup.specs.Searches.{Searches, MayEnd, IsFree, HasStrings, HasTable, HasWords, HasBytes}

@@ -4,9 +4,9 @@ use Rattle.std.specs.Prelude.{IsTrue}
 use Rattle.elf_types.specs.declared.errors.ElfError.{ElfError}
 use Rattle.elf_types.specs.declared.errors.ElfError.TheVariants.{Memory, Read}
 use Rattle.elf_types.specs.Answers.{Follows, ◌>>=◌}
-use Rattle.elf_object.specs.Words.{result_map}
-use Rattle.elf_object.specs.Object.{Object}
-use Rattle.elf_descriptor.specs.State.{State}
+use Rattle.hash_model.specs.elf_object.Words.{result_map}
+use Rattle.hash_model.specs.elf_object.Object.{Object}
+use Rattle.gelf_view.specs.elf_descriptor.State.{State}
 
 -- a step that came, and then another
 pub then_follows : {A B : Type 0} (x : A) (first : Result A ElfError) (q : Result B ElfError) (next : A → Result B ElfError) → Follows (Ok x) first → Follows q (next x) → Follows q (first >>= next)

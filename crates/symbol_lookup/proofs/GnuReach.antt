@@ -12,11 +12,11 @@ use Rattle.elf_types.specs.declared.records.Class.{Class}
 use Rattle.elf_types.specs.declared.records.Order.{Order}
 use Rattle.elf_types.specs.declared.errors.ElfError.{ElfError}
 use Rattle.elf_types.specs.declared.errors.ElfError.TheVariants.{BadChain}
-use Rattle.elf_xlate.specs.Numbers.{number_at}
-use Rattle.elf_object.specs.Words.{result_map}
+use Rattle.hash_model.specs.elf_xlate.Numbers.{number_at}
+use Rattle.hash_model.specs.elf_object.Words.{result_map}
 use Rattle.hash_model.specs.Hashes.{gnu_hash}
 use Rattle.hash_model.specs.HashSections.{GnuHash, bloom_bits, bloom_bytes, numbers_at, gnu_head, gnu_chains_at, gnu_in, has_bit, passes, gnu_word, is_end, gnu_chain, gnu_chain_from, is_on_with, is_found_gnu, is_whole_gnu, ends}
-use Rattle.elf_object.specs.Sections.{is_among}
+use Rattle.hash_model.specs.elf_object.Sections.{is_among}
 use Rattle.symbol_lookup.specs.declared.walks.Step.{Step}
 use Rattle.symbol_lookup.specs.declared.walks.Start.{Start}
 use Rattle.symbol_lookup.specs.declared.walks.GnuHead.{GnuHead}

@@ -6,16 +6,16 @@ use Rattle.elf_types.specs.declared.records.Kind.TheVariants as kinds
 use Rattle.elf_types.specs.declared.errors.ElfError.{ElfError}
 use Rattle.elf_types.specs.declared.errors.ElfError.TheVariants.{Memory, Read, Write, BadChain}
 use Rattle.elf_types.specs.Answers.{Follows, IsRefusal, answered, err_of, first_refusal, ◌>>=◌}
-use Rattle.elf_outside.specs.declared.sources.Source.{Ghosts}
-use Rattle.elf_outside.specs.Asks.{ReadRose}
-use Rattle.elf_object.specs.Words.{AnswersRead, Wants}
-use Rattle.elf_object.specs.Object.{Object}
-use Rattle.elf_object.specs.Answers.{bytes_of, items_at, lend_refusal}
-use Rattle.elf_object.specs.Due.{homes_due, is_refused_unread, unless_refused, when_piece_clean}
+use Rattle.hash_model.specs.elf_outside.declared.sources.Source.{Ghosts}
+use Rattle.hash_model.specs.elf_outside.Asks.{ReadRose}
+use Rattle.hash_model.specs.elf_object.Words.{AnswersRead, Wants}
+use Rattle.hash_model.specs.elf_object.Object.{Object}
+use Rattle.hash_model.specs.elf_object.Answers.{bytes_of, items_at, lend_refusal}
+use Rattle.hash_model.specs.elf_object.Due.{homes_due, is_refused_unread, unless_refused, when_piece_clean}
 use Rattle.gelf_view.specs.Calls as views
-use Rattle.elf_descriptor.specs.State.{State}
-use Rattle.elf_descriptor.specs.Reads.{Reads, Queries, Looks, wanted}
-use Rattle.elf_descriptor.proofs.ReadsLaws.{reads_then}
+use Rattle.gelf_view.specs.elf_descriptor.State.{State}
+use Rattle.gelf_view.specs.elf_descriptor.Reads.{Reads, Queries, Looks, wanted}
+use Rattle.gelf_view.proofs.elf_descriptor.ReadsLaws.{reads_then}
 use Rattle.symbol_lookup.specs.declared.walks.Start.{Start}
 use Rattle.symbol_lookup.specs.Lookups.{Needs, needs_memory, link_of, found_from, words_refusal, bytes_refusal, linked_refusal, sysv_refusal, gnu_refusal, sysv_found, gnu_found, sysv_needs, gnu_needs, find_sysv_answer, find_gnu_answer, find_sysv, find_gnu, chain_refusals}
 use Rattle.symbol_lookup.specs.Searches.{HasLinks, HasTable, IsFree, MayEnd, Searches}

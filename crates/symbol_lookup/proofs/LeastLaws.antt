@@ -9,8 +9,8 @@ use Rattle.std.proofs.lemmas.List.{get_or_past}
 use Rattle.std.proofs.lemmas.List.Sums.{prefix_len_passes}
 use Rattle.std.proofs.lemmas.List.Quantifiers.{position-Some}
 use Rattle.std.proofs.lemmas.Slice.Eq.{bytes_eq-Decides}
-use Rattle.elf_object.specs.Strings.{is_name}
-use Rattle.elf_object.specs.Sections.{is_among}
+use Rattle.hash_model.specs.elf_object.Strings.{is_name}
+use Rattle.hash_model.specs.elf_object.Sections.{is_among}
 use Rattle.hash_model.specs.HashSections.{each_listed}
 use Rattle.symbol_lookup.specs.Walks.{lesser, least_of}
 

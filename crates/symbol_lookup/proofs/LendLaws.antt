@@ -5,9 +5,9 @@ use Rattle.std.specs.Prelude.{IsTrue, ◌⊎◌}
 use Rattle.elf_types.specs.declared.errors.ElfError.{ElfError}
 use Rattle.elf_types.specs.declared.errors.ElfError.TheVariants.{Memory, Read, Write}
 use Rattle.elf_types.specs.Answers.{IsRefusal, answered}
-use Rattle.elf_object.specs.Words.{Wants, Answers}
-use Rattle.elf_object.specs.Due.{is_refused_unread}
-use Rattle.elf_descriptor.proofs.Refusals.{IsUnread}
+use Rattle.hash_model.specs.elf_object.Words.{Wants, Answers}
+use Rattle.hash_model.specs.elf_object.Due.{is_refused_unread}
+use Rattle.gelf_view.proofs.elf_descriptor.Refusals.{IsUnread}
 use Rattle.gelf_view.proofs.LendLemmas.{unread_late}
 use Rattle.symbol_lookup.specs.Searches.{IsFree}
 

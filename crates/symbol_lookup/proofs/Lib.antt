@@ -1,3 +1,8 @@
+pub use Rattle.gelf_view.proofs.elf_descriptor
+pub use Rattle.hash_model.proofs.elf_object
+pub use Rattle.gelf_view.proofs as gelf_view
+pub use Rattle.gelf_view.proofs.object_laws
+pub use Rattle.symbol_hashes.proofs as symbol_hashes
 pub mod SearchLaws
 mod FollowLaws
 mod CallLaws

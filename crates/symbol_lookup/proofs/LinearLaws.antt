@@ -5,14 +5,14 @@ use Rattle.std.specs.List.{position}
 use Rattle.std.proofs.lemmas.Bool.{le-ltb, lt-ltb, ltb-true, ltb-false, eqb-true}
 use Rattle.std.proofs.lemmas.List.Sums.{position_or_len_is}
 use Rattle.elf_types.specs.declared.records.Kind.TheVariants as kinds
-use Rattle.elf_object.specs.Object.{Object, section_at, piece_at, home_is_clean}
-use Rattle.elf_object.specs.Due.{when_clean, when_piece_clean, with_others}
+use Rattle.hash_model.specs.elf_object.Object.{Object, section_at, piece_at, home_is_clean}
+use Rattle.hash_model.specs.elf_object.Due.{when_clean, when_piece_clean, with_others}
 use Rattle.elf_types.specs.declared.errors.ElfError.{ElfError}
-use Rattle.elf_descriptor.specs.State.{State}
-use Rattle.elf_object.specs.Answers.{count_at, items_at, lend_refusal}
-use Rattle.elf_object.specs.Strings.{is_name}
-use Rattle.elf_object.proofs.AnswerLaws.{lend_passed, items_kind_at}
-use Rattle.elf_object.proofs.ItemCounts.{syms_counted}
+use Rattle.gelf_view.specs.elf_descriptor.State.{State}
+use Rattle.hash_model.specs.elf_object.Answers.{count_at, items_at, lend_refusal}
+use Rattle.hash_model.specs.elf_object.Strings.{is_name}
+use Rattle.hash_model.proofs.elf_object.AnswerLaws.{lend_passed, items_kind_at}
+use Rattle.hash_model.proofs.elf_object.ItemCounts.{syms_counted}
 use Rattle.hash_model.specs.Listed.{listed_names}
 use Rattle.symbol_lookup.specs.Lookups.{is_match, link_of, linear_needs, table_homes}
 use Rattle.symbol_lookup.specs.Searches.{HasTable, Stays}

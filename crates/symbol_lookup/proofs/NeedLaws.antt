@@ -6,9 +6,9 @@ use Rattle.std.proofs.lemmas.Bool.{eqb-true}
 use Rattle.std.proofs.lemmas.List.Elements.{Contains-append_left, Contains-append_right}
 use Rattle.std.proofs.lemmas.List.Folds.{Any-from_list_any}
 use Rattle.elf_types.specs.declared.records.Kind.TheVariants as kinds
-use Rattle.elf_object.specs.Object.{Object, piece_at}
-use Rattle.elf_object.specs.Answers.{lend_refusal}
-use Rattle.elf_object.specs.Due.{when_piece_clean, with_others}
+use Rattle.hash_model.specs.elf_object.Object.{Object, piece_at}
+use Rattle.hash_model.specs.elf_object.Answers.{lend_refusal}
+use Rattle.hash_model.specs.elf_object.Due.{when_piece_clean, with_others}
 use Rattle.symbol_lookup.specs.declared.walks.Links.{Links}
 use Rattle.symbol_lookup.specs.declared.walks.Links.TheVariants as links
 use Rattle.symbol_lookup.specs.Lookups.{Needs, link_of, linear_needs, hash_homes, sysv_needs, gnu_needs}

@@ -7,12 +7,12 @@ use Rattle.elf_types.specs.declared.records.Class.{Class}
 use Rattle.elf_types.specs.declared.records.Order.{Order}
 use Rattle.elf_types.specs.declared.records.Kind.TheVariants as kinds
 use Rattle.elf_types.specs.declared.errors.ElfError.{ElfError}
-use Rattle.elf_object.specs.Words.{result_map}
-use Rattle.elf_object.specs.Object.{Object}
-use Rattle.elf_object.specs.Answers.{bytes_of, words_of, items_at, count_at, lend_refusal}
-use Rattle.elf_object.specs.Strings.{is_name}
+use Rattle.hash_model.specs.elf_object.Words.{result_map}
+use Rattle.hash_model.specs.elf_object.Object.{Object}
+use Rattle.hash_model.specs.elf_object.Answers.{bytes_of, words_of, items_at, count_at, lend_refusal}
+use Rattle.hash_model.specs.elf_object.Strings.{is_name}
 use Rattle.hash_model.specs.Hashes.{elf_hash, gnu_hash}
-use Rattle.elf_object.specs.Sections.{is_among}
+use Rattle.hash_model.specs.elf_object.Sections.{is_among}
 use Rattle.hash_model.specs.HashSections.{is_on, is_on_with, gnu_in, gnu_chain_from}
 use Rattle.hash_model.specs.Listed.{listed_names, find_linear_answer}
 use Rattle.symbol_lookup.specs.declared.walks.Start.{Start}

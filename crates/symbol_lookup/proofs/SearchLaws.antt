@@ -8,14 +8,14 @@ use Rattle.std.proofs.lemmas.List.Sums.{sum_by-cons}
 use Rattle.elf_types.specs.declared.errors.ElfError.{ElfError}
 use Rattle.elf_types.specs.declared.errors.ElfError.TheVariants.{Memory, Read, BadChain}
 use Rattle.elf_types.specs.Answers.{IsRefusal}
-use Rattle.elf_outside.specs.declared.sources.Source.{Ghosts}
-use Rattle.elf_outside.specs.Asks.{ReadRose}
-use Rattle.elf_outside.proofs.AskLemmas.{asks_fewer, read_rose_on}
-use Rattle.elf_object.specs.Object.{Object}
-use Rattle.elf_object.specs.Due.{is_loaded, holds_items, home_due, homes_due}
-use Rattle.elf_descriptor.specs.State.{State}
-use Rattle.elf_descriptor.specs.Reads.{Reads}
-use Rattle.elf_descriptor.proofs.ReadsLaws.{reads_then, reads_nothing, dues_stay, reads_among}
+use Rattle.hash_model.specs.elf_outside.declared.sources.Source.{Ghosts}
+use Rattle.hash_model.specs.elf_outside.Asks.{ReadRose}
+use Rattle.hash_model.proofs.elf_outside.AskLemmas.{asks_fewer, read_rose_on}
+use Rattle.hash_model.specs.elf_object.Object.{Object}
+use Rattle.hash_model.specs.elf_object.Due.{is_loaded, holds_items, home_due, homes_due}
+use Rattle.gelf_view.specs.elf_descriptor.State.{State}
+use Rattle.gelf_view.specs.elf_descriptor.Reads.{Reads}
+use Rattle.gelf_view.proofs.elf_descriptor.ReadsLaws.{reads_then, reads_nothing, dues_stay, reads_among}
 use Rattle.symbol_lookup.specs.Lookups.{Needs, needs_memory, IsBad}
 use Rattle.symbol_lookup.specs.Searches.{Searches, MayEnd}
 

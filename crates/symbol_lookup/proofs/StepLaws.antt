@@ -5,8 +5,8 @@ use Rattle.std.proofs.lemmas.Bool.{le-ltb, lt-ltb}
 use Rattle.elf_types.specs.declared.errors.ElfError.{ElfError}
 use Rattle.elf_types.specs.declared.errors.ElfError.TheVariants.{BadChain}
 use Rattle.elf_types.specs.Answers.{Follows}
-use Rattle.elf_object.specs.Words.{result_map}
-use Rattle.elf_object.specs.Object.{Object}
+use Rattle.hash_model.specs.elf_object.Words.{result_map}
+use Rattle.hash_model.specs.elf_object.Object.{Object}
 use Rattle.symbol_lookup.specs.declared.walks.Step.{Step}
 use Rattle.symbol_lookup.specs.declared.walks.Start.{Start}
 use Rattle.symbol_lookup.specs.declared.walks.Links.{Links}

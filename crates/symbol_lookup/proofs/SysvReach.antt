@@ -9,7 +9,7 @@ use Rattle.std.proofs.lemmas.Option.{slice_get_within, slice_get-get_or, get_or_
 use Rattle.elf_types.specs.Answers.{or_refused, ◌>>=◌}
 use Rattle.elf_types.specs.declared.errors.ElfError.{ElfError}
 use Rattle.elf_types.specs.declared.errors.ElfError.TheVariants.{BadChain}
-use Rattle.elf_object.specs.Words.{result_map}
+use Rattle.hash_model.specs.elf_object.Words.{result_map}
 use Rattle.hash_model.specs.Hashes.{elf_hash}
 use Rattle.hash_model.specs.HashSections.{sysv_in, sysv_chain, sysv_chain_of, is_whole_sysv, ends, is_on, each_listed}
 use Rattle.symbol_lookup.specs.declared.walks.Step.{Step}

@@ -6,16 +6,16 @@ use Rattle.elf_types.specs.declared.records.Kind.TheVariants as kinds
 use Rattle.elf_types.specs.declared.errors.ElfError.{ElfError}
 use Rattle.elf_types.specs.declared.errors.ElfError.TheVariants.{Memory, Read, Write, BadChain}
 use Rattle.elf_types.specs.Answers.{Follows, IsRefusal, answered}
-use Rattle.elf_outside.specs.Asks.{ReadRose}
-use Rattle.elf_outside.specs.declared.sources.Source.{Ghosts}
-use Rattle.elf_object.specs.Words.{Answers}
-use Rattle.elf_object.specs.Answers.{lend_refusal}
-use Rattle.elf_object.specs.Strings.{is_name}
-use Rattle.elf_object.specs.Due.{homes_due, unless_refused}
-use Rattle.elf_descriptor.specs.State.{State}
-use Rattle.elf_object.specs.Calls.{Call, due}
-use Rattle.elf_descriptor.specs.Reads.{Reads, Looks, wanted}
-use Rattle.elf_descriptor.proofs.ReadsLaws.{reads_nothing}
+use Rattle.hash_model.specs.elf_outside.Asks.{ReadRose}
+use Rattle.hash_model.specs.elf_outside.declared.sources.Source.{Ghosts}
+use Rattle.hash_model.specs.elf_object.Words.{Answers}
+use Rattle.hash_model.specs.elf_object.Answers.{lend_refusal}
+use Rattle.hash_model.specs.elf_object.Strings.{is_name}
+use Rattle.hash_model.specs.elf_object.Due.{homes_due, unless_refused}
+use Rattle.gelf_view.specs.elf_descriptor.State.{State}
+use Rattle.hash_model.specs.elf_object.Calls.{Call, due}
+use Rattle.gelf_view.specs.elf_descriptor.Reads.{Reads, Looks, wanted}
+use Rattle.gelf_view.proofs.elf_descriptor.ReadsLaws.{reads_nothing}
 use Rattle.hash_model.specs.Listed.{listed_names, find_linear_answer}
 use Rattle.symbol_lookup.specs.Lookups.{linear_needs, find_linear}
 use Rattle.symbol_lookup.specs.Searches.{Searches, MayEnd}

@@ -6,11 +6,11 @@ use Rattle.std.proofs.lemmas.Bool.{ne_eqb}
 use Rattle.elf_types.specs.declared.errors.ElfError.{ElfError}
 use Rattle.elf_types.specs.declared.errors.ElfError.TheVariants.{Memory, Read, BadChain}
 use Rattle.elf_types.specs.Answers.{Follows, ◌>>=◌}
-use Rattle.elf_outside.specs.declared.sources.Source.{Ghosts}
-use Rattle.elf_object.specs.Words.{result_map}
-use Rattle.elf_object.specs.Object.{Object}
-use Rattle.elf_object.specs.Answers.{count_at}
-use Rattle.elf_descriptor.specs.State.{State}
+use Rattle.hash_model.specs.elf_outside.declared.sources.Source.{Ghosts}
+use Rattle.hash_model.specs.elf_object.Words.{result_map}
+use Rattle.hash_model.specs.elf_object.Object.{Object}
+use Rattle.hash_model.specs.elf_object.Answers.{count_at}
+use Rattle.gelf_view.specs.elf_descriptor.State.{State}
 use Rattle.symbol_lookup.specs.declared.walks.Step.{Step}
 use Rattle.symbol_lookup.specs.declared.walks.Links.{Links}
 use Rattle.symbol_lookup.specs.declared.walks.Links.TheVariants as links

@@ -2,8 +2,8 @@
 -- finds.
 use Rattle.std.specs.Prelude.{◌≡◌, ℕ, List, true, None}
 use Rattle.elf_types.specs.declared.records.Kind.TheVariants as kinds
-use Rattle.elf_object.specs.Object.{Object}
-use Rattle.elf_object.specs.Answers.{bytes_of, words_of, items_at, lend_refusal}
+use Rattle.hash_model.specs.elf_object.Object.{Object}
+use Rattle.hash_model.specs.elf_object.Answers.{bytes_of, words_of, items_at, lend_refusal}
 use Rattle.hash_model.specs.HashSections.{is_whole_sysv, is_whole_gnu}
 use Rattle.hash_model.specs.Listed.{listed_names, find_linear_answer}
 use Rattle.symbol_lookup.specs.Lookups.{link_of, find_sysv_answer, find_gnu_answer}

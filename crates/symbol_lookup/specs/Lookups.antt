@@ -7,12 +7,12 @@ use Rattle.elf_types.specs.Answers.{answered, first_refusal, ◌>>=◌}
 use Rattle.elf_types.specs.declared.records.Kind.TheVariants as kinds
 use Rattle.elf_types.specs.declared.errors.ElfError.{ElfError}
 use Rattle.elf_types.specs.declared.errors.ElfError.TheVariants.{Memory, Read, BadChain}
-use Rattle.elf_object.specs.Words.{Refusals, result_map}
-use Rattle.elf_object.specs.Object.{Object, section_at}
-use Rattle.elf_object.specs.Answers.{bytes_of, words_of, items_at, count_at, lend_refusal}
-use Rattle.elf_object.specs.Strings.{is_name}
-use Rattle.elf_object.specs.Due.{is_loaded, holds_items, unless_refused, when_clean, when_piece_clean, with_others}
-use Rattle.elf_object.specs.Calls.{Call}
+use Rattle.hash_model.specs.elf_object.Words.{Refusals, result_map}
+use Rattle.hash_model.specs.elf_object.Object.{Object, section_at}
+use Rattle.hash_model.specs.elf_object.Answers.{bytes_of, words_of, items_at, count_at, lend_refusal}
+use Rattle.hash_model.specs.elf_object.Strings.{is_name}
+use Rattle.hash_model.specs.elf_object.Due.{is_loaded, holds_items, unless_refused, when_clean, when_piece_clean, with_others}
+use Rattle.hash_model.specs.elf_object.Calls.{Call}
 use Rattle.hash_model.specs.Hashes as hashes
 use Rattle.hash_model.specs.Listed.{listed_names, find_linear_answer}
 use Rattle.symbol_lookup.specs.declared.walks.Step.{Step}

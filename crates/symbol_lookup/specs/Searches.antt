@@ -3,16 +3,16 @@
 use Rattle.std.specs.Prelude.{◌≡◌, ℕ, ◌*◌, ◌^◌, ◌<◌, List, ◌∷◌, ◌++◌, true, length, take, drop, ◌/◌, ◌%◌, Contains, None, IsTrue, is_none, nat_lt, Result, IfErr}
 use Rattle.elf_types.specs.declared.errors.ElfError.{ElfError}
 use Rattle.elf_types.specs.declared.errors.ElfError.TheVariants.{Memory, Read, BadChain}
-use Rattle.elf_outside.specs.declared.sources.Source.{Ghosts}
-use Rattle.elf_object.specs.Object.{Object, section_at, piece_at, home_is_clean}
-use Rattle.elf_object.specs.Due.{homes_due}
-use Rattle.elf_descriptor.specs.State.{State}
-use Rattle.elf_descriptor.specs.Reads.{Reads}
-use Rattle.elf_object.specs.Answers.{lend_refusal, piece_count}
+use Rattle.hash_model.specs.elf_outside.declared.sources.Source.{Ghosts}
+use Rattle.hash_model.specs.elf_object.Object.{Object, section_at, piece_at, home_is_clean}
+use Rattle.hash_model.specs.elf_object.Due.{homes_due}
+use Rattle.gelf_view.specs.elf_descriptor.State.{State}
+use Rattle.gelf_view.specs.elf_descriptor.Reads.{Reads}
+use Rattle.hash_model.specs.elf_object.Answers.{lend_refusal, piece_count}
 use Rattle.elf_types.specs.declared.records.Class.{Class}
 use Rattle.elf_types.specs.declared.records.Order.{Order}
 use Rattle.elf_types.specs.declared.records.Sym.{Sym}
-use Rattle.elf_xlate.specs.Items.{item_size, sym_of}
+use Rattle.hash_model.specs.elf_xlate.Items.{item_size, sym_of}
 use Rattle.hash_model.specs.Listed.{is_defined_global}
 use Rattle.elf_types.specs.declared.records.Kind.TheVariants as kinds
 use Rattle.symbol_lookup.specs.declared.walks.Start.{Start}

@@ -8,8 +8,8 @@ use Rattle.elf_types.specs.declared.records.Class.{Class}
 use Rattle.elf_types.specs.declared.records.Order.{Order}
 use Rattle.elf_types.specs.declared.errors.ElfError.{ElfError}
 use Rattle.elf_types.specs.declared.errors.ElfError.TheVariants.{BadChain}
-use Rattle.elf_xlate.specs.Numbers.{number_at}
-use Rattle.elf_object.specs.Words.{result_map}
+use Rattle.hash_model.specs.elf_xlate.Numbers.{number_at}
+use Rattle.hash_model.specs.elf_object.Words.{result_map}
 use Rattle.hash_model.specs.HashSections.{bloom_bits, bloom_bytes, has_bit, is_end}
 use Rattle.symbol_lookup.specs.declared.walks.Step.{Step}
 use Rattle.symbol_lookup.specs.declared.walks.Links.TheVariants as links

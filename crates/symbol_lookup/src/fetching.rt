@@ -3,18 +3,18 @@
 ghost use Rattle.std.specs.Prelude.{◌≡◌, ◌<◌, ◌^◌, IsTrue, None};
 ghost use Rattle.elf_types.specs.Answers.{Follows};
 ghost use Rattle.elf_types.specs.declared.records.Kind.TheVariants as kinds;
-ghost use Rattle.elf_object.specs.Answers.{items_at, lend_refusal, words_of};
+ghost use Rattle.hash_model.specs.elf_object.Answers.{items_at, lend_refusal, words_of};
 ghost use Rattle.symbol_lookup.specs.Walks as walks;
 ghost use Rattle.symbol_lookup.specs.Lookups.{or_bad, Needs};
 ghost use Rattle.symbol_lookup.specs.Searches.{HasWords, Searches, Stays};
 
-use elf_descriptor::Elf;
-use elf_outside::Source;
 use elf_types::{Class, DataId, ElfError, Order, ScnId};
+use gelf_view::prelude::Elf;
 use gelf_view::word;
+use hash_model::prelude::Source;
 
 /// The class and the byte order of an object.
-#[tactic(auto, unfolding(elf_object::specs::Object::header_of))]
+#[tactic(auto, unfolding(hash_model::specs::Passed::header_of))]
 pub fn form<S: Source>(elf: &Elf<S>) -> (Class, Order)
     ensures class { result.0 ≡ elf.now.o.header.class }
     ensures order { result.1 ≡ elf.now.o.header.order }

@@ -3,7 +3,7 @@
 ghost use Rattle.std.specs.Prelude.{◌≡◌, ◌<◌, ◌+◌, ◌^◌, IsTrue, IfOk, IfErr, None};
 ghost use Rattle.elf_types.specs.Answers.{Follows};
 ghost use Rattle.elf_types.specs.declared.records.Kind.TheVariants as kinds;
-ghost use Rattle.elf_object.specs.Answers.{bytes_of, items_at, lend_refusal};
+ghost use Rattle.hash_model.specs.elf_object.Answers.{bytes_of, items_at, lend_refusal};
 ghost use Rattle.hash_model.specs.HashSections as sections;
 ghost use Rattle.symbol_lookup.specs.Walks as walks;
 ghost use Rattle.symbol_lookup.specs.Lookups.{IsBad, Needs};
@@ -11,10 +11,10 @@ ghost use Rattle.symbol_lookup.specs.Searches.{HasBytes, IsGnuStart, IsIndex, Se
 
 use crate::fetching::form;
 use crate::walks::{GnuHead, Links, Start, Step};
-use elf_descriptor::Elf;
-use elf_outside::Source;
 use elf_types::{Class, DataId, ElfError, Order, ScnId};
 use gelf_view::bytes;
+use gelf_view::prelude::Elf;
+use hash_model::prelude::Source;
 use symbol_hashes::{bloom_bits, bloom_bytes, bloom_word, has_bit, shifted, word_in};
 
 /// The four-byte number at a place of bytes; else a bad chain there.

@@ -12,6 +12,7 @@ mod linear;
 mod lookups;
 mod matching;
 mod passing;
+pub mod prelude;
 mod sysv;
 mod walking;
 mod walks;

@@ -4,10 +4,10 @@ ghost use Rattle.std.specs.Prelude.{◌≡◌, ◌<◌, IsTrue, IfOk, IfSome, No
 ghost use Rattle.std.specs.List.{position};
 ghost use Rattle.elf_types.specs.Answers.{Follows};
 ghost use Rattle.elf_types.specs.declared.records.Kind.TheVariants as kinds;
-ghost use Rattle.elf_object.specs.Words.{Answers};
-ghost use Rattle.elf_object.specs.Answers.{count_at, lend_refusal, no_section};
-ghost use Rattle.elf_object.specs.Strings.{is_name};
-ghost use Rattle.elf_descriptor.specs.Reads.{Looks, wanted};
+ghost use Rattle.hash_model.specs.elf_object.Words.{Answers};
+ghost use Rattle.hash_model.specs.elf_object.Answers.{count_at, lend_refusal, no_section};
+ghost use Rattle.hash_model.specs.elf_object.Strings.{is_name};
+ghost use Rattle.gelf_view.specs.elf_descriptor.Reads.{Looks, wanted};
 ghost use Rattle.hash_model.specs.Listed.{listed_names};
 ghost use Rattle.symbol_lookup.specs.Lookups as calls;
 ghost use Rattle.symbol_lookup.specs.Lookups.{linear_needs, link_of};
@@ -15,13 +15,13 @@ ghost use Rattle.symbol_lookup.specs.Searches.{Searches};
 
 use crate::matching::is_match;
 use crate::passing::pass_over;
-use elf_descriptor::Elf;
-use elf_outside::Source;
 use elf_types::{DataId, ElfError, ScnId, Sym};
 use gelf_view::item_count;
+use gelf_view::prelude::Elf;
+use hash_model::prelude::Source;
 
 /// The section to which a section that is there links.
-#[tactic(auto, unfolding(elf_object::specs::Calls::shdr_answer))]
+#[tactic(auto, unfolding(hash_model::specs::Passed::shdr_answer))]
 pub fn link<S: Source>(elf: &Elf<S>, s: ScnId) -> ScnId
     requires { no_section elf.now.o s.0 ≡ None }
     ensures { result.0 ≡ link_of elf.now.o s.0 }

@@ -2,9 +2,9 @@
 
 ghost use Rattle.std.specs.Prelude.{◌≡◌, ◌⊎◌, IsTrue, IfOk, IfErr, OnOk, None, Some, []};
 ghost use Rattle.elf_types.specs.Answers.{Follows, IsRefusal};
-ghost use Rattle.elf_object.specs.Words.{AnswersRead};
-ghost use Rattle.elf_object.specs.Answers.{no_section};
-ghost use Rattle.elf_descriptor.specs.Reads.{Looks, Queries, wanted};
+ghost use Rattle.hash_model.specs.elf_object.Words.{AnswersRead};
+ghost use Rattle.hash_model.specs.elf_object.Answers.{no_section};
+ghost use Rattle.gelf_view.specs.elf_descriptor.Reads.{Looks, Queries, wanted};
 ghost use Rattle.gelf_view.specs.Calls as views;
 ghost use Rattle.symbol_lookup.specs.Lookups as calls;
 ghost use Rattle.symbol_lookup.specs.Lookups.{bytes_refusal, chain_refusals, gnu_found, gnu_needs, gnu_refusal, link_of, linked_refusal, sysv_found, sysv_needs, sysv_refusal, words_refusal, Needs};
@@ -14,10 +14,10 @@ use crate::gnu::gnu_start;
 use crate::linear::link;
 use crate::sysv::sysv_start;
 use crate::walking::find_from;
-use elf_descriptor::Elf;
-use elf_outside::Source;
 use elf_types::{DataId, ElfError, ScnId, Sym};
+use gelf_view::prelude::Elf;
 use gelf_view::{bytes, item_count};
+use hash_model::prelude::Source;
 use symbol_hashes::{elf_hash, gnu_hash};
 
 /// The symbol table to which a section that is there links. It refuses as a lend of its symbols.

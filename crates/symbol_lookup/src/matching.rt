@@ -3,17 +3,17 @@
 ghost use Rattle.std.specs.Prelude.{◌≡◌, ◌==◌, ◌&&◌, not, IsTrue, None, Ok, if◌then◌else◌, false};
 ghost use Rattle.elf_types.specs.Answers.{Follows};
 ghost use Rattle.elf_types.specs.declared.records.Kind.TheVariants as kinds;
-ghost use Rattle.elf_object.specs.Answers.{lend_refusal};
-ghost use Rattle.elf_object.specs.Strings.{is_name, readable, string_answer};
+ghost use Rattle.hash_model.specs.elf_object.Answers.{lend_refusal};
+ghost use Rattle.hash_model.specs.elf_object.Strings.{is_name, readable, string_answer};
 ghost use Rattle.hash_model.specs.Listed.{is_defined_global, not_empty};
 ghost use Rattle.symbol_lookup.specs.Lookups.{is_match, link_of, no_match, Needs};
 ghost use Rattle.symbol_lookup.specs.Searches.{HasStrings, HasTable, Searches, Stays};
 
-use elf_descriptor::Elf;
-use elf_outside::Source;
 use elf_types::constants::{SHN_UNDEF, STB_LOCAL};
 use elf_types::{DataId, ElfError, ScnId, Sym};
+use gelf_view::prelude::Elf;
 use gelf_view::{strptr, sym};
+use hash_model::prelude::Source;
 
 /// What a symbol, or a string, that is refused tells: that it is no match, unless it was for want
 /// of memory or a failed read.

@@ -2,17 +2,16 @@
 
 ghost use Rattle.std.specs.Prelude.{◌≡◌, ◌<◌, ◌≤◌, ◌*◌, ◌/◌, ◌%◌, ℕ, length, take, drop, IfSome, IsTrue, None, true, false};
 ghost use Rattle.elf_types.specs.declared.records.Kind.TheVariants as kinds;
-ghost use Rattle.elf_xlate.specs.Items.{item_size, sym_of};
-ghost use Rattle.elf_object.specs.Answers.{lend_refusal};
+ghost use Rattle.hash_model.specs.elf_xlate.Items.{item_size, sym_of};
+ghost use Rattle.hash_model.specs.elf_object.Answers.{lend_refusal};
 ghost use Rattle.symbol_lookup.specs.Lookups.{is_match, link_of};
 ghost use Rattle.symbol_lookup.specs.Searches.{LacksName, LacksSymbol, LacksWhenListed, StandsAtHand};
 
 use crate::fetching::form;
 use crate::matching::is_defined_global;
-use elf_descriptor::{Elf, Held};
-use elf_outside::Source;
 use elf_types::{Class, DataId, Kind, Order, ScnId};
-use elf_xlate::{get_sym, item_size};
+use gelf_view::prelude::{Elf, Held};
+use hash_model::prelude::{Source, get_sym, item_size};
 
 /// Whether bytes surely do not have a name with its NUL at a place of theirs.
 #[inline(always)]
@@ -34,7 +33,7 @@ fn lacks_name(bytes: &[u8], offset: u64, name: &[u8]) -> bool
 
 /// The bytes of item `i` of items of a size, where the bytes are whole items and there is such an
 /// item.
-#[tactic(auto, using(section_data::proofs::Rules::item_bytes))]
+#[tactic(auto, using(gelf_view::proofs::Passed::item_bytes))]
 #[inline(always)]
 fn bytes_of_item(bytes: &[u8], size: usize, i: u64) -> Option<&[u8]>
     requires { 0 < size }

@@ -4,16 +4,16 @@
 ghost use Rattle.std.specs.Prelude.{◌≡◌, ◌<◌, ◌+◌, ◌%◌, ◌^◌, IsTrue, IfOk, IfErr, None};
 ghost use Rattle.elf_types.specs.Answers.{Follows};
 ghost use Rattle.elf_types.specs.declared.records.Kind.TheVariants as kinds;
-ghost use Rattle.elf_object.specs.Answers.{items_at, lend_refusal, words_of};
+ghost use Rattle.hash_model.specs.elf_object.Answers.{items_at, lend_refusal, words_of};
 ghost use Rattle.symbol_lookup.specs.Walks as walks;
 ghost use Rattle.symbol_lookup.specs.Lookups.{IsBad, Needs};
 ghost use Rattle.symbol_lookup.specs.Searches.{HasWords, IsIndex, IsSysvStart, Searches, Stays};
 
 use crate::fetching::hash_word;
 use crate::walks::{Links, Start, Step};
-use elf_descriptor::Elf;
-use elf_outside::Source;
 use elf_types::{ElfError, ScnId};
+use gelf_view::prelude::Elf;
+use hash_model::prelude::Source;
 
 /// A count at a place, which is not 0; else a bad chain there.
 #[tactic(auto, unfolding(crate::specs::Walks::counted))]

@@ -4,7 +4,7 @@ ghost use Rattle.std.specs.Prelude.{◌≡◌, ◌==◌, IsTrue, IfOk, IfErr, No
 ghost use Rattle.elf_types.specs.declared.errors.ElfError.TheVariants.{BadChain};
 ghost use Rattle.elf_types.specs.Answers.{Follows};
 ghost use Rattle.elf_types.specs.declared.records.Kind.TheVariants as kinds;
-ghost use Rattle.elf_object.specs.Answers.{count_at, lend_refusal};
+ghost use Rattle.hash_model.specs.elf_object.Answers.{count_at, lend_refusal};
 ghost use Rattle.symbol_lookup.specs.Walks as walks;
 ghost use Rattle.symbol_lookup.specs.Lookups.{found_from, is_match, next_on, walked_on, IsBad, Needs};
 ghost use Rattle.symbol_lookup.specs.Searches.{AreLinks, HasLinks, HasTable, IsIndex, IsThere, Searches, Stays};
@@ -14,10 +14,10 @@ use crate::linear::link;
 use crate::matching::is_match;
 use crate::sysv::sysv_next;
 use crate::walks::{Links, Start, Step, Walk};
-use elf_descriptor::Elf;
-use elf_outside::Source;
 use elf_types::{DataId, ElfError, ScnId, Sym};
 use gelf_view::item_count;
+use gelf_view::prelude::Elf;
+use hash_model::prelude::Source;
 
 /// The step from a symbol by the chain words of a hash section.
 #[tactic(auto, unfolding(crate::specs::Lookups::next_on))]

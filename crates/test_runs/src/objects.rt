@@ -3,14 +3,12 @@
 use elf_descriptor::Elf;
 use elf_outside::{MemSink, MemSource, Sink, Source};
 use elf_types::{Addrs, ElfError, Octets};
-use elflint_tool::{LintTool, elflint};
-use lines_tool::lines;
-use nm_tool::nm;
-use object_output::{ObjectTool, show_file};
-use readelf_tool::{ReadelfTool, readelf};
-use size_tool::size;
+use elfkit_run::prelude::{
+    LintTool, ObjectTool, ReadelfTool, elflint_tool_elflint as elflint, lines_tool_lines as lines,
+    nm_tool_nm as nm, readelf_tool_readelf as readelf, show_file, size_tool_size as size,
+    strings_tool_strings as strings,
+};
 use std::alloc::Global;
-use strings_tool::strings;
 use test_images::Image;
 use tool_output::{Outputs, Stop};
 use tool_text::{NmOptions, ReadelfParts, StringsOptions};

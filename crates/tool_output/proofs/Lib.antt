@@ -1,3 +1,4 @@
+pub use Rattle.elf_outside.proofs as elf_outside
 pub mod EndLemmas
 pub mod FileLemmas
 pub mod MadeLemmas

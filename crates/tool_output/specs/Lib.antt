@@ -1,3 +1,4 @@
+pub use Rattle.elf_outside.specs as elf_outside
 pub mod Files
 pub mod Lines
 pub mod Made

@@ -6,6 +6,7 @@ pub mod lines;
 pub mod messages;
 pub mod names;
 pub mod outputs;
+pub mod prelude;
 pub mod statuses;
 pub mod stops;
 

@@ -6,12 +6,12 @@ use Rattle.std.proofs.lemmas.List.FromFn.{length-range_with_len}
 use Rattle.elf_types.specs.declared.errors.ElfError.{ElfError}
 use Rattle.elf_types.specs.Answers.{first_refusal}
 use Rattle.elf_outside.specs.declared.sources.Source.{Ghosts}
-use Rattle.elf_object.specs.Object.{Object}
-use Rattle.elf_object.specs.Due.{homes_due}
-use Rattle.elf_object.specs.Layout.{section_numbers}
-use Rattle.elf_object.specs.Valid.{IsObject}
-use Rattle.elf_descriptor.specs.State.{State}
-use Rattle.command_objects.specs.Split.{UnstripFault, allocated, combined_section, combined_raw_refusal, matches}
+use Rattle.strip_rebuild.specs.elf_object.Object.{Object}
+use Rattle.strip_rebuild.specs.elf_object.Due.{homes_due}
+use Rattle.strip_rebuild.specs.elf_object.Layout.{section_numbers}
+use Rattle.strip_rebuild.specs.elf_object.Valid.{IsObject}
+use Rattle.strip_rebuild.specs.elf_descriptor.State.{State}
+use Rattle.strip_rebuild.specs.command_objects.Split.{UnstripFault, allocated, combined_section, combined_raw_refusal, matches}
 use Rattle.strip_rebuild.specs.Makes.{AsksFor}
 use Rattle.strip_rebuild.proofs.AskLaws.{asks_nothing, asks_twice, asks_more}
 use Rattle.unstrip_join.specs.declared.faults.UnstripFault.{UnstripFault as Fault}

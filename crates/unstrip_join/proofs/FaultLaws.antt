@@ -5,9 +5,9 @@ use Rattle.std.specs.Option.{option_map}
 use Rattle.elf_types.specs.declared.errors.ElfError.{ElfError}
 use Rattle.elf_types.specs.declared.errors.ElfError.TheVariants.{Memory, Read, Write, TooLarge}
 use Rattle.elf_types.specs.Answers.{first_refusal}
-use Rattle.command_objects.specs.Split.{UnstripFault}
-use Rattle.command_objects.specs.Split.{UnstripFault as stated}
-use Rattle.object_making.specs.Refused.{UnreadBy}
+use Rattle.strip_rebuild.specs.command_objects.Split.{UnstripFault}
+use Rattle.strip_rebuild.specs.command_objects.Split.{UnstripFault as stated}
+use Rattle.strip_rebuild.specs.object_making.Refused.{UnreadBy}
 use Rattle.strip_rebuild.proofs.RebuildLaws.{AreSmall}
 use Rattle.unstrip_join.specs.Answers.{UnstripAnswers, FaultBy, EarlyFault}
 

@@ -8,19 +8,19 @@ use Rattle.elf_types.specs.declared.errors.ElfError.TheVariants.{Memory}
 use Rattle.elf_types.specs.Answers.{refused_if, first_refusal, answered}
 use Rattle.elf_outside.specs.Asks.{ReadRose}
 use Rattle.elf_outside.specs.declared.sources.Source.{Ghosts}
-use Rattle.elf_object.specs.Object.{Object, Section, new_section}
-use Rattle.elf_object.specs.Calls.{newphdr_refusal, update_ehdr_refusal}
-use Rattle.elf_object.specs.Calls as calls
-use Rattle.elf_object.specs.Layout.{section_numbers}
-use Rattle.elf_object.specs.Steps.{with_sections}
-use Rattle.elf_object.proofs.AnswerLaws.{answered_value, answered_refusal}
-use Rattle.elf_descriptor.specs.State.{State}
-use Rattle.elf_descriptor.specs.Edits.{stepped}
-use Rattle.command_objects.specs.Rebuilt.{index_refusal}
-use Rattle.command_objects.specs.Split.{UnstripFault, combined_section, combined_sections, combined_raw_refusal, combine_fault, matches}
-use Rattle.command_objects.specs.Split.{UnstripFault as stated}
-use Rattle.object_making.specs.Made.{with_more}
-use Rattle.object_making.specs.Refused.{RefusedBy}
+use Rattle.strip_rebuild.specs.elf_object.Object.{Object, Section, new_section}
+use Rattle.strip_rebuild.specs.elf_object.Calls.{newphdr_refusal, update_ehdr_refusal}
+use Rattle.strip_rebuild.specs.elf_object.Calls as calls
+use Rattle.strip_rebuild.specs.elf_object.Layout.{section_numbers}
+use Rattle.strip_rebuild.specs.elf_object.Steps.{with_sections}
+use Rattle.strip_rebuild.proofs.elf_object.AnswerLaws.{answered_value, answered_refusal}
+use Rattle.strip_rebuild.specs.elf_descriptor.State.{State}
+use Rattle.strip_rebuild.specs.elf_descriptor.Edits.{stepped}
+use Rattle.strip_rebuild.specs.command_objects.Rebuilt.{index_refusal}
+use Rattle.strip_rebuild.specs.command_objects.Split.{UnstripFault, combined_section, combined_sections, combined_raw_refusal, combine_fault, matches}
+use Rattle.strip_rebuild.specs.command_objects.Split.{UnstripFault as stated}
+use Rattle.strip_rebuild.specs.object_making.Made.{with_more}
+use Rattle.strip_rebuild.specs.object_making.Refused.{RefusedBy}
 use Rattle.strip_rebuild.specs.Answers.{IsFilled}
 use Rattle.strip_rebuild.proofs.AskLaws.{asks_as, asks_nothing, asks_memory}
 use Rattle.strip_rebuild.proofs.FillLaws.{has_none, header_states, last_refused, filled_on, rose_on, stated_answer}

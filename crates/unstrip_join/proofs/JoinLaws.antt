@@ -9,21 +9,21 @@ use Rattle.elf_types.specs.declared.errors.ElfError.{ElfError}
 use Rattle.elf_types.specs.declared.errors.ElfError.TheVariants.{Memory, Read, TooLarge}
 use Rattle.elf_types.specs.Answers.{first_refusal, refused_if, answered, ◌>>=◌}
 use Rattle.elf_outside.specs.declared.sources.Source.{Ghosts}
-use Rattle.elf_object.specs.Object.{Object, section_at, absent_section}
-use Rattle.elf_object.specs.Calls.{newphdr_refusal}
-use Rattle.elf_object.specs.Due.{all_sections}
-use Rattle.elf_object.specs.Layout.{section_numbers}
+use Rattle.strip_rebuild.specs.elf_object.Object.{Object, section_at, absent_section}
+use Rattle.strip_rebuild.specs.elf_object.Calls.{newphdr_refusal}
+use Rattle.strip_rebuild.specs.elf_object.Due.{all_sections}
+use Rattle.strip_rebuild.specs.elf_object.Layout.{section_numbers}
 use Rattle.elf_types.specs.declared.constants.TheConstants.{PN_XNUM}
 use Rattle.elf_types.specs.declared.errors.ElfError.TheVariants.{TooMany}
 use Rattle.std.specs.Prelude.{nat_le}
-use Rattle.elf_descriptor.specs.State.{State}
-use Rattle.command_objects.specs.Arranged.{Rebuilt, tail_of, over_base, arranged}
-use Rattle.command_objects.specs.Rebuilt.{assembled, index_refusal, rebuilt_tail}
-use Rattle.command_objects.specs.Split.{UnstripFault, combined_sections, combined_tail, combined_object, combined_raw_refusal, combine_fault, counterpart, matches, or_elf, unstripped}
-use Rattle.command_objects.specs.Split.{UnstripFault as stated}
-use Rattle.elf_object.specs.Answers.{raw_refusal}
-use Rattle.object_making.specs.Based.{IsMadeOver}
-use Rattle.object_making.specs.Placing.{made_of, arranged_refusal, arranged_state}
+use Rattle.strip_rebuild.specs.elf_descriptor.State.{State}
+use Rattle.strip_rebuild.specs.command_objects.Arranged.{Rebuilt, tail_of, over_base, arranged}
+use Rattle.strip_rebuild.specs.command_objects.Rebuilt.{assembled, index_refusal, rebuilt_tail}
+use Rattle.strip_rebuild.specs.command_objects.Split.{UnstripFault, combined_sections, combined_tail, combined_object, combined_raw_refusal, combine_fault, counterpart, matches, or_elf, unstripped}
+use Rattle.strip_rebuild.specs.command_objects.Split.{UnstripFault as stated}
+use Rattle.strip_rebuild.specs.elf_object.Answers.{raw_refusal}
+use Rattle.strip_rebuild.specs.object_making.Based.{IsMadeOver}
+use Rattle.strip_rebuild.specs.object_making.Placing.{made_of, arranged_refusal, arranged_state}
 use Rattle.strip_rebuild.specs.Makes.{AsksFor}
 use Rattle.strip_rebuild.proofs.AskLaws.{asks_as, asks_more, asks_nothing, asks_memory, asks_stop, asks_twice}
 use Rattle.strip_rebuild.proofs.NumberLaws.{sections_all}

@@ -9,12 +9,12 @@ use Rattle.std.proofs.lemmas.List.{drop_more, map-id, take-append-drop, take_mor
 use Rattle.std.proofs.lemmas.List.Elements.{All-filter}
 use Rattle.std.proofs.lemmas.List.FromFn.{get_or-range_with_len, length-range_with_len, take-map-range_with_len}
 use Rattle.std.proofs.lemmas.Option.{get_or_from_slice_get, slice_get-get_or, slice_get_within}
-use Rattle.elf_object.specs.Object.{Object}
-use Rattle.elf_object.specs.Layout.{section_numbers}
-use Rattle.elf_object.specs.Sections.{is_allocated, header_at}
-use Rattle.command_objects.specs.Split.{allocated, counterpart}
-use Rattle.object_making.proofs.NumberLaws.{passing_more, passing_split, passing_position, failing_position}
-use Rattle.strip_removed.proofs.SetLaws.{range_more}
+use Rattle.strip_rebuild.specs.elf_object.Object.{Object}
+use Rattle.strip_rebuild.specs.elf_object.Layout.{section_numbers}
+use Rattle.strip_rebuild.specs.elf_object.Sections.{is_allocated, header_at}
+use Rattle.strip_rebuild.specs.command_objects.Split.{allocated, counterpart}
+use Rattle.strip_rebuild.proofs.object_making.NumberLaws.{passing_more, passing_split, passing_position, failing_position}
+use Rattle.strip_rebuild.proofs.strip_removed.SetLaws.{range_more}
 use Rattle.strip_rebuild.proofs.NumberLaws.{filter_few}
 use Rattle.unstrip_join.specs.Answers.{unallocated}
 use Rattle.unstrip_join.specs.Joined.{allocated_alone, allocated_below, stripped_reads, debug_reads}

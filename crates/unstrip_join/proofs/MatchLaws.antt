@@ -11,13 +11,13 @@ use Rattle.elf_types.specs.declared.records.Ehdr.{Ehdr}
 use Rattle.elf_types.specs.declared.records.Shdr.{Shdr}
 use Rattle.elf_types.specs.declared.errors.ElfError.{ElfError}
 use Rattle.elf_xlate.specs.Headers.{shdr_fits}
-use Rattle.elf_object.specs.Object.{Object, header_of}
-use Rattle.elf_object.specs.Valid.{IsObject}
-use Rattle.object_laws.proofs.KeepLaws.{section_at_is}
-use Rattle.object_laws.proofs.PlacedLaws.{shdr_fits_each, shdr_fits_all}
-use Rattle.update_plan.proofs.RowLaws.{ok_is}
-use Rattle.elf_object.specs.Sections.{header_at}
-use Rattle.command_objects.specs.Split.{same_class, same_header, same_phdr, same_loaded, allocated, allocated_headers, loaded_header, matches}
+use Rattle.strip_rebuild.specs.elf_object.Object.{Object, header_of}
+use Rattle.strip_rebuild.specs.elf_object.Valid.{IsObject}
+use Rattle.strip_rebuild.proofs.object_laws.KeepLaws.{section_at_is}
+use Rattle.strip_rebuild.proofs.object_laws.PlacedLaws.{shdr_fits_each, shdr_fits_all}
+use Rattle.strip_rebuild.proofs.update_plan.RowLaws.{ok_is}
+use Rattle.strip_rebuild.specs.elf_object.Sections.{header_at}
+use Rattle.strip_rebuild.specs.command_objects.Split.{same_class, same_header, same_phdr, same_loaded, allocated, allocated_headers, loaded_header, matches}
 
 -- ---- Two lists
 

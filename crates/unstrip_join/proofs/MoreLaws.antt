@@ -9,15 +9,15 @@ use Rattle.elf_types.specs.declared.errors.ElfError.{ElfError}
 use Rattle.elf_types.specs.declared.errors.ElfError.TheVariants.{Memory}
 use Rattle.elf_outside.specs.declared.sources.Source.{Ghosts}
 use Rattle.elf_xlate.specs.declared.content.Items.{Items}
-use Rattle.elf_object.specs.Object.{Object, Section}
-use Rattle.elf_object.specs.Due.{home_due, homes_due}
-use Rattle.elf_object.specs.Steps.{with_sections}
-use Rattle.elf_descriptor.specs.State.{State}
-use Rattle.elf_descriptor.specs.Reads.{Looks}
-use Rattle.command_objects.specs.Rebuilt.{made_section}
-use Rattle.object_making.specs.Made.{with_more, with_last, grown_to}
-use Rattle.object_making.specs.Making.{reading}
-use Rattle.object_making.proofs.MakingLaws.{one_read, one_unread}
+use Rattle.strip_rebuild.specs.elf_object.Object.{Object, Section}
+use Rattle.strip_rebuild.specs.elf_object.Due.{home_due, homes_due}
+use Rattle.strip_rebuild.specs.elf_object.Steps.{with_sections}
+use Rattle.strip_rebuild.specs.elf_descriptor.State.{State}
+use Rattle.strip_rebuild.specs.elf_descriptor.Reads.{Looks}
+use Rattle.strip_rebuild.specs.command_objects.Rebuilt.{made_section}
+use Rattle.strip_rebuild.specs.object_making.Made.{with_more, with_last, grown_to}
+use Rattle.strip_rebuild.specs.object_making.Making.{reading}
+use Rattle.strip_rebuild.proofs.object_making.MakingLaws.{one_read, one_unread}
 use Rattle.strip_rebuild.specs.Makes.{AsksFor}
 use Rattle.strip_rebuild.proofs.AskLaws.{asks_looks}
 use Rattle.unstrip_join.specs.Joined.{HasMore}

@@ -8,16 +8,16 @@ use Rattle.elf_types.specs.declared.records.Shdr.{Shdr}
 use Rattle.elf_types.specs.declared.errors.ElfError.{ElfError}
 use Rattle.elf_outside.specs.declared.sources.Source.{Ghosts}
 use Rattle.elf_xlate.specs.declared.content.Items.TheVariants as items
-use Rattle.elf_object.specs.Object.{Object, Section, section_at, new_section}
-use Rattle.elf_object.specs.Answers.{raw_refusal}
-use Rattle.elf_object.specs.Due.{homes_due}
-use Rattle.elf_object.specs.Valid.{IsObject}
-use Rattle.elf_descriptor.specs.State.{State}
-use Rattle.elf_object.specs.Sections.{is_allocated, header_at}
-use Rattle.command_objects.specs.Rebuilt.{made_section}
-use Rattle.command_objects.specs.Split.{UnstripFault, allocated, counterpart, loaded_header, combined_section, combined_raw_refusal, matches}
-use Rattle.command_objects.specs.Split.{UnstripFault as stated}
-use Rattle.object_making.specs.Refused.{UnreadBy}
+use Rattle.strip_rebuild.specs.elf_object.Object.{Object, Section, section_at, new_section}
+use Rattle.strip_rebuild.specs.elf_object.Answers.{raw_refusal}
+use Rattle.strip_rebuild.specs.elf_object.Due.{homes_due}
+use Rattle.strip_rebuild.specs.elf_object.Valid.{IsObject}
+use Rattle.strip_rebuild.specs.elf_descriptor.State.{State}
+use Rattle.strip_rebuild.specs.elf_object.Sections.{is_allocated, header_at}
+use Rattle.strip_rebuild.specs.command_objects.Rebuilt.{made_section}
+use Rattle.strip_rebuild.specs.command_objects.Split.{UnstripFault, allocated, counterpart, loaded_header, combined_section, combined_raw_refusal, matches}
+use Rattle.strip_rebuild.specs.command_objects.Split.{UnstripFault as stated}
+use Rattle.strip_rebuild.specs.object_making.Refused.{UnreadBy}
 use Rattle.strip_rebuild.specs.Homes.{bytes_at_home}
 use Rattle.strip_rebuild.specs.Makes.{AsksFor}
 use Rattle.strip_rebuild.proofs.AskLaws.{asks_nothing}

@@ -3,13 +3,13 @@ use Rattle.std.specs.Prelude.{◌≡◌, ℕ, ◌+◌, not, List, [], filter, un
 use Rattle.elf_types.specs.declared.errors.ElfError.{ElfError}
 use Rattle.elf_types.specs.declared.errors.ElfError.TheVariants as errors
 use Rattle.elf_types.specs.declared.errors.ElfError.TheVariants.{Memory, Read, Write}
-use Rattle.elf_object.specs.Object.{Object}
-use Rattle.elf_object.specs.Due.{homes_due}
-use Rattle.elf_object.specs.Layout.{section_numbers}
-use Rattle.command_objects.specs.Arranged.{Rebuilt}
-use Rattle.command_objects.specs.Split.{UnstripFault, allocated, combined_tail}
-use Rattle.command_objects.specs.Split.{UnstripFault as stated}
-use Rattle.elf_object.specs.Sections.{is_allocated, header_at}
+use Rattle.strip_rebuild.specs.elf_object.Object.{Object}
+use Rattle.strip_rebuild.specs.elf_object.Due.{homes_due}
+use Rattle.strip_rebuild.specs.elf_object.Layout.{section_numbers}
+use Rattle.strip_rebuild.specs.command_objects.Arranged.{Rebuilt}
+use Rattle.strip_rebuild.specs.command_objects.Split.{UnstripFault, allocated, combined_tail}
+use Rattle.strip_rebuild.specs.command_objects.Split.{UnstripFault as stated}
+use Rattle.strip_rebuild.specs.elf_object.Sections.{is_allocated, header_at}
 use Rattle.strip_rebuild.specs.declared.rebuilding.Rebuilt.{Rebuilt as Made}
 use Rattle.unstrip_join.specs.declared.faults.UnstripFault.{UnstripFault as Fault}
 use Rattle.unstrip_join.specs.declared.faults.UnstripFault.TheVariants as faults

@@ -2,10 +2,10 @@
 use Rattle.std.specs.Prelude.{◌≡◌, ℕ, ◌&&◌, map, None, Result, IsTrue, IfErr, OnOk}
 use Rattle.elf_types.specs.Answers.{first_refusal}
 use Rattle.elf_outside.specs.declared.sources.Source.{Ghosts}
-use Rattle.elf_object.specs.Layout.{section_numbers}
-use Rattle.elf_descriptor.specs.State.{State}
-use Rattle.command_objects.specs.Arranged.{Rebuilt}
-use Rattle.command_objects.specs.Split.{UnstripFault, combined_sections, combined_raw_refusal, combine_fault, unstripped}
+use Rattle.strip_rebuild.specs.elf_object.Layout.{section_numbers}
+use Rattle.strip_rebuild.specs.elf_descriptor.State.{State}
+use Rattle.strip_rebuild.specs.command_objects.Arranged.{Rebuilt}
+use Rattle.strip_rebuild.specs.command_objects.Split.{UnstripFault, combined_sections, combined_raw_refusal, combine_fault, unstripped}
 use Rattle.strip_rebuild.specs.Answers.{HasSections, IsFilled}
 use Rattle.strip_rebuild.specs.Makes.{AsksFor}
 use Rattle.unstrip_join.specs.declared.faults.UnstripFault.{UnstripFault as Fault}

@@ -3,13 +3,13 @@ use Rattle.std.specs.Prelude.{◌≡◌, ℕ, ◌+◌, ◌-◌, ◌==◌, ◌&&�
 use Rattle.std.specs.List.{range_with_len}
 use Rattle.elf_types.specs.Answers.{first_refusal}
 use Rattle.elf_outside.specs.declared.sources.Source.{Ghosts}
-use Rattle.elf_object.specs.Object.{Object, Section}
-use Rattle.elf_object.specs.Due.{homes_due}
-use Rattle.elf_object.specs.Layout.{section_numbers}
-use Rattle.elf_descriptor.specs.State.{State}
-use Rattle.elf_object.specs.Sections.{is_allocated, header_at}
-use Rattle.command_objects.specs.Split.{counterpart, combined_section, combined_raw_refusal}
-use Rattle.object_making.specs.Made.{with_more}
+use Rattle.strip_rebuild.specs.elf_object.Object.{Object, Section}
+use Rattle.strip_rebuild.specs.elf_object.Due.{homes_due}
+use Rattle.strip_rebuild.specs.elf_object.Layout.{section_numbers}
+use Rattle.strip_rebuild.specs.elf_descriptor.State.{State}
+use Rattle.strip_rebuild.specs.elf_object.Sections.{is_allocated, header_at}
+use Rattle.strip_rebuild.specs.command_objects.Split.{counterpart, combined_section, combined_raw_refusal}
+use Rattle.strip_rebuild.specs.object_making.Made.{with_more}
 use Rattle.strip_rebuild.specs.Makes.{AsksFor}
 use Rattle.unstrip_join.specs.declared.faults.UnstripFault.{UnstripFault as Fault}
 use Rattle.unstrip_join.specs.Answers.{stated_fault, FaultBy, on_stripped, on_debug, homes_of_stripped, debug_due}

@@ -3,19 +3,18 @@
 ghost use Rattle.std.specs.Prelude.{◌≡◌, ◌<◌, ◌∷◌, [], length, true, None, OnOk, IfErr};
 ghost use Rattle.elf_types.specs.declared.constants.TheConstants.{MAX_SECTIONS};
 ghost use Rattle.elf_xlate.specs.Headers.{shdr_fits};
-ghost use Rattle.elf_object.specs.Answers.{raw_refusal};
-ghost use Rattle.elf_object.specs.Due.{homes_due};
-ghost use Rattle.command_objects.specs.Rebuilt.{made_section};
-ghost use Rattle.object_making.specs.Refused.{UnreadBy};
+ghost use Rattle.strip_rebuild.specs.elf_object.Answers.{raw_refusal};
+ghost use Rattle.strip_rebuild.specs.elf_object.Due.{homes_due};
+ghost use Rattle.strip_rebuild.specs.command_objects.Rebuilt.{made_section};
+ghost use Rattle.strip_rebuild.specs.object_making.Refused.{UnreadBy};
 ghost use Rattle.strip_rebuild.specs.Homes.{bytes_at_home};
 ghost use Rattle.strip_rebuild.specs.Makes.{AsksFor};
 ghost use Rattle.unstrip_join.specs.Joined.{HasMore};
 
-use elf_descriptor::Elf;
 use elf_outside::{NoSource, Source};
 use elf_types::{ElfError, ScnId, Shdr};
-use object_making::add_section;
 use strip_rebuild::bytes_at_home;
+use strip_rebuild::prelude::{Elf, add_section};
 
 /// Adds a section with this header, which fits, and the bytes of a section's home behind those of
 /// another object, of which there are some. It refuses as `raw`; and `Memory` and `Read`.

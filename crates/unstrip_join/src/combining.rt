@@ -3,12 +3,12 @@
 ghost use Rattle.std.specs.Prelude.{◌≡◌, ◌<◌, ◌∷◌, [], length, true, None, OnOk, IfErr};
 ghost use Rattle.elf_types.specs.declared.constants.TheConstants.{MAX_SECTIONS};
 ghost use Rattle.elf_xlate.specs.Headers.{shdr_fits};
-ghost use Rattle.elf_object.specs.Answers.{raw_refusal};
-ghost use Rattle.elf_object.specs.Due.{homes_due};
-ghost use Rattle.command_objects.specs.Rebuilt.{made_section};
-ghost use Rattle.command_objects.specs.Split.{allocated, loaded_header, matches};
-ghost use Rattle.elf_object.specs.Sections.{header_at};
-ghost use Rattle.object_making.specs.Refused.{UnreadBy};
+ghost use Rattle.strip_rebuild.specs.elf_object.Answers.{raw_refusal};
+ghost use Rattle.strip_rebuild.specs.elf_object.Due.{homes_due};
+ghost use Rattle.strip_rebuild.specs.command_objects.Rebuilt.{made_section};
+ghost use Rattle.strip_rebuild.specs.command_objects.Split.{allocated, loaded_header, matches};
+ghost use Rattle.strip_rebuild.specs.elf_object.Sections.{header_at};
+ghost use Rattle.strip_rebuild.specs.object_making.Refused.{UnreadBy};
 ghost use Rattle.strip_rebuild.specs.Homes.{bytes_at_home};
 ghost use Rattle.strip_rebuild.specs.Makes.{AsksFor};
 ghost use Rattle.unstrip_join.specs.Joined.{allocated_below, HasMore, AddsNext, AddsAll};
@@ -16,10 +16,9 @@ ghost use Rattle.unstrip_join.specs.Joined.{allocated_below, HasMore, AddsNext, 
 use crate::adding::add_home;
 use crate::faults::UnstripFault;
 use crate::matching::number_at;
-use elf_descriptor::Elf;
 use elf_outside::{NoSource, Source};
 use elf_types::{ElfError, ScnId, Shdr};
-use strip_removed::is_allocated;
+use strip_rebuild::prelude::{Elf, strip_removed_is_allocated as is_allocated};
 
 /// The header of an allocated section: that of the debug half, with the type and the place of the
 /// stripped half.

@@ -2,14 +2,13 @@
 //! sections of both.
 
 ghost use Rattle.std.specs.Prelude.{◌≡◌, [], true};
-ghost use Rattle.command_objects.specs.Split.{allocated, matches};
+ghost use Rattle.strip_rebuild.specs.command_objects.Split.{allocated, matches};
 ghost use Rattle.unstrip_join.specs.Filled.{FillsSections, FillsJoined};
 
 use crate::combining::add_all;
 use crate::faults::UnstripFault;
-use elf_descriptor::Elf;
 use elf_outside::{NoSource, Source};
-use object_making::{copy_segments, finish_header};
+use strip_rebuild::prelude::{Elf, copy_segments, finish_header};
 
 /// Gives an object section 0 and the sections that are made of those of the debug half, where that
 /// has sections. It refuses the first that is refused, and besides `Memory` and `Read`.

@@ -1,9 +1,9 @@
 //! The two halves joined.
 
 ghost use Rattle.std.specs.Prelude.{◌≡◌, false, true, None, IsTrue, OnOk, IfOk, IfErr};
-ghost use Rattle.elf_object.specs.Object.{is_dirty};
-ghost use Rattle.command_objects.specs.Split.{allocated, combine_fault, combined_tail, matches, unstripped};
-ghost use Rattle.object_making.specs.Based.{IsMadeOver};
+ghost use Rattle.strip_rebuild.specs.elf_object.Object.{is_dirty};
+ghost use Rattle.strip_rebuild.specs.command_objects.Split.{allocated, combine_fault, combined_tail, matches, unstripped};
+ghost use Rattle.strip_rebuild.specs.object_making.Based.{IsMadeOver};
 ghost use Rattle.strip_rebuild.specs.Makes.{AsksFor};
 ghost use Rattle.unstrip_join.specs.Answers.{stated_fault, seen_join, joined_as, UnstripAnswers, EarlyFault, on_stripped, on_debug, homes_of_stripped, stripped_due, debug_due};
 ghost use Rattle.unstrip_join.specs.Filled.{Joins};
@@ -12,12 +12,10 @@ use crate::faults::UnstripFault;
 use crate::filling::fill_joined;
 use crate::loaded::allocated;
 use crate::matching::are_halves;
-use elf_descriptor::Elf;
 use elf_outside::{NoSource, Source};
-use object_making::{arrange, create_over_base};
 use std::alloc::Global;
+use strip_rebuild::prelude::{Elf, SectionSet, arrange, create_over_base};
 use strip_rebuild::{Rebuilt, tail_of};
-use strip_removed::SectionSet;
 
 /// Fills an object that was created over the base of the stripped half, and gives what stands
 /// behind the base its places.

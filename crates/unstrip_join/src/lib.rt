@@ -9,6 +9,7 @@ mod filling;
 mod joining;
 mod loaded;
 mod matching;
+pub mod prelude;
 
 pub use combining::loaded_header;
 pub use faults::UnstripFault;

@@ -2,14 +2,13 @@
 
 ghost use Rattle.std.specs.Prelude.{◌≡◌, ◌<◌, ◌++◌, [], length, IfOk, IfErr, OnOk};
 ghost use Rattle.elf_types.specs.declared.errors.ElfError.TheVariants.{Memory};
-ghost use Rattle.command_objects.specs.Split.{allocated};
+ghost use Rattle.strip_rebuild.specs.command_objects.Split.{allocated};
 ghost use Rattle.unstrip_join.specs.Joined.{stands_in_memory, allocated_alone};
 
-use elf_descriptor::Elf;
 use elf_outside::Source;
 use elf_types::{ElfError, List, ScnId, Words};
 use std::alloc::Global;
-use strip_removed::is_allocated;
+use strip_rebuild::prelude::{Elf, strip_removed_is_allocated as is_allocated};
 
 /// Whether a section that is there is allocated, and is not section 0.
 fn stands_in_memory<S: Source>(elf: &Elf<S>, s: ScnId) -> bool

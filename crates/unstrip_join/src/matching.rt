@@ -3,14 +3,14 @@
 ghost use Rattle.std.specs.Prelude.{◌≡◌, ◌<◌, length, slice_get, Some, IfOk, IfErr};
 ghost use Rattle.std.specs.Cmp.Lexicographic.{pointwise};
 ghost use Rattle.elf_types.specs.declared.errors.ElfError.TheVariants.{Memory};
-ghost use Rattle.elf_object.specs.Sections.{header_at};
-ghost use Rattle.command_objects.specs.Split.{same_class, same_order, same_header, same_phdr, same_loaded, allocated, allocated_headers, matches};
+ghost use Rattle.strip_rebuild.specs.elf_object.Sections.{header_at};
+ghost use Rattle.strip_rebuild.specs.command_objects.Split.{same_class, same_order, same_header, same_phdr, same_loaded, allocated, allocated_headers, matches};
 
 use crate::loaded::allocated;
-use elf_descriptor::Elf;
 use elf_outside::Source;
 use elf_types::{Class, Ehdr, ElfError, Order, Phdr, ScnId, Shdr};
 use std::alloc::Global;
+use strip_rebuild::prelude::Elf;
 
 // ---- The headers
 
@@ -48,7 +48,7 @@ fn same_order(a: Order, b: Order) -> bool
 
 /// Whether two ELF headers are those of halves of one program: their class, order, osabi,
 /// abiversion, type, machine, entry and flags are the same.
-#[tactic(auto, unfolding(command_objects::specs::Split::same_header))]
+#[tactic(auto, unfolding(strip_rebuild::specs::Passed::same_header))]
 fn same_header(a: &Ehdr, b: &Ehdr) -> bool
     ensures { result ≡ same_header a.now b.now }
 {
@@ -76,7 +76,7 @@ fn same_headers<S: Source, T: Source>(stripped: &Elf<S>, debug: &Elf<T>) -> bool
 // ---- The program headers
 
 /// Whether all fields of two program headers are the same.
-#[tactic(auto, unfolding(command_objects::specs::Split::same_phdr))]
+#[tactic(auto, unfolding(strip_rebuild::specs::Passed::same_phdr))]
 fn same_phdr(a: &Phdr, b: &Phdr) -> bool
     ensures { result ≡ same_phdr a.now b.now }
 {
@@ -110,7 +110,7 @@ fn same_segments<S: Source, T: Source>(stripped: &Elf<S>, debug: &Elf<T>) -> boo
 // ---- The allocated sections
 
 /// Whether flags, address, size, alignment and entry size of two sections are the same.
-#[tactic(auto, unfolding(command_objects::specs::Split::same_loaded))]
+#[tactic(auto, unfolding(strip_rebuild::specs::Passed::same_loaded))]
 fn same_loaded(a: &Shdr, b: &Shdr) -> bool
     ensures { result ≡ same_loaded a.now b.now }
 {
@@ -169,7 +169,7 @@ fn same_places<S: Source, T: Source>(
 // ---- All of it
 
 /// Whether two objects are halves of one program, by their allocated sections.
-#[tactic(auto, unfolding(command_objects::specs::Split::matches))]
+#[tactic(auto, unfolding(strip_rebuild::specs::Passed::matches))]
 fn matches<S: Source, T: Source>(
     stripped: &Elf<S>,
     loaded: &[u32],

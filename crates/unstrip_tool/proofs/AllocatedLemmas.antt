@@ -8,9 +8,9 @@ use Rattle.elf_object.specs.Layout.{section_numbers}
 use Rattle.elf_object.specs.Sections.{is_among, is_allocated, header_at}
 use Rattle.command_objects.specs.Removed.{removable}
 use Rattle.command_objects.specs.Split.{removed_allocated}
-use Rattle.strip_removed.specs.Steps.{IsRemovable}
-use Rattle.strip_removed.proofs.SetLaws.{filter_filter, among_filter}
-use Rattle.strip_rebuild.proofs.NumberLaws.{zero_stays}
+use Rattle.unstrip_join.specs.strip_removed.Steps.{IsRemovable}
+use Rattle.unstrip_join.proofs.strip_removed.SetLaws.{filter_filter, among_filter}
+use Rattle.unstrip_join.proofs.strip_rebuild.NumberLaws.{zero_stays}
 use Rattle.unstrip_tool.specs.Allocated.{is_lost}
 
 -- ---- The first number of a range that passes

@@ -9,14 +9,14 @@ use Rattle.elf_outside.specs.declared.sources.Source.{Ghosts as SourceGhosts}
 use Rattle.elf_outside.specs.declared.sinks.Sink.{Ghosts as SinkGhosts}
 use Rattle.elf_outside.specs.declared.file_sets.Files.{Ghosts as FilesGhosts}
 use Rattle.elf_object.specs.Object.{Object}
-use Rattle.elf_descriptor.specs.State.{State}
+use Rattle.unstrip_join.specs.elf_descriptor.State.{State}
 use Rattle.tool_output.specs.declared.stops.Stop.{Stop}
 use Rattle.tool_output.specs.declared.outputs.Outputs.{Outputs}
 use Rattle.tool_output.specs.Names.{file_name}
 use Rattle.tool_output.specs.Made.{Done, Complaint, complaint, of_file}
-use Rattle.object_output.specs.Images.{file_object}
-use Rattle.object_output.specs.Refusals.{Refuses}
-use Rattle.object_writing.proofs.WriteLemmas.{DoesHere, refused_does, refused_leaves}
+use Rattle.strip_tool.specs.object_output.Images.{file_object}
+use Rattle.strip_tool.specs.object_output.Refusals.{Refuses}
+use Rattle.strip_tool.proofs.object_writing.WriteLemmas.{DoesHere, refused_does, refused_leaves}
 use Rattle.unstrip_tool.specs.Joins.{held_object, WritesBeside}
 use Rattle.unstrip_tool.proofs.CauseLemmas.{rose_some}
 

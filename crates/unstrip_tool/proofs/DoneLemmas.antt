@@ -10,11 +10,11 @@ use Rattle.command_objects.specs.Arranged.{Rebuilt}
 use Rattle.command_objects.specs.Files.{file_of}
 use Rattle.command_objects.specs.Split.{unstripped, or_elf, UnstripFault}
 use Rattle.command_objects.specs.Split.{UnstripFault as stated}
-use Rattle.command_outcomes.specs.Files.{bytes_named, object_named}
-use Rattle.command_outcomes.specs.Strip.{unstrip_complaint, or_complaint, unstrip_done, unstrip_outcome}
+use Rattle.strip_tool.specs.command_outcomes.Files.{bytes_named, object_named}
+use Rattle.strip_tool.specs.command_outcomes.Strip.{unstrip_complaint, or_complaint, unstrip_done, unstrip_outcome}
 use Rattle.tool_output.specs.Outcomes.{write_of}
 use Rattle.tool_output.specs.Made.{Done, Complaint, made, complaint, of_file, written_outcome}
-use Rattle.object_writing.proofs.NamedLemmas.{unwritten}
+use Rattle.strip_tool.proofs.object_writing.NamedLemmas.{unwritten}
 use Rattle.join_contents.specs.Joining.{file_joined}
 use Rattle.unstrip_join.specs.Answers.{UnstripAnswers}
 use Rattle.unstrip_tool.specs.declared.names.HalfNames.{HalfNames}

@@ -9,7 +9,7 @@ use Rattle.elf_outside.specs.Counts.{Rose}
 use Rattle.elf_outside.specs.declared.sources.Source.{Ghosts as SourceGhosts}
 use Rattle.elf_outside.specs.declared.sinks.Sink.{Ghosts as SinkGhosts}
 use Rattle.elf_outside.specs.declared.file_sets.Files.{Ghosts as FilesGhosts}
-use Rattle.elf_descriptor.specs.State.{State}
+use Rattle.unstrip_join.specs.elf_descriptor.State.{State}
 use Rattle.command_objects.specs.Arranged.{Rebuilt}
 use Rattle.command_objects.specs.Split.{unstripped, UnstripFault as Stated}
 use Rattle.tool_output.specs.declared.stops.Stop.{Stop}
@@ -20,11 +20,11 @@ use Rattle.tool_output.specs.Made.{Done, Complaint, complaint, made, made_file, 
 use Rattle.tool_output.specs.Reports.{Report, no_report}
 use Rattle.tool_output.specs.Statuses.{refused_status}
 use Rattle.tool_output.proofs.UnderWayLemmas.{shown_none}
-use Rattle.object_output.specs.Refusals.{Refuses}
-use Rattle.object_writing.proofs.WriteLemmas.{DoesHere, outputs_leave, said_done, refused_does, refused_leaves}
-use Rattle.image_ranges.specs.Ranges.{bytes_of_source}
-use Rattle.strip_contents.specs.declared.plans.RangedPlan.{RangedPlan}
-use Rattle.strip_contents.specs.Plans.{CopiesAs}
+use Rattle.strip_tool.specs.object_output.Refusals.{Refuses}
+use Rattle.strip_tool.proofs.object_writing.WriteLemmas.{DoesHere, outputs_leave, said_done, refused_does, refused_leaves}
+use Rattle.debug_contents.specs.image_ranges.Ranges.{bytes_of_source}
+use Rattle.debug_contents.specs.strip_contents.declared.plans.RangedPlan.{RangedPlan}
+use Rattle.debug_contents.specs.strip_contents.Plans.{CopiesAs}
 use Rattle.strip_tool.specs.Copies.{IsOverSource}
 use Rattle.unstrip_join.specs.declared.faults.UnstripFault.{UnstripFault}
 use Rattle.unstrip_join.specs.declared.faults.UnstripFault.TheVariants as faults

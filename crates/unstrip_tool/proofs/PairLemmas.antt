@@ -7,13 +7,13 @@ use Rattle.elf_outside.specs.declared.sinks.Sink.{Ghosts as SinkGhosts}
 use Rattle.elf_outside.specs.declared.file_sets.Files.{Ghosts as FilesGhosts}
 use Rattle.source_pair.specs.Pairs.{bytes_of_pair, IsPair}
 use Rattle.source_pair.proofs.LeaveLaws.{pair_leaves}
-use Rattle.elf_descriptor.specs.State.{State}
-use Rattle.elf_descriptor.specs.Views.{source_bytes}
-use Rattle.image_ranges.specs.Images.{ranged_text}
-use Rattle.image_ranges.specs.Ranges.{KeptSource, bytes_of_source, kept_of_source}
-use Rattle.image_ranges.proofs.RangeLaws.{bytes_long}
-use Rattle.strip_contents.specs.declared.plans.RangedPlan.{RangedPlan}
-use Rattle.strip_contents.specs.Plans.{CopiesAs, kept_with}
+use Rattle.unstrip_join.specs.elf_descriptor.State.{State}
+use Rattle.unstrip_join.specs.elf_descriptor.Views.{source_bytes}
+use Rattle.debug_contents.specs.image_ranges.Images.{ranged_text}
+use Rattle.debug_contents.specs.image_ranges.Ranges.{KeptSource, bytes_of_source, kept_of_source}
+use Rattle.debug_contents.proofs.image_ranges.RangeLaws.{bytes_long}
+use Rattle.debug_contents.specs.strip_contents.declared.plans.RangedPlan.{RangedPlan}
+use Rattle.debug_contents.specs.strip_contents.Plans.{CopiesAs, kept_with}
 use Rattle.strip_tool.specs.Copies.{IsOverSource, WritesImage, text_with, plan_text}
 use Rattle.tool_output.specs.declared.stops.Stop.{Stop}
 use Rattle.tool_output.specs.declared.outputs.Outputs.{Outputs}

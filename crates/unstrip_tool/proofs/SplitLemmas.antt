@@ -7,19 +7,19 @@ use Rattle.elf_types.specs.Answers.{answered, ◌>>=◌}
 use Rattle.elf_outside.specs.declared.sources.Source.{Ghosts}
 use Rattle.elf_outside.proofs.AskLemmas.{read_rose_on}
 use Rattle.elf_object.specs.Object.{Object}
-use Rattle.elf_descriptor.specs.State.{State}
+use Rattle.unstrip_join.specs.elf_descriptor.State.{State}
 use Rattle.command_objects.specs.Arranged.{Rebuilt}
 use Rattle.command_objects.specs.Files.{file_of}
 use Rattle.command_objects.specs.Rebuilt.{rebuilt}
 use Rattle.command_objects.specs.Split.{debug_half, debug_refusal, debug_of}
-use Rattle.object_making.specs.Refused.{RefusedBy}
-use Rattle.strip_rebuild.proofs.AskLaws.{asks_as, asks_stop}
-use Rattle.strip_rebuild.proofs.MakeLaws.{refused_quiet, quiet_rose}
-use Rattle.strip_contents.specs.declared.arranged.Arranged.{Arranged}
-use Rattle.strip_contents.specs.declared.contents.Contents.{Contents}
-use Rattle.strip_contents.specs.declared.plans.RangedPlan.{RangedPlan}
-use Rattle.strip_contents.specs.Plans.{IsRangedBy, PlansCopied, FileAnswers, ArrangedAnswers, ArrangesRebuilt, stream_due}
-use Rattle.strip_contents.proofs.AnswerLaws.{copied_file}
+use Rattle.unstrip_join.specs.object_making.Refused.{RefusedBy}
+use Rattle.unstrip_join.proofs.strip_rebuild.AskLaws.{asks_as, asks_stop}
+use Rattle.unstrip_join.proofs.strip_rebuild.MakeLaws.{refused_quiet, quiet_rose}
+use Rattle.debug_contents.specs.strip_contents.declared.arranged.Arranged.{Arranged}
+use Rattle.debug_contents.specs.strip_contents.declared.contents.Contents.{Contents}
+use Rattle.debug_contents.specs.strip_contents.declared.plans.RangedPlan.{RangedPlan}
+use Rattle.debug_contents.specs.strip_contents.Plans.{IsRangedBy, PlansCopied, FileAnswers, ArrangedAnswers, ArrangesRebuilt, stream_due}
+use Rattle.debug_contents.proofs.strip_contents.AnswerLaws.{copied_file}
 use Rattle.debug_contents.specs.Keeping.{KeepsHalf}
 use Rattle.debug_contents.specs.Planning.{PlansHalf}
 use Rattle.unstrip_tool.specs.declared.plans.SplitPlans.{SplitPlans}

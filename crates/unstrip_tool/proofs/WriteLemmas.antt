@@ -12,19 +12,19 @@ use Rattle.elf_outside.specs.declared.sinks.Sink.{Ghosts as SinkGhosts}
 use Rattle.elf_outside.specs.declared.file_sets.Files.{Ghosts as FilesGhosts}
 use Rattle.elf_object.specs.Object.{Object}
 use Rattle.elf_object.specs.Words.{Wants, Answers}
-use Rattle.elf_descriptor.specs.State.{State}
-use Rattle.elf_descriptor.specs.Reads.{Queries}
+use Rattle.unstrip_join.specs.elf_descriptor.State.{State}
+use Rattle.unstrip_join.specs.elf_descriptor.Reads.{Queries}
 use Rattle.command_objects.specs.Arranged.{Rebuilt}
 use Rattle.command_objects.specs.Files.{file_of}
 use Rattle.command_objects.specs.Rebuilt.{rebuilt}
 use Rattle.command_objects.specs.Split.{debug_of, removed_allocated}
-use Rattle.command_outcomes.specs.Strip.{strip_split, allocated_text}
-use Rattle.strip_removed.specs.Calls as calls
-use Rattle.image_ranges.specs.Images.{ranged_text}
-use Rattle.image_ranges.specs.Ranges.{KeptSource, kept_of_source}
-use Rattle.strip_contents.specs.declared.plans.RangedPlan.{RangedPlan}
-use Rattle.strip_contents.specs.Plans.{kept_with}
-use Rattle.strip_contents.proofs.RemovedLaws.{set_is, never_refused}
+use Rattle.strip_tool.specs.command_outcomes.Strip.{strip_split, allocated_text}
+use Rattle.unstrip_join.specs.strip_removed.Calls as calls
+use Rattle.debug_contents.specs.image_ranges.Images.{ranged_text}
+use Rattle.debug_contents.specs.image_ranges.Ranges.{KeptSource, kept_of_source}
+use Rattle.debug_contents.specs.strip_contents.declared.plans.RangedPlan.{RangedPlan}
+use Rattle.debug_contents.specs.strip_contents.Plans.{kept_with}
+use Rattle.debug_contents.proofs.strip_contents.RemovedLaws.{set_is, never_refused}
 use Rattle.strip_tool.specs.Copies.{IsOverSource, text_with}
 use Rattle.strip_tool.proofs.StripLemmas.{over_stays}
 use Rattle.tool_output.specs.declared.stops.Stop.{Stop}
@@ -36,10 +36,10 @@ use Rattle.tool_output.specs.Reports.{Report, Reports, no_report, refusal_report
 use Rattle.tool_output.specs.Statuses.{refused_status}
 use Rattle.tool_output.specs.Made.{Done, Complaint, made_file, complaint, of_file, outcome_with, written_outcome}
 use Rattle.tool_output.proofs.UnderWayLemmas.{shown_none}
-use Rattle.object_output.specs.Refusals.{Refuses}
-use Rattle.object_output.proofs.SourceSteps.{leaves_then}
-use Rattle.object_writing.specs.Writes.{WritesFile}
-use Rattle.object_writing.proofs.WriteLemmas.{DoesHere, outputs_leave, said_done, refused_writes, written_then}
+use Rattle.strip_tool.specs.object_output.Refusals.{Refuses}
+use Rattle.strip_tool.proofs.object_output.SourceSteps.{leaves_then}
+use Rattle.strip_tool.specs.object_writing.Writes.{WritesFile}
+use Rattle.strip_tool.proofs.object_writing.WriteLemmas.{DoesHere, outputs_leave, said_done, refused_writes, written_then}
 use Rattle.unstrip_tool.specs.declared.plans.SplitPlans.{SplitPlans}
 use Rattle.unstrip_tool.specs.declared.names.HalfNames.{HalfNames}
 use Rattle.unstrip_tool.specs.Copies.{WritesHalves}

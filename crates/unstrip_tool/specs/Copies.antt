@@ -13,10 +13,10 @@ use Rattle.tool_output.specs.Made.{made_file, outcome_with}
 use Rattle.tool_output.specs.Outcomes.{Does}
 use Rattle.tool_output.specs.Reports.{no_report}
 use Rattle.tool_output.specs.Statuses.{refused_status}
-use Rattle.object_files.specs.Making.{InOrder}
-use Rattle.image_ranges.specs.Ranges.{bytes_of_source}
-use Rattle.strip_contents.specs.declared.plans.RangedPlan.{RangedPlan}
-use Rattle.strip_contents.specs.Plans.{CopiesAs}
+use Rattle.strip_tool.specs.object_files.Making.{InOrder}
+use Rattle.debug_contents.specs.image_ranges.Ranges.{bytes_of_source}
+use Rattle.debug_contents.specs.strip_contents.declared.plans.RangedPlan.{RangedPlan}
+use Rattle.debug_contents.specs.strip_contents.Plans.{CopiesAs}
 use Rattle.strip_tool.specs.Copies.{MakesPlan, plan_text}
 use Rattle.unstrip_tool.specs.declared.names.HalfNames.{HalfNames}
 use Rattle.unstrip_tool.specs.declared.plans.SplitPlans.{SplitPlans}

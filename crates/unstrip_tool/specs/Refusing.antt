@@ -9,7 +9,7 @@ use Rattle.tool_output.specs.declared.outputs.Outputs.{Outputs}
 use Rattle.tool_output.specs.Names.{file_name}
 use Rattle.tool_output.specs.Reports.{Reports, refusal_report}
 use Rattle.tool_output.specs.Steps.{LeavesOutputs}
-use Rattle.object_output.specs.Refusals.{Refuses}
+use Rattle.strip_tool.specs.object_output.Refusals.{Refuses}
 use Rattle.unstrip_join.specs.declared.faults.UnstripFault.{UnstripFault}
 use Rattle.unstrip_join.specs.declared.faults.UnstripFault.TheVariants as faults
 use Rattle.unstrip_tool.specs.declared.names.HalfNames.{HalfNames}

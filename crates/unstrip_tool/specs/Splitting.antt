@@ -6,13 +6,13 @@ use Rattle.elf_types.specs.Answers.{◌>>=◌}
 use Rattle.elf_outside.specs.Asks.{ReadRose}
 use Rattle.elf_outside.specs.declared.sources.Source.{Ghosts}
 use Rattle.elf_object.specs.Object.{Object}
-use Rattle.elf_descriptor.specs.State.{State}
+use Rattle.unstrip_join.specs.elf_descriptor.State.{State}
 use Rattle.command_objects.specs.Files.{file_of}
 use Rattle.command_objects.specs.Rebuilt.{rebuilt}
 use Rattle.command_objects.specs.Split.{debug_half, debug_of}
-use Rattle.strip_rebuild.specs.Makes.{AsksFor}
-use Rattle.strip_contents.specs.declared.arranged.Arranged.{Arranged}
-use Rattle.strip_contents.specs.Plans.{CopiesAs, IsRangedBy, stream_due}
+use Rattle.unstrip_join.specs.strip_rebuild.Makes.{AsksFor}
+use Rattle.debug_contents.specs.strip_contents.declared.arranged.Arranged.{Arranged}
+use Rattle.debug_contents.specs.strip_contents.Plans.{CopiesAs, IsRangedBy, stream_due}
 use Rattle.unstrip_tool.specs.declared.plans.SplitPlans.{SplitPlans}
 
 -- the bytes of two files, or the first refusal

@@ -2,18 +2,17 @@
 
 ghost use Rattle.std.specs.Prelude.{◌≡◌, ◌<◌, length, codes};
 ghost use Rattle.command_objects.specs.Split.{removed_allocated};
-ghost use Rattle.command_outcomes.specs.Strip.{allocated_text};
-ghost use Rattle.strip_removed.specs.Steps.{IsRemovable};
+ghost use Rattle.strip_tool.specs.command_outcomes.Strip.{allocated_text};
+ghost use Rattle.unstrip_join.specs.strip_removed.Steps.{IsRemovable};
 ghost use Rattle.tool_output.specs.Names.{file_name};
 ghost use Rattle.tool_output.specs.Reports.{Reports, refusal_report};
 ghost use Rattle.tool_output.specs.Steps.{LeavesOutputs};
 ghost use Rattle.unstrip_tool.specs.Allocated.{is_lost};
 
-use elf_descriptor::Elf;
 use elf_outside::{Sink, Source};
 use elf_types::{ElfError, Octets, ScnId, put_numbered};
-use strip_removed::{SectionSet, is_allocated};
 use tool_output::{FileName, Line, Message, Outputs, Stop};
+use unstrip_join::prelude::{Elf, SectionSet, strip_removed_is_allocated as is_allocated};
 
 /// Whether a section that is there is removed and allocated.
 #[tactic(auto, unfolding(crate::specs::Allocated::is_lost))]

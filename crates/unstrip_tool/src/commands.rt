@@ -1,18 +1,16 @@
 //! strip with `-f`, as a command by the image of an open file.
 
 ghost use Rattle.std.specs.Prelude.{codes};
-ghost use Rattle.object_output.specs.Images.{file_object};
-ghost use Rattle.object_writing.specs.Writes.{image_done};
+ghost use Rattle.strip_tool.specs.object_output.Images.{file_object};
+ghost use Rattle.strip_tool.specs.object_writing.Writes.{image_done};
 ghost use Rattle.tool_output.specs.Made.{written_outcome};
 ghost use Rattle.unstrip_tool.specs.Writes.{object_split};
 
 use crate::names::HalfNames;
 use crate::writing::write_halves;
 use elf_outside::{Files, Sink, Source};
-use object_files::FileEdit;
-use object_output::begin_image;
-use object_writing::refuse_for;
 use std::alloc::Global;
+use strip_tool::prelude::{FileEdit, begin_image, refuse_for};
 use tool_output::{Outputs, Stop};
 use tool_text::Args;
 

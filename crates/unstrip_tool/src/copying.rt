@@ -5,10 +5,10 @@ ghost use Rattle.unstrip_tool.specs.Copies.{MakesBoth, WritesHalves, WritesPair}
 
 use crate::names::HalfNames;
 use crate::plans::SplitPlans;
+use debug_contents::prelude::RangedPlan;
 use elf_outside::{Files, Sink, Source};
 use source_pair::SourcePair;
 use std::alloc::Global;
-use strip_contents::RangedPlan;
 use strip_tool::{make_plan, not_refused, write_plan};
 use tool_output::{Outputs, Stop};
 

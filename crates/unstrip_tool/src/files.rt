@@ -5,22 +5,22 @@ ghost use Rattle.elf_outside.specs.Asks.{Leaves};
 ghost use Rattle.elf_outside.specs.Counts.{Rose};
 ghost use Rattle.elf_object.specs.Object.{is_dirty};
 ghost use Rattle.elf_object.specs.Valid.{IsTied};
-ghost use Rattle.strip_laws.specs.Made.{FitsClass};
+ghost use Rattle.debug_contents.specs.strip_laws.Made.{FitsClass};
 ghost use Rattle.strip_tool.specs.Copies.{IsOverSource};
 ghost use Rattle.tool_output.specs.Files.{LeavesFiles};
 ghost use Rattle.tool_output.specs.Outcomes.{Does};
 ghost use Rattle.tool_output.specs.Statuses.{refused_status};
-ghost use Rattle.command_outcomes.specs.Strip.{unstrip_outcome};
+ghost use Rattle.strip_tool.specs.command_outcomes.Strip.{unstrip_outcome};
 ghost use Rattle.unstrip_tool.specs.Joins.{debug_done, halves_joined, WritesBeside};
 
 use crate::joining::join_debug;
 use crate::names::HalfNames;
 use crate::refusing::{refuse_half, refuse_unopened};
-use elf_descriptor::Elf;
 use elf_outside::{Files, Sink, Source};
-use object_output::begin_image;
 use std::alloc::Global;
+use strip_tool::prelude::begin_image;
 use tool_output::{Outputs, Stop};
+use unstrip_join::prelude::Elf;
 
 /// Opens the file of the debug half, joins it to the object of the other half, in which nothing is
 /// dirty, and closes it; only then is the answer looked at. The other file is handed back.

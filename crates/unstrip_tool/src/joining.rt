@@ -4,19 +4,19 @@ ghost use Rattle.std.specs.Prelude.{◌≡◌, ◌⊎◌, ◌<◌, false, IsTrue
 ghost use Rattle.elf_outside.specs.Asks.{Leaves};
 ghost use Rattle.elf_object.specs.Object.{is_dirty};
 ghost use Rattle.elf_object.specs.Valid.{IsTied};
-ghost use Rattle.strip_laws.specs.Made.{FitsClass};
+ghost use Rattle.debug_contents.specs.strip_laws.Made.{FitsClass};
 ghost use Rattle.strip_tool.specs.Copies.{IsOverSource};
 ghost use Rattle.unstrip_tool.specs.Joins.{objects_done, debug_done, WritesBeside};
 
 use crate::copying::write_pair;
 use crate::names::HalfNames;
 use crate::refusing::{refuse_fault, refuse_half};
-use elf_descriptor::Elf;
 use elf_outside::{Files, Sink, Source};
 use join_contents::plan_joined;
-use object_output::begin_image;
 use std::alloc::Global;
+use strip_tool::prelude::begin_image;
 use tool_output::{Outputs, Stop};
+use unstrip_join::prelude::Elf;
 
 /// Writes the image of what two objects, in which nothing is dirty, are halves of to the new file
 /// `out`, range by range of their files, and hands the sources back. Where they are not joined, and

@@ -1,8 +1,8 @@
 //! The command by the name of its file.
 
 ghost use Rattle.std.specs.Prelude.{◌≡◌, ℕ, List, None, IsTrue, codes};
-ghost use Rattle.object_output.specs.Images.{file_object};
-ghost use Rattle.object_writing.specs.Writes.{image_done, named_done};
+ghost use Rattle.strip_tool.specs.object_output.Images.{file_object};
+ghost use Rattle.strip_tool.specs.object_writing.Writes.{image_done, named_done};
 ghost use Rattle.tool_output.specs.Files.{LeavesFiles};
 ghost use Rattle.tool_output.specs.Made.{written_outcome};
 ghost use Rattle.tool_output.specs.Outcomes.{write_of, Does};
@@ -11,8 +11,8 @@ ghost use Rattle.unstrip_tool.specs.Writes.{object_split};
 
 use crate::commands::SplitCommand;
 use elf_outside::{Files, Sink};
-use object_files::edit_file;
 use std::alloc::Global;
+use strip_tool::prelude::edit_file;
 use tool_output::{Outputs, Stop};
 
 /// Opens a file, does the command with its image and closes it; a name that is not there, and what

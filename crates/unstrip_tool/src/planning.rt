@@ -4,20 +4,19 @@ ghost use Rattle.std.specs.Prelude.{◌≡◌, false, None, IsTrue};
 ghost use Rattle.elf_object.specs.Object.{is_dirty};
 ghost use Rattle.elf_object.specs.Valid.{IsObject, IsTied};
 ghost use Rattle.command_objects.specs.Split.{debug_refusal};
-ghost use Rattle.strip_laws.specs.Made.{FitsClass};
-ghost use Rattle.strip_removed.specs.Steps.{IsRemovable};
-ghost use Rattle.strip_contents.specs.Plans.{IsListable};
+ghost use Rattle.debug_contents.specs.strip_laws.Made.{FitsClass};
+ghost use Rattle.unstrip_join.specs.strip_removed.Steps.{IsRemovable};
+ghost use Rattle.debug_contents.specs.strip_contents.Plans.{IsListable};
 ghost use Rattle.debug_contents.specs.Keeping.{HasHalf};
 ghost use Rattle.unstrip_tool.specs.Splitting.{PlansBoth, PlansSplit};
 
 use crate::plans::SplitPlans;
+use debug_contents::prelude::{Arranged, Contents, arrange_rebuilt, plan_arranged};
 use debug_contents::{keep_half, plan_half};
-use elf_descriptor::Elf;
 use elf_outside::Source;
 use elf_types::ElfError;
 use std::alloc::Global;
-use strip_contents::{Arranged, Contents, arrange_rebuilt, plan_arranged};
-use strip_removed::SectionSet;
+use unstrip_join::prelude::{Elf, SectionSet};
 
 /// The plans of what was arranged, and of what the debug half has. It refuses as the update of the
 /// first half, and then as that of the second.

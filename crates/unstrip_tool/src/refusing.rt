@@ -2,13 +2,13 @@
 
 ghost use Rattle.std.specs.Prelude.{codes};
 ghost use Rattle.tool_output.specs.Names.{file_name};
-ghost use Rattle.object_output.specs.Refusals.{Refuses};
+ghost use Rattle.strip_tool.specs.object_output.Refusals.{Refuses};
 ghost use Rattle.unstrip_tool.specs.Refusing.{RefusesWith, RefusesUnopened, RefusesFault};
 
 use crate::names::HalfNames;
 use elf_outside::{OpenFault, Sink};
 use elf_types::ElfError;
-use object_writing::refuse_for;
+use strip_tool::prelude::refuse_for;
 use tool_output::{FileName, Message, Outputs, Stop};
 use unstrip_join::UnstripFault;
 

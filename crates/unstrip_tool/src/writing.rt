@@ -3,11 +3,11 @@
 ghost use Rattle.std.specs.Prelude.{◌≡◌, false, IsTrue, codes};
 ghost use Rattle.elf_object.specs.Object.{is_dirty};
 ghost use Rattle.elf_object.specs.Valid.{IsTied};
-ghost use Rattle.command_outcomes.specs.Strip.{strip_split};
-ghost use Rattle.strip_laws.specs.Made.{FitsClass};
+ghost use Rattle.strip_tool.specs.command_outcomes.Strip.{strip_split};
+ghost use Rattle.debug_contents.specs.strip_laws.Made.{FitsClass};
 ghost use Rattle.tool_output.specs.Made.{written_outcome};
-ghost use Rattle.object_writing.specs.Writes.{WritesFile};
-ghost use Rattle.strip_removed.specs.Steps.{IsRemovable};
+ghost use Rattle.strip_tool.specs.object_writing.Writes.{WritesFile};
+ghost use Rattle.unstrip_join.specs.strip_removed.Steps.{IsRemovable};
 ghost use Rattle.strip_tool.specs.Copies.{IsOverSource};
 ghost use Rattle.unstrip_tool.specs.Splitting.{split_files};
 ghost use Rattle.unstrip_tool.specs.Writes.{split_done, object_split};
@@ -17,12 +17,11 @@ use crate::commands::SplitCommand;
 use crate::copying::write_plans;
 use crate::names::HalfNames;
 use crate::planning::plan_split;
-use elf_descriptor::Elf;
 use elf_outside::{Files, Sink, Source};
-use object_writing::refuse_for;
 use std::alloc::Global;
-use strip_removed::{SectionSet, removed};
+use strip_tool::prelude::refuse_for;
 use tool_output::{Outputs, Stop};
+use unstrip_join::prelude::{Elf, SectionSet, removed};
 
 /// Splits an image, and writes its halves to two new files; what is not made anew is copied range
 /// by range. Where a half or its update is refused, the message says so, and neither file is made.

@@ -22,15 +22,15 @@ use Rattle.elf_object.specs.Due.{is_loaded, update_in_place_due}
 use Rattle.elf_layout.specs.Layout.{MayWantMemory}
 use Rattle.elf_object.specs.Words.{UpdateAnswers}
 use Rattle.elf_object.specs.Calls.{update_null}
-use Rattle.update_plan.proofs.PlacingLaws.{refused_cases}
+use Rattle.elf_update.proofs.update_plan.PlacingLaws.{refused_cases}
 use Rattle.object_laws.specs.Laws.{IsTornImage}
 use Rattle.object_laws.proofs.ImageLaws.{length-image}
 use Rattle.object_laws.proofs.TornLaws.{torn_law}
-use Rattle.writing_laws.specs.Ready.{IsReady}
-use Rattle.writing_laws.proofs.AlikeLaws.{settles_alike}
-use Rattle.elf_descriptor.specs.State.{State}
-use Rattle.elf_descriptor.specs.Settling.{settled_state, cleared}
-use Rattle.update_plan.specs.Placing.{IsRefused}
+use Rattle.elf_update.specs.writing_laws.Ready.{IsReady}
+use Rattle.elf_update.proofs.writing_laws.AlikeLaws.{settles_alike}
+use Rattle.elf_update.specs.elf_descriptor.State.{State}
+use Rattle.elf_update.specs.elf_descriptor.Settling.{settled_state, cleared}
+use Rattle.elf_update.specs.update_plan.Placing.{IsRefused}
 use Rattle.elf_update.proofs.UpdateLaws.{answers_by}
 use Rattle.update_in_place.specs.Updates.{OnEnd, HoldsNothing, HoldsMore, EndsInPlace, UpdatesInPlace, IsUnsettled, WritesInPlace}
 

@@ -8,9 +8,9 @@ use Rattle.elf_object.specs.Answers.{has_dirty, flags_of}
 use Rattle.elf_object.specs.Object.{Object, is_dirty}
 use Rattle.elf_object.specs.Layout.{places_of}
 use Rattle.elf_object.specs.Changed.{front_differs, header_changed, segments_changed, table_changed}
-use Rattle.writing_laws.specs.Ready.{IsReady}
-use Rattle.elf_descriptor.specs.Places.{PartsFitAt}
-use Rattle.elf_descriptor.proofs.FittingPlaces.{updated_places}
+use Rattle.elf_update.specs.writing_laws.Ready.{IsReady}
+use Rattle.elf_update.specs.elf_descriptor.Places.{PartsFitAt}
+use Rattle.elf_update.proofs.elf_descriptor.FittingPlaces.{updated_places}
 use Rattle.update_moves.proofs.SectionLaws.{dirty_bits}
 use Rattle.update_in_place.specs.Fronts.{changes_by}
 

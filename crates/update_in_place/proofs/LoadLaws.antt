@@ -15,9 +15,9 @@ use Rattle.elf_object.specs.Object.{Object, section_at}
 use Rattle.elf_object.specs.Due.{is_loaded, home_due, homes_due, unless_refused, is_refused_unread}
 use Rattle.elf_object.specs.Calls as calls
 use Rattle.elf_object.specs.Calls.{raw_answer}
-use Rattle.elf_descriptor.specs.State.{State}
-use Rattle.elf_descriptor.specs.Reads.{Queries}
-use Rattle.writing_laws.proofs.GapLaws.{split_range}
+use Rattle.elf_update.specs.elf_descriptor.State.{State}
+use Rattle.elf_update.specs.elf_descriptor.Reads.{Queries}
+use Rattle.elf_update.proofs.writing_laws.GapLaws.{split_range}
 use Rattle.update_in_place.specs.Rooms.{tells, CanLoad}
 use Rattle.update_in_place.specs.Loads.{LoadsSome, told_sections, LoadsHomes}
 

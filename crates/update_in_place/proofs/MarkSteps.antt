@@ -17,10 +17,10 @@ use Rattle.elf_object.specs.Layout.{places_of, placed}
 use Rattle.elf_object.specs.Changed.{is_moved, torn}
 use Rattle.object_laws.proofs.ImageLaws.{placed-dirty}
 use Rattle.object_laws.proofs.StandLaws.{section_count-placed}
-use Rattle.elf_descriptor.specs.State.{State}
-use Rattle.writing_laws.specs.Marks.{marked_all, pieces_of, moved_pieces}
-use Rattle.writing_laws.proofs.GapLaws.{split_range, filter_range}
-use Rattle.writing_laws.proofs.MarkLaws.{marks_are_torn}
+use Rattle.elf_update.specs.elf_descriptor.State.{State}
+use Rattle.elf_update.specs.writing_laws.Marks.{marked_all, pieces_of, moved_pieces}
+use Rattle.elf_update.proofs.writing_laws.GapLaws.{split_range, filter_range}
+use Rattle.elf_update.proofs.writing_laws.MarkLaws.{marks_are_torn}
 use Rattle.update_in_place.specs.Rooms.{tells}
 use Rattle.update_in_place.specs.Loads.{told_sections}
 use Rattle.update_in_place.specs.Marks.{told_parts}

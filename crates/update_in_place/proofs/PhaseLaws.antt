@@ -16,10 +16,10 @@ use Rattle.elf_object.specs.Object.{Object, Home, section_at, is_dirty}
 use Rattle.elf_object.specs.Layout.{placed}
 use Rattle.elf_object.specs.Changed.{torn, is_moved, changed_bytes}
 use Rattle.elf_object.specs.Due.{is_loaded, home_due, homes_due, all_sections, unless_unread, is_refused_unread, update_in_place_due}
-use Rattle.writing_laws.specs.Ready.{IsReady}
-use Rattle.writing_laws.specs.Marks.{marked_all}
-use Rattle.writing_laws.proofs.GapLaws.{filter_range}
-use Rattle.elf_descriptor.specs.State.{State}
+use Rattle.elf_update.specs.writing_laws.Ready.{IsReady}
+use Rattle.elf_update.specs.writing_laws.Marks.{marked_all}
+use Rattle.elf_update.proofs.writing_laws.GapLaws.{filter_range}
+use Rattle.elf_update.specs.elf_descriptor.State.{State}
 use Rattle.update_writes.proofs.TornObjects.{home_placed}
 use Rattle.update_in_place.specs.Rooms.{tells, CanLoad}
 use Rattle.update_in_place.specs.Loads.{LoadsSome, told_sections, LoadsHomes}

@@ -10,10 +10,10 @@ use Rattle.elf_object.specs.Answers.{raw_refusal}
 use Rattle.elf_object.specs.Object.{Object, section_at}
 use Rattle.elf_object.specs.Due.{is_loaded}
 use Rattle.elf_object.specs.Words.{Edits}
-use Rattle.elf_descriptor.specs.State.{State}
-use Rattle.elf_descriptor.specs.Fronts.{HoldsBase}
-use Rattle.elf_descriptor.specs.Homes.{out_answer}
-use Rattle.elf_descriptor.specs.Rooms.{with_room_for}
+use Rattle.elf_update.specs.elf_descriptor.State.{State}
+use Rattle.elf_update.specs.elf_descriptor.Fronts.{HoldsBase}
+use Rattle.elf_update.specs.elf_descriptor.Homes.{out_answer}
+use Rattle.elf_update.specs.elf_descriptor.Rooms.{with_room_for}
 use Rattle.update_in_place.specs.Rooms.{tells, KeepsAside, CanLoad, ReservesHomes, IsTaken, TakesMemory}
 
 -- ---- Homes in the file

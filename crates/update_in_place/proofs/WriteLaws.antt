@@ -13,8 +13,8 @@ use Rattle.elf_object.specs.Object.{Object}
 use Rattle.elf_object.specs.Image.{image, image_length}
 use Rattle.elf_object.specs.Changed.{torn, changed_bytes}
 use Rattle.elf_object.specs.Due.{is_loaded, update_in_place_due}
-use Rattle.elf_descriptor.specs.State.{State}
-use Rattle.elf_descriptor.specs.Sound.{IsSound}
+use Rattle.elf_update.specs.elf_descriptor.State.{State}
+use Rattle.elf_update.specs.elf_descriptor.Sound.{IsSound}
 use Rattle.elf_update.specs.declared.updates.PlannedParts.{PlannedParts}
 use Rattle.elf_update.specs.Updates.{IsPlanned}
 use Rattle.update_moves.specs.declared.changes.Changes.{Changes}

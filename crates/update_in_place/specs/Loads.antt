@@ -7,7 +7,7 @@ use Rattle.elf_outside.specs.declared.sources.Source.{Ghosts}
 use Rattle.elf_outside.specs.Asks.{Asks}
 use Rattle.elf_object.specs.Object.{section_at}
 use Rattle.elf_object.specs.Due.{is_loaded, homes_due}
-use Rattle.elf_descriptor.specs.State.{State}
+use Rattle.elf_update.specs.elf_descriptor.State.{State}
 use Rattle.update_in_place.specs.Rooms.{tells}
 
 -- Some sections became loaded, and none but those that a test passes. What was loaded still is, no

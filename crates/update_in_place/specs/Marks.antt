@@ -3,7 +3,7 @@ use Rattle.std.specs.Prelude.{Bool, List, ◌∷◌, length, flat_map}
 use Rattle.elf_types.specs.declared.records.Part.{Part}
 use Rattle.elf_types.specs.declared.records.Part.TheVariants as part
 use Rattle.elf_object.specs.Object.{Object}
-use Rattle.writing_laws.specs.Marks.{pieces_of}
+use Rattle.elf_update.specs.writing_laws.Marks.{pieces_of}
 use Rattle.update_in_place.specs.Loads.{told_sections}
 
 -- the object, and the pieces of the sections that a list tells

@@ -5,9 +5,9 @@ use Rattle.elf_types.specs.declared.errors.ElfError.TheVariants.{Memory}
 use Rattle.elf_outside.specs.declared.sources.Source.{Ghosts}
 use Rattle.elf_object.specs.Object.{section_at}
 use Rattle.elf_object.specs.Due.{is_loaded}
-use Rattle.elf_descriptor.specs.State.{State}
-use Rattle.elf_descriptor.specs.Fronts.{HoldsBase}
-use Rattle.elf_descriptor.specs.Rooms.{has_room_for}
+use Rattle.elf_update.specs.elf_descriptor.State.{State}
+use Rattle.elf_update.specs.elf_descriptor.Fronts.{HoldsBase}
+use Rattle.elf_update.specs.elf_descriptor.Rooms.{has_room_for}
 
 -- whether a list tells it of a section
 abbrev pub tells : List Bool → ℕ → Bool

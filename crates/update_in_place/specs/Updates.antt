@@ -15,7 +15,7 @@ use Rattle.elf_object.specs.Settled.{settled}
 use Rattle.elf_object.specs.Changed.{torn, is_moved, changed_bytes}
 use Rattle.elf_object.specs.Due.{is_loaded, update_in_place_due}
 use Rattle.object_laws.specs.Laws.{IsTornImage}
-use Rattle.elf_descriptor.specs.State.{State}
+use Rattle.elf_update.specs.elf_descriptor.State.{State}
 use Rattle.update_writes.specs.Writes.{LeavesTorn}
 
 -- one fact of an update that ended, one of an update that failed to read, one of one that failed to

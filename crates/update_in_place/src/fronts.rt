@@ -2,15 +2,15 @@
 //! in the image as opened or last settled.
 
 ghost use Rattle.std.specs.Prelude.{◌≡◌};
-ghost use Rattle.elf_descriptor.specs.Fronts.{IsOfFront};
+ghost use Rattle.elf_update.specs.elf_descriptor.Fronts.{IsOfFront};
 ghost use Rattle.elf_update.specs.Updates.{IsPlanned};
 ghost use Rattle.update_moves.specs.Changes.{IsFront};
 ghost use Rattle.update_in_place.specs.Fronts.{changes_by};
 
-use elf_descriptor::Elf;
 use elf_outside::Source;
 use elf_types::Part;
 use elf_update::PlannedParts;
+use elf_update::prelude::Elf;
 use update_moves::{FrontChanges, is_marked, some_section_is_marked};
 
 /// Whether a part of the front changes, of which it is known whether it is marked.

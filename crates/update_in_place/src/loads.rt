@@ -9,9 +9,9 @@ ghost use Rattle.update_in_place.specs.Rooms.{tells, CanLoad};
 ghost use Rattle.update_in_place.specs.Loads.{LoadsSome, LoadsHomes};
 
 use crate::homes::home_is_out;
-use elf_descriptor::Elf;
 use elf_outside::Source;
 use elf_types::{ElfError, ScnId};
+use elf_update::prelude::Elf;
 
 /// Reads the home of a section that is there, where it is in the file and not loaded; memory was
 /// kept aside for it. It refuses `Read` alone.

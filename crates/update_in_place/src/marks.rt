@@ -4,13 +4,12 @@
 ghost use Rattle.std.specs.Prelude.{◌≡◌, ◌<◌, None, length};
 ghost use Rattle.elf_object.specs.Answers.{part_refusal};
 ghost use Rattle.elf_object.specs.Steps.{with_mark};
-ghost use Rattle.writing_laws.specs.Marks.{marked_all, pieces_of};
+ghost use Rattle.elf_update.specs.writing_laws.Marks.{marked_all, pieces_of};
 ghost use Rattle.update_in_place.specs.Marks.{told_parts};
 
-use elf_descriptor::Elf;
 use elf_outside::Source;
 use elf_types::{DIRTY, Part, ScnId};
-use update_plan::count_pieces;
+use elf_update::prelude::{Elf, count_pieces};
 
 /// Marks a part that is there.
 #[tactic(auto, unfolding(elf_object::specs::Calls::flag_refusal, elf_object::specs::Steps::with_flags))]

@@ -5,9 +5,9 @@ ghost use Rattle.elf_types.specs.declared.errors.ElfError.TheVariants.{Memory};
 ghost use Rattle.update_in_place.specs.Rooms.{KeepsAside, CanLoad, ReservesHomes, TakesMemory};
 
 use crate::homes::home_is_out;
-use elf_descriptor::Elf;
 use elf_outside::Source;
 use elf_types::{ElfError, ScnId};
+use elf_update::prelude::Elf;
 
 /// Keeps memory aside for the home of a section that is there, where it is in the file.
 fn reserve_one<S: Source>(elf: &mut Elf<S>, s: u32) -> Result<(), ElfError>

@@ -6,17 +6,17 @@ use Rattle.std.specs.List.{list_any}
 use Rattle.std.proofs.lemmas.Bool.{cases_lt, lt-ltb, le-ltb}
 use Rattle.std.proofs.lemmas.List.{length-replicate, length-map, get_or-map, append-nil, drop_more, drop_all}
 use Rattle.elf_layout.specs.declared.parts.PartAt.{PartAt}
-use Rattle.elf_object.specs.Blocks.{Block, block_end, extents_meet}
-use Rattle.elf_object.specs.Object.{Object, Home}
-use Rattle.elf_object.specs.Open.{no_block}
-use Rattle.elf_object.specs.Image.{kept_base, image_length}
-use Rattle.elf_object.specs.Changed.{when, is_disturbed}
-use Rattle.writing_laws.specs.Lines.{AreInLine}
-use Rattle.writing_laws.specs.Plan.{fill_block, written_blocks, meets_some}
-use Rattle.writing_laws.specs.Ready.{IsReady}
-use Rattle.writing_laws.proofs.LineLaws.{end_is, line_within}
-use Rattle.writing_laws.proofs.PlanLaws.{plan_line}
-use Rattle.writing_laws.proofs.DisturbedLaws.{meeting_from, same_test, disturbed_by_writes}
+use Rattle.elf_update.specs.elf_object.Blocks.{Block, block_end, extents_meet}
+use Rattle.elf_update.specs.elf_object.Object.{Object, Home}
+use Rattle.elf_update.specs.elf_object.Open.{no_block}
+use Rattle.elf_update.specs.elf_object.Image.{kept_base, image_length}
+use Rattle.elf_update.specs.elf_object.Changed.{when, is_disturbed}
+use Rattle.elf_update.specs.writing_laws.Lines.{AreInLine}
+use Rattle.elf_update.specs.writing_laws.Plan.{fill_block, written_blocks, meets_some}
+use Rattle.elf_update.specs.writing_laws.Ready.{IsReady}
+use Rattle.elf_update.proofs.writing_laws.LineLaws.{end_is, line_within}
+use Rattle.elf_update.proofs.writing_laws.PlanLaws.{plan_line}
+use Rattle.elf_update.proofs.writing_laws.DisturbedLaws.{meeting_from, same_test, disturbed_by_writes}
 use Rattle.elf_update.specs.Descriptors.{planned}
 use Rattle.update_moves.specs.declared.extents.Extent.{Extent}
 use Rattle.update_moves.specs.Written.{part_changed, planned_rows, written_between, written_line}

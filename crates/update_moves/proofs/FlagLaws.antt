@@ -8,14 +8,14 @@ use Rattle.std.proofs.lemmas.List.Elements.{All-get_or}
 use Rattle.elf_layout.specs.declared.parts.PartAt.{PartAt}
 use Rattle.elf_layout.specs.Layout.{end_after, in_order_from, standing}
 use Rattle.elf_layout.specs.Meeting.{ranks_by_position}
-use Rattle.elf_object.specs.Blocks.{Block}
-use Rattle.elf_object.specs.Object.{Object}
-use Rattle.elf_object.specs.Open.{no_block}
-use Rattle.elf_object.specs.Layout.{section_part, table_part, parts_of, placed_parts, placed}
-use Rattle.elf_object.specs.Changed.{section_changed}
-use Rattle.writing_laws.specs.Plan.{rank_changed}
-use Rattle.writing_laws.specs.Ready.{IsReady}
-use Rattle.update_plan.specs.Plans.{part_of_rank}
+use Rattle.elf_update.specs.elf_object.Blocks.{Block}
+use Rattle.elf_update.specs.elf_object.Object.{Object}
+use Rattle.elf_update.specs.elf_object.Open.{no_block}
+use Rattle.elf_update.specs.elf_object.Layout.{section_part, table_part, parts_of, placed_parts, placed}
+use Rattle.elf_update.specs.elf_object.Changed.{section_changed}
+use Rattle.elf_update.specs.writing_laws.Plan.{rank_changed}
+use Rattle.elf_update.specs.writing_laws.Ready.{IsReady}
+use Rattle.elf_update.specs.update_plan.Plans.{part_of_rank}
 use Rattle.elf_update.specs.Pieces.{stacked_text, block_at, blocks_at, HasLength}
 use Rattle.elf_update.specs.Descriptors.{stored_pieces, planned}
 use Rattle.elf_update.proofs.PieceLaws.{length-joined_pieces}

@@ -6,24 +6,24 @@ use Rattle.std.specs.List.{list_any, AllByRecursion}
 use Rattle.std.proofs.lemmas.Bool.{cases_lt}
 use Rattle.std.proofs.lemmas.List.Sums.{sum_by-cons, sum_by-append}
 use Rattle.elf_layout.specs.Meeting.{ranks_by_position}
-use Rattle.elf_object.specs.Blocks.{Block, block_end, block_covers, is_covered, extents_meet}
-use Rattle.elf_object.specs.Object.{Object, Home, no_home}
-use Rattle.elf_object.specs.Layout.{placed_parts}
-use Rattle.elf_object.specs.Image.{kept_base, uncovered_byte, image_length, image}
-use Rattle.elf_object.specs.Changed.{when, changed_blocks, changed_bytes}
-use Rattle.object_laws.proofs.StandLaws.{covered_from}
-use Rattle.writing_laws.specs.Lines.{HoldsBlock, IsLeft}
-use Rattle.writing_laws.specs.Plan.{plan, block_of_rank, rank_changed, fill_block, fill_between, fill_blocks, written_blocks, meets_some, bytes_below, written_below, rank_written_below}
-use Rattle.writing_laws.specs.Ready.{IsReady}
-use Rattle.writing_laws.proofs.LineLaws.{covers_from, end_is}
-use Rattle.writing_laws.proofs.HeldLaws.{stands_within}
-use Rattle.writing_laws.proofs.PlanLaws.{plan_line, plan_is_image}
-use Rattle.writing_laws.proofs.RankLaws.{plan_by_rank}
-use Rattle.writing_laws.proofs.SumLaws.{sum_mapped}
-use Rattle.writing_laws.proofs.BelowLaws.{meets_by_sums, written_by_plan}
-use Rattle.writing_laws.proofs.DisturbedLaws.{meeting_from, meeting_to, same_test}
-use Rattle.writing_laws.proofs.UnderWayLaws.{left_start, left_next}
-use Rattle.writing_laws.proofs.WriteLaws.{written_hold, written_stands}
+use Rattle.elf_update.specs.elf_object.Blocks.{Block, block_end, block_covers, is_covered, extents_meet}
+use Rattle.elf_update.specs.elf_object.Object.{Object, Home, no_home}
+use Rattle.elf_update.specs.elf_object.Layout.{placed_parts}
+use Rattle.elf_update.specs.elf_object.Image.{kept_base, uncovered_byte, image_length, image}
+use Rattle.elf_update.specs.elf_object.Changed.{when, changed_blocks, changed_bytes}
+use Rattle.elf_update.proofs.object_laws.StandLaws.{covered_from}
+use Rattle.elf_update.specs.writing_laws.Lines.{HoldsBlock, IsLeft}
+use Rattle.elf_update.specs.writing_laws.Plan.{plan, block_of_rank, rank_changed, fill_block, fill_between, fill_blocks, written_blocks, meets_some, bytes_below, written_below, rank_written_below}
+use Rattle.elf_update.specs.writing_laws.Ready.{IsReady}
+use Rattle.elf_update.proofs.writing_laws.LineLaws.{covers_from, end_is}
+use Rattle.elf_update.proofs.writing_laws.HeldLaws.{stands_within}
+use Rattle.elf_update.proofs.writing_laws.PlanLaws.{plan_line, plan_is_image}
+use Rattle.elf_update.proofs.writing_laws.RankLaws.{plan_by_rank}
+use Rattle.elf_update.proofs.writing_laws.SumLaws.{sum_mapped}
+use Rattle.elf_update.proofs.writing_laws.BelowLaws.{meets_by_sums, written_by_plan}
+use Rattle.elf_update.proofs.writing_laws.DisturbedLaws.{meeting_from, meeting_to, same_test}
+use Rattle.elf_update.proofs.writing_laws.UnderWayLaws.{left_start, left_next}
+use Rattle.elf_update.proofs.writing_laws.WriteLaws.{written_hold, written_stands}
 use Rattle.update_moves.specs.Written.{planned_rows, written_between, written_line}
 
 -- ---- The rows are those of the plan

@@ -5,8 +5,8 @@ use Rattle.std.specs.Prelude.{nat_lt}
 use Rattle.std.specs.List.{list_any}
 use Rattle.std.proofs.lemmas.Bool.{cases_lt, lt-ltb, ltb-true, or_cases, false_from_ne_true}
 use Rattle.std.proofs.lemmas.List.Folds.{list_any_at}
-use Rattle.elf_object.specs.Blocks.{extents_meet}
-use Rattle.writing_laws.proofs.DisturbedLaws.{meeting_from, meeting_to, same_test}
+use Rattle.elf_update.specs.elf_object.Blocks.{extents_meet}
+use Rattle.elf_update.proofs.writing_laws.DisturbedLaws.{meeting_from, meeting_to, same_test}
 use Rattle.update_moves.specs.declared.extents.Extent.{Extent}
 use Rattle.update_moves.specs.Extents.{StandInOrder, no_extent, SplitsAt, meets_extents}
 

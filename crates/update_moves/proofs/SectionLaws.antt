@@ -8,23 +8,23 @@ use Rattle.std.proofs.lemmas.List.{length-map, take_all, get_or_default}
 use Rattle.std.proofs.lemmas.List.Folds.{list_any_more, list_any_at}
 use Rattle.elf_types.specs.Answers.{answered}
 use Rattle.elf_types.specs.declared.records.Part.TheVariants as part
-use Rattle.elf_object.specs.Answers.{no_section, piece_refusal, piece_count, has_dirty, flag_bits, flags_of}
-use Rattle.elf_object.specs.Blocks.{same_extent}
-use Rattle.elf_object.specs.Object.{Object, Section, Piece, absent_section, home_piece, section_at, piece_at, has_file_bytes, some_piece_marked}
-use Rattle.elf_object.specs.Joined.{file_bytes, pieces_end}
+use Rattle.elf_update.specs.elf_object.Answers.{no_section, piece_refusal, piece_count, has_dirty, flag_bits, flags_of}
+use Rattle.elf_update.specs.elf_object.Blocks.{same_extent}
+use Rattle.elf_update.specs.elf_object.Object.{Object, Section, Piece, absent_section, home_piece, section_at, piece_at, has_file_bytes, some_piece_marked}
+use Rattle.elf_update.specs.elf_object.Joined.{file_bytes, pieces_end}
 use Rattle.elf_layout.specs.declared.parts.PartAt.{PartAt}
 use Rattle.elf_layout.specs.declared.parts.Places.{Places}
 use Rattle.elf_layout.specs.Layout.{positions, standing, length_of, places_of as parts_places}
-use Rattle.elf_object.specs.Layout.{section_part, table_part, parts_of, places_of, placed}
-use Rattle.elf_object.specs.Image.{section_block, image_length}
-use Rattle.elf_object.specs.Refusal.{placing_refusal}
-use Rattle.elf_object.specs.Changed.{is_at_home}
-use Rattle.object_laws.proofs.ImageLaws.{placed-dirty, file_bytes_from}
-use Rattle.object_laws.proofs.PlaceLaws.{not_too_large, within_limit}
-use Rattle.object_laws.proofs.PlacedLaws.{size_fits, update_passes}
-use Rattle.object_laws.proofs.StandLaws.{length-row, length-standing, offset-placed}
-use Rattle.writing_laws.specs.Ready.{IsReady}
-use Rattle.update_plan.proofs.PartLaws.{file_some}
+use Rattle.elf_update.specs.elf_object.Layout.{section_part, table_part, parts_of, places_of, placed}
+use Rattle.elf_update.specs.elf_object.Image.{section_block, image_length}
+use Rattle.elf_update.specs.elf_object.Refusal.{placing_refusal}
+use Rattle.elf_update.specs.elf_object.Changed.{is_at_home}
+use Rattle.elf_update.proofs.object_laws.ImageLaws.{placed-dirty, file_bytes_from}
+use Rattle.elf_update.proofs.object_laws.PlaceLaws.{not_too_large, within_limit}
+use Rattle.elf_update.proofs.object_laws.PlacedLaws.{size_fits, update_passes}
+use Rattle.elf_update.proofs.object_laws.StandLaws.{length-row, length-standing, offset-placed}
+use Rattle.elf_update.specs.writing_laws.Ready.{IsReady}
+use Rattle.elf_update.proofs.update_plan.PartLaws.{file_some}
 
 -- ---- Marks
 

@@ -7,15 +7,15 @@ use Rattle.std.proofs.lemmas.List.FromFn.{length-enumerate_from, get_or-enumerat
 use Rattle.elf_types.specs.declared.records.Ehdr.{Ehdr}
 use Rattle.elf_types.specs.declared.records.Shdr.{Shdr}
 use Rattle.elf_layout.specs.declared.parts.Places.{Places}
-use Rattle.elf_object.specs.Object.{Object, Section, absent_section, section_at, is_dirty}
-use Rattle.elf_object.specs.Layout.{placed_header, placed_shdr, placed_section, places_of, placed_by, placed}
-use Rattle.elf_object.specs.Changed.{torn_over, is_moved, torn}
-use Rattle.elf_object.specs.Valid.{IsObject}
-use Rattle.object_laws.specs.Laws.{IsTornImage}
-use Rattle.object_laws.proofs.ImageLaws.{placed-dirty, section_at-placed}
-use Rattle.object_laws.proofs.AgainLaws.{header_again, section_again_at, SameFront}
-use Rattle.object_laws.proofs.TornLaws.{torn-is, torn_front, torn_dirty, torn_law}
-use Rattle.writing_laws.specs.Ready.{IsReady}
+use Rattle.elf_update.specs.elf_object.Object.{Object, Section, absent_section, section_at, is_dirty}
+use Rattle.elf_update.specs.elf_object.Layout.{placed_header, placed_shdr, placed_section, places_of, placed_by, placed}
+use Rattle.elf_update.specs.elf_object.Changed.{torn_over, is_moved, torn}
+use Rattle.elf_update.specs.elf_object.Valid.{IsObject}
+use Rattle.elf_update.specs.object_laws.Laws.{IsTornImage}
+use Rattle.elf_update.proofs.object_laws.ImageLaws.{placed-dirty, section_at-placed}
+use Rattle.elf_update.proofs.object_laws.AgainLaws.{header_again, section_again_at, SameFront}
+use Rattle.elf_update.proofs.object_laws.TornLaws.{torn-is, torn_front, torn_dirty, torn_law}
+use Rattle.elf_update.specs.writing_laws.Ready.{IsReady}
 use Rattle.elf_update.specs.Descriptors.{HasStoredPlaces}
 
 rows_stay : {X : Type 0} (g : ℕ → X → X) (l : List X) (d : X)

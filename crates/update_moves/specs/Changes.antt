@@ -1,8 +1,8 @@
 -- What an update in place writes and moves, as flags (elf_update with ELF_C_WRITE).
 use Rattle.std.specs.Prelude.{◌≡◌, length, map}
 use Rattle.std.specs.List.{range_with_len}
-use Rattle.elf_object.specs.Object.{Object}
-use Rattle.elf_object.specs.Changed.{header_changed, segments_changed, table_changed, is_moved}
+use Rattle.elf_update.specs.elf_object.Object.{Object}
+use Rattle.elf_update.specs.elf_object.Changed.{header_changed, segments_changed, table_changed, is_moved}
 use Rattle.elf_update.specs.declared.updates.PlannedParts.{PlannedParts}
 use Rattle.update_moves.specs.declared.changes.FrontChanges.{FrontChanges}
 use Rattle.update_moves.specs.declared.changes.Changes.{Changes}

@@ -1,8 +1,8 @@
 -- The extents of blocks, and whether a home meets them (gABI chapter 4, "Section Header").
 use Rattle.std.specs.Prelude.{ℕ, ◌-◌, ◌<◌, ◌≤◌, Bool, nat_lt, List, [], ◌∷◌, ◌++◌, length, slice_index_or, if◌then◌else◌}
 use Rattle.std.specs.List.{list_any}
-use Rattle.elf_object.specs.Blocks.{Block, block_end, extents_meet}
-use Rattle.elf_object.specs.Changed.{when}
+use Rattle.elf_update.specs.elf_object.Blocks.{Block, block_end, extents_meet}
+use Rattle.elf_update.specs.elf_object.Changed.{when}
 use Rattle.update_moves.specs.declared.extents.Extent.{Extent}
 
 -- an extent, unless it is empty

@@ -4,12 +4,12 @@ use Rattle.std.specs.Prelude.{ℕ, Bool, false, List, [], ◌∷◌, ◌++◌, m
 use Rattle.elf_types.specs.declared.records.Part.{Part}
 use Rattle.elf_types.specs.declared.records.Part.TheVariants as part
 use Rattle.elf_layout.specs.Meeting.{ranks_by_position}
-use Rattle.elf_object.specs.Blocks.{Block, block_end}
-use Rattle.elf_object.specs.Object.{Object}
-use Rattle.elf_object.specs.Layout.{placed_parts}
-use Rattle.elf_object.specs.Image.{kept_base, image_length}
-use Rattle.elf_object.specs.Changed.{when, header_changed, segments_changed, section_changed, table_changed}
-use Rattle.writing_laws.specs.Plan.{fill_block, block_of_rank, rank_changed}
+use Rattle.elf_update.specs.elf_object.Blocks.{Block, block_end}
+use Rattle.elf_update.specs.elf_object.Object.{Object}
+use Rattle.elf_update.specs.elf_object.Layout.{placed_parts}
+use Rattle.elf_update.specs.elf_object.Image.{kept_base, image_length}
+use Rattle.elf_update.specs.elf_object.Changed.{when, header_changed, segments_changed, section_changed, table_changed}
+use Rattle.elf_update.specs.writing_laws.Plan.{fill_block, block_of_rank, rank_changed}
 
 -- whether a part changes
 unfoldable pub part_changed : Object → Part → Bool

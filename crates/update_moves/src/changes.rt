@@ -9,10 +9,10 @@ ghost use Rattle.update_moves.specs.Changes.{IsFront, TellsChanges};
 use crate::extents::written_extents;
 use crate::moves::list_moves;
 use crate::sections::section_changes;
-use elf_descriptor::Elf;
 use elf_outside::Source;
 use elf_types::{ElfError, List, Part};
 use elf_update::PlannedParts;
+use elf_update::prelude::Elf;
 
 /// Which parts of the front change.
 #[derive(Clone, Copy, Debug, PartialEq, Eq)]

@@ -6,9 +6,9 @@ ghost use Rattle.elf_update.specs.Updates.{IsPlanned};
 ghost use Rattle.update_moves.specs.Written.{part_changed, written_line};
 ghost use Rattle.update_moves.specs.Extents.{some_extent, row_extents, block_extents};
 
-use elf_descriptor::Elf;
 use elf_outside::Source;
 use elf_types::{ElfError, List};
+use elf_update::prelude::Elf;
 use elf_update::{PlannedParts, ground_of};
 
 /// The places from one on and before another.

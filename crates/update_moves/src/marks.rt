@@ -2,18 +2,17 @@
 
 ghost use Rattle.std.specs.Prelude.{◌≡◌, ◌<◌, None, length};
 ghost use Rattle.std.specs.List.{list_any};
-ghost use Rattle.elf_object.specs.Answers.{part_refusal, flags_of, has_dirty};
-ghost use Rattle.elf_object.specs.Object.{section_at, some_piece_marked};
+ghost use Rattle.elf_update.specs.elf_object.Answers.{part_refusal, flags_of, has_dirty};
+ghost use Rattle.elf_update.specs.elf_object.Object.{section_at, some_piece_marked};
 
-use elf_descriptor::Elf;
 use elf_outside::Source;
 use elf_types::{DIRTY, ElfError, Part, ScnId};
-use update_plan::count_pieces;
+use elf_update::prelude::{Elf, count_pieces};
 
 /// Whether a part that is there has a dirty mark. It reads nothing and takes no memory.
 ///
 /// Source: elf_flagelf and its like of elf(3E), ELF_F_DIRTY.
-#[tactic(auto, unfolding(elf_object::specs::Calls::flags_answer))]
+#[tactic(auto, unfolding(elf_update::specs::Passed::flags_answer))]
 pub fn is_marked<S: Source>(elf: &Elf<S>, part: Part) -> bool
     requires { part_refusal elf.now.o part ≡ None }
     ensures { result ≡ has_dirty (flags_of elf.now.o part) }

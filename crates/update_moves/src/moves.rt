@@ -4,8 +4,8 @@
 ghost use Rattle.std.specs.Prelude.{◌≡◌, ◌<◌, length, map, IfOk, IfErr};
 ghost use Rattle.std.specs.List.{range_with_len};
 ghost use Rattle.elf_types.specs.declared.errors.ElfError.TheVariants.{Memory};
-ghost use Rattle.elf_object.specs.Object.{section_at};
-ghost use Rattle.elf_object.specs.Changed.{is_disturbed, is_moved};
+ghost use Rattle.elf_update.specs.elf_object.Object.{section_at};
+ghost use Rattle.elf_update.specs.elf_object.Changed.{is_disturbed, is_moved};
 ghost use Rattle.elf_update.specs.Updates.{IsPlanned};
 ghost use Rattle.update_moves.specs.Written.{written_line};
 ghost use Rattle.update_moves.specs.Extents.{block_extents};
@@ -13,11 +13,10 @@ ghost use Rattle.update_moves.specs.Extents.{block_extents};
 use crate::extents::Extent;
 use crate::meeting::{is_below_end, meets};
 use crate::sections::section_changes;
-use elf_descriptor::Elf;
 use elf_outside::Source;
 use elf_types::{ElfError, List};
 use elf_update::PlannedParts;
-use update_plan::home_extent;
+use elf_update::prelude::{Elf, home_extent};
 
 /// Whether the home of a section that is there meets what is written, or passes the new end.
 fn home_is_disturbed<S: Source>(
@@ -39,7 +38,7 @@ fn home_is_disturbed<S: Source>(
 }
 
 /// Whether a section that is there moves.
-#[tactic(auto, unfolding(elf_object::specs::Changed::is_moved))]
+#[tactic(auto, unfolding(elf_update::specs::Passed::is_moved))]
 fn section_moves<S: Source>(
     elf: &Elf<S>,
     planned: &PlannedParts,

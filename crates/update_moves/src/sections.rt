@@ -1,22 +1,21 @@
 //! Whether a section changes: a piece of it is marked, or it stands elsewhere than its home.
 
 ghost use Rattle.std.specs.Prelude.{◌≡◌, ◌<◌, true, length};
-ghost use Rattle.elf_object.specs.Blocks.{same_extent};
-ghost use Rattle.elf_object.specs.Object.{section_at, has_file_bytes};
-ghost use Rattle.elf_object.specs.Joined.{file_bytes};
-ghost use Rattle.elf_object.specs.Changed.{is_at_home, section_changed};
-ghost use Rattle.writing_laws.specs.Ready.{IsReady};
+ghost use Rattle.elf_update.specs.elf_object.Blocks.{same_extent};
+ghost use Rattle.elf_update.specs.elf_object.Object.{section_at, has_file_bytes};
+ghost use Rattle.elf_update.specs.elf_object.Joined.{file_bytes};
+ghost use Rattle.elf_update.specs.elf_object.Changed.{is_at_home, section_changed};
+ghost use Rattle.elf_update.specs.writing_laws.Ready.{IsReady};
 ghost use Rattle.elf_update.specs.Updates.{IsPlanned};
 
 use crate::marks::some_piece_is_marked;
-use elf_descriptor::Elf;
 use elf_outside::Source;
 use elf_types::ScnId;
 use elf_update::PlannedParts;
-use update_plan::{home_extent, is_in_file};
+use elf_update::prelude::{Elf, home_extent, is_in_file};
 
 /// Whether two extents are alike: empty ones are, wherever they stand.
-#[tactic(auto, unfolding(elf_object::specs::Blocks::same_extent))]
+#[tactic(auto, unfolding(elf_update::specs::Passed::same_extent))]
 fn is_same_extent(at: u64, len: u64, other: u64, other_len: u64) -> bool
     ensures { result ≡ same_extent at len other other_len }
 {
@@ -49,7 +48,7 @@ fn stands_at_home<S: Source>(elf: &Elf<S>, planned: &PlannedParts, s: u32) -> bo
 }
 
 /// Whether a section, which need not be there, changes.
-#[tactic(auto, unfolding(elf_object::specs::Changed::section_changed))]
+#[tactic(auto, unfolding(elf_update::specs::Passed::section_changed))]
 pub(crate) fn section_changes<S: Source>(elf: &Elf<S>, planned: &PlannedParts, s: u32) -> bool
     requires { IsPlanned elf.now.o planned.now }
     ensures { result ≡ section_changed elf.now.o s }

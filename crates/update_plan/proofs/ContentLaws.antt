@@ -8,12 +8,12 @@ use Rattle.elf_types.specs.declared.records.Part.TheVariants as part
 use Rattle.elf_types.specs.declared.errors.ElfError.{ElfError}
 use Rattle.elf_types.specs.declared.errors.ElfError.TheVariants.{Unfit}
 use Rattle.elf_types.specs.Answers.{answered, first_refusal}
-use Rattle.elf_xlate.specs.Headers.{phdr_fits}
-use Rattle.elf_xlate.specs.declared.content.Items.{Items}
-use Rattle.elf_xlate.specs.Translation.{first_unfit}
-use Rattle.elf_object.specs.Object.{Object, Section, Piece, no_phdr, absent_section, home_piece, section_at, piece_at, has_file_bytes}
-use Rattle.elf_object.specs.Answers.{piece_count}
-use Rattle.elf_object.specs.Refusal.{unfit_segment, unfit_in_piece, unfit_in_section, unfit_item, missing_in_section, missing_home}
+use Rattle.elf_descriptor.specs.elf_xlate.Headers.{phdr_fits}
+use Rattle.elf_descriptor.specs.elf_xlate.declared.content.Items.{Items}
+use Rattle.elf_descriptor.specs.elf_xlate.Translation.{first_unfit}
+use Rattle.elf_descriptor.specs.elf_object.Object.{Object, Section, Piece, no_phdr, absent_section, home_piece, section_at, piece_at, has_file_bytes}
+use Rattle.elf_descriptor.specs.elf_object.Answers.{piece_count}
+use Rattle.elf_descriptor.specs.elf_object.Refusal.{unfit_segment, unfit_in_piece, unfit_in_section, unfit_item, missing_in_section, missing_home}
 use Rattle.update_plan.proofs.RowLaws.{NoneBefore, none_more, rows_none, rows_first}
 use Rattle.update_plan.proofs.SegmentLaws.{PassBefore, all_pass, first_fails}
 use Rattle.update_plan.proofs.PlacingLaws.{passed_from, refused_from}

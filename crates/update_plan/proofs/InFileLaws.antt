@@ -2,9 +2,9 @@
 use Rattle.std.proofs.Common.{◌≡◌, ℕ, ◌<◌, ◌≤◌, Bool, true, false, not, ◌&&◌, length, refl, sym, ap, ◌∙◌, ⊎_elim}
 use Rattle.std.specs.Prelude.{◌==◌}
 use Rattle.std.proofs.lemmas.Bool.{cases_lt}
-use Rattle.elf_ident.specs.Front.{zero_shdr}
-use Rattle.elf_object.specs.Object.{Object, section_at, absent_section, has_file_bytes}
-use Rattle.object_laws.proofs.StandLaws.{section_at-past}
+use Rattle.elf_descriptor.specs.elf_ident.Front.{zero_shdr}
+use Rattle.elf_descriptor.specs.elf_object.Object.{Object, section_at, absent_section, has_file_bytes}
+use Rattle.elf_descriptor.proofs.object_laws.StandLaws.{section_at-past}
 
 none_absent : (s : ℕ) → has_file_bytes s absent_section ≡ false
 unfolding has_file_bytes zero_shdr

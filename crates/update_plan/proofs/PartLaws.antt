@@ -10,14 +10,14 @@ use Rattle.elf_types.specs.declared.records.Class.{Class}
 use Rattle.elf_types.specs.declared.records.Class.TheVariants.{C32, C64}
 use Rattle.elf_types.specs.declared.records.Ehdr.{Ehdr}
 use Rattle.elf_types.specs.declared.records.Part.TheVariants as part
-use Rattle.elf_layout.specs.declared.parts.PartAt.{PartAt}
-use Rattle.elf_layout.specs.Capping.{capped}
-use Rattle.elf_xlate.specs.Headers.{ehdr_size, phdr_size, shdr_size}
-use Rattle.elf_object.specs.Answers.{no_section}
-use Rattle.elf_object.specs.Object.{Object, header_of, section_at, has_file_bytes}
-use Rattle.elf_object.specs.Joined.{file_bytes, pieces_end}
-use Rattle.elf_object.specs.Layout.{header_part, segments_part, section_part, table_alignment, table_part, section_numbers, parts_of}
-use Rattle.object_laws.proofs.ImageLaws.{joined-none, length-joined}
+use Rattle.elf_descriptor.specs.elf_layout.declared.parts.PartAt.{PartAt}
+use Rattle.elf_descriptor.specs.elf_layout.Capping.{capped}
+use Rattle.elf_descriptor.specs.elf_xlate.Headers.{ehdr_size, phdr_size, shdr_size}
+use Rattle.elf_descriptor.specs.elf_object.Answers.{no_section}
+use Rattle.elf_descriptor.specs.elf_object.Object.{Object, header_of, section_at, has_file_bytes}
+use Rattle.elf_descriptor.specs.elf_object.Joined.{file_bytes, pieces_end}
+use Rattle.elf_descriptor.specs.elf_object.Layout.{header_part, segments_part, section_part, table_alignment, table_part, section_numbers, parts_of}
+use Rattle.elf_descriptor.proofs.object_laws.ImageLaws.{joined-none, length-joined}
 use Rattle.update_plan.specs.Plans.{no_part, stand_at}
 use Rattle.update_plan.specs.Sections.{capped_section}
 

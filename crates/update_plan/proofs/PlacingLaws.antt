@@ -8,20 +8,20 @@ use Rattle.elf_types.specs.declared.records.Part.{Part}
 use Rattle.elf_types.specs.declared.errors.ElfError.{ElfError}
 use Rattle.elf_types.specs.declared.errors.ElfError.TheVariants.{Memory, Read, Write, Overlap, TooLarge}
 use Rattle.elf_types.specs.Answers.{answered, first_refusal, IsRefusal}
-use Rattle.elf_layout.specs.declared.parts.PartAt.{PartAt}
-use Rattle.elf_layout.specs.declared.parts.Places.{Places}
-use Rattle.elf_layout.specs.Capping.{capped}
-use Rattle.elf_layout.specs.Layout.{refusal_of, refusal_within, overlap_refusal, is_too_large, limit_of, placing, placing_within, layout_refusal, places_of as parts_places, MayWantMemory}
-use Rattle.elf_layout.specs.Meeting.{overlap_of}
-use Rattle.elf_object.specs.Object.{Object, header_of, is_dirty}
-use Rattle.elf_object.specs.Layout.{parts_of, places_of, placed}
-use Rattle.elf_object.specs.Image.{image_length}
-use Rattle.elf_object.specs.Refusal.{content_refusal, placing_refusal, refusal}
-use Rattle.elf_object.specs.Words.{UpdateAnswers, Updates}
-use Rattle.elf_object.specs.Calls.{update_null}
-use Rattle.elf_object.proofs.RefusalLaws.{update_refuses}
-use Rattle.object_laws.specs.Laws.{IsCappedAlike}
-use Rattle.object_laws.proofs.ImageLaws.{placed-clean}
+use Rattle.elf_descriptor.specs.elf_layout.declared.parts.PartAt.{PartAt}
+use Rattle.elf_descriptor.specs.elf_layout.declared.parts.Places.{Places}
+use Rattle.elf_descriptor.specs.elf_layout.Capping.{capped}
+use Rattle.elf_descriptor.specs.elf_layout.Layout.{refusal_of, refusal_within, overlap_refusal, is_too_large, limit_of, placing, placing_within, layout_refusal, places_of as parts_places, MayWantMemory}
+use Rattle.elf_descriptor.specs.elf_layout.Meeting.{overlap_of}
+use Rattle.elf_descriptor.specs.elf_object.Object.{Object, header_of, is_dirty}
+use Rattle.elf_descriptor.specs.elf_object.Layout.{parts_of, places_of, placed}
+use Rattle.elf_descriptor.specs.elf_object.Image.{image_length}
+use Rattle.elf_descriptor.specs.elf_object.Refusal.{content_refusal, placing_refusal, refusal}
+use Rattle.elf_descriptor.specs.elf_object.Words.{UpdateAnswers, Updates}
+use Rattle.elf_descriptor.specs.elf_object.Calls.{update_null}
+use Rattle.elf_descriptor.proofs.elf_object.RefusalLaws.{update_refuses}
+use Rattle.elf_descriptor.specs.object_laws.Laws.{IsCappedAlike}
+use Rattle.elf_descriptor.proofs.object_laws.ImageLaws.{placed-clean}
 use Rattle.elf_descriptor.specs.State.{State}
 use Rattle.update_plan.specs.declared.places.PlacedParts.{PlacedParts}
 use Rattle.update_plan.specs.Placing.{ArePlaced, IsRefused, IsUnplaced}

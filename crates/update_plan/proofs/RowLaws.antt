@@ -6,7 +6,7 @@ use Rattle.std.specs.List.{enumerate_from}
 use Rattle.elf_types.specs.declared.errors.ElfError.{ElfError}
 use Rattle.elf_types.specs.declared.records.Ehdr.{Ehdr}
 use Rattle.elf_types.specs.Answers.{first_refusal}
-use Rattle.elf_object.specs.Object.{Object, header_of}
+use Rattle.elf_descriptor.specs.elf_object.Object.{Object, header_of}
 
 -- what a call that is not refused answers
 pub ok_is : {T : Type 0} (a b : T) → ◌≡◌ {A = Result T ElfError} (Ok a) (Ok b) → a ≡ b

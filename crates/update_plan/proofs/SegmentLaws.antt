@@ -4,7 +4,7 @@ use Rattle.std.specs.List.{position}
 use Rattle.std.proofs.lemmas.Bool.{cases_lt}
 use Rattle.std.proofs.lemmas.List.{get_or_default}
 use Rattle.std.proofs.lemmas.List.Quantifiers.{position-Some}
-use Rattle.elf_xlate.proofs.Pieces.{each_passes}
+use Rattle.elf_descriptor.proofs.elf_xlate.Pieces.{each_passes}
 
 module _ {X : Type 0} (passes : X → Bool) (d : X) (l : List X) where
   -- all before one pass

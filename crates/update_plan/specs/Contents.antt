@@ -1,7 +1,7 @@
 -- Words on what an object has, by number.
 use Rattle.std.specs.Prelude.{ℕ, Bool, slice_index_or}
-use Rattle.elf_xlate.specs.Headers.{phdr_fits}
-use Rattle.elf_object.specs.Object.{Object, no_phdr}
+use Rattle.elf_descriptor.specs.elf_xlate.Headers.{phdr_fits}
+use Rattle.elf_descriptor.specs.elf_object.Object.{Object, no_phdr}
 
 -- whether the program header with a number fits the class
 abbrev pub segment_fits_at : Object → ℕ → Bool

@@ -1,4 +1,13 @@
+pub use Rattle.elf_descriptor.specs as elf_descriptor
+pub use Rattle.elf_descriptor.specs.elf_ident
+pub use Rattle.elf_descriptor.specs.elf_layout
+pub use Rattle.elf_descriptor.specs.elf_object
+pub use Rattle.elf_descriptor.specs.elf_outside
+pub use Rattle.elf_descriptor.specs.elf_xlate
+pub use Rattle.elf_descriptor.specs.object_laws
+pub use Rattle.elf_descriptor.specs.writing_laws
 pub mod Contents
 pub mod Sections
 pub mod Placing
 pub mod Plans
+pub mod Passed

@@ -2,12 +2,12 @@
 use Rattle.std.specs.Prelude.{◌≡◌, ◌⊎◌, Some, None, Result, Err}
 use Rattle.elf_types.specs.declared.errors.ElfError.{ElfError}
 use Rattle.elf_types.specs.declared.errors.ElfError.TheVariants.{Memory}
-use Rattle.elf_layout.specs.declared.parts.Places.{Places}
-use Rattle.elf_layout.specs.Layout.{MayWantMemory}
-use Rattle.elf_object.specs.Object.{Object}
-use Rattle.elf_object.specs.Layout.{parts_of, places_of}
-use Rattle.elf_object.specs.Refusal.{refusal}
-use Rattle.elf_object.specs.Calls.{update_null}
+use Rattle.elf_descriptor.specs.elf_layout.declared.parts.Places.{Places}
+use Rattle.elf_descriptor.specs.elf_layout.Layout.{MayWantMemory}
+use Rattle.elf_descriptor.specs.elf_object.Object.{Object}
+use Rattle.elf_descriptor.specs.elf_object.Layout.{parts_of, places_of}
+use Rattle.elf_descriptor.specs.elf_object.Refusal.{refusal}
+use Rattle.elf_descriptor.specs.elf_object.Calls.{update_null}
 use Rattle.update_plan.specs.declared.places.PlacedParts.{PlacedParts}
 
 -- the parts of an object that is not refused, and their places

@@ -1,7 +1,7 @@
 -- The plan of an image: its parts that are not empty, by their places.
 use Rattle.std.specs.Prelude.{ℕ, false, List, [], ◌∷◌, slice_index_or}
 use Rattle.elf_types.specs.declared.records.Part.TheVariants as part
-use Rattle.elf_layout.specs.declared.parts.PartAt.{PartAt}
+use Rattle.elf_descriptor.specs.elf_layout.declared.parts.PartAt.{PartAt}
 
 -- what stands at a rank that no part has
 abbrev pub no_part : PartAt

@@ -2,20 +2,19 @@
 
 ghost use Rattle.std.specs.Prelude.{◌≡◌, ◌<◌, length};
 ghost use Rattle.elf_types.specs.Answers.{answered};
-ghost use Rattle.elf_object.specs.Object.{section_at, piece_at};
-ghost use Rattle.elf_object.specs.Answers.{piece_count};
+ghost use Rattle.elf_descriptor.specs.elf_object.Object.{section_at, piece_at};
+ghost use Rattle.elf_descriptor.specs.elf_object.Answers.{piece_count};
 ghost use Rattle.update_plan.specs.Contents.{segment_fits_at};
-ghost use Rattle.elf_object.specs.Refusal.{too_many, unfit_segment, unfit_in_piece, unfit_in_section, unfit_item, missing_in_section, missing_home, content_refusal};
+ghost use Rattle.elf_descriptor.specs.elf_object.Refusal.{too_many, unfit_segment, unfit_in_piece, unfit_in_section, unfit_item, missing_in_section, missing_home, content_refusal};
 
 use crate::sections::{count_pieces, has_file_bytes, home_is_clean, section_occupies_file};
+use elf_descriptor::prelude::{Source, phdr_fits, unfit};
 use elf_descriptor::{Elf, Held};
-use elf_outside::Source;
 use elf_types::constants::{PN_XNUM, SHN_LORESERVE};
 use elf_types::{DataId, ElfError, Part, ScnId};
-use elf_xlate::{phdr_fits, unfit};
 
 /// Whether the counts can be told in the header or in section 0; else `TooMany`.
-#[tactic(auto, unfolding(elf_object::specs::Refusal::too_many))]
+#[tactic(auto, unfolding(elf_descriptor::specs::Passed::too_many))]
 fn check_counts<S: Source>(elf: &Elf<S>) -> Result<(), ElfError>
     ensures { result ≡ answered (too_many elf.now.o) tt }
 {
@@ -55,7 +54,7 @@ fn check_segments<S: Source>(elf: &Elf<S>) -> Result<(), ElfError>
 
 /// Whether the items of a piece that is there fit the class; else `Unfit` with the first that does
 /// not.
-#[tactic(auto, unfolding(elf_object::specs::Refusal::unfit_in_piece, elf_object::specs::Answers::piece_refusal, elf_object::specs::Answers::piece_count))]
+#[tactic(auto, unfolding(elf_descriptor::specs::Passed::unfit_in_piece, elf_descriptor::specs::Passed::piece_refusal, elf_descriptor::specs::Passed::piece_count))]
 fn check_piece<S: Source>(elf: &Elf<S>, s: u32, p: u32) -> Result<(), ElfError>
     requires section { s < length elf.now.o.sections }
     requires piece { p < piece_count elf.now.o s }
@@ -113,7 +112,7 @@ fn check_items<S: Source>(elf: &Elf<S>) -> Result<(), ElfError>
 
 /// Whether the home of a section is in the file, where its bytes are to be written; else
 /// `OutOfFile`.
-#[tactic(auto, unfolding(elf_object::specs::Refusal::missing_in_section, elf_descriptor::specs::Homes::out_answer))]
+#[tactic(auto, unfolding(elf_descriptor::specs::Passed::missing_in_section, elf_descriptor::specs::Homes::out_answer))]
 fn check_home<S: Source>(elf: &Elf<S>, s: u32) -> Result<(), ElfError>
     requires { s < length elf.now.o.sections }
     ensures { result ≡ answered (missing_in_section s (section_at elf.now.o s)) tt }
@@ -143,7 +142,7 @@ fn check_homes<S: Source>(elf: &Elf<S>) -> Result<(), ElfError>
 
 /// Whether an update is refused before places are worked out: `TooMany`, `Unfit` and `OutOfFile`,
 /// in this order. It reads nothing and takes no memory.
-#[tactic(auto, unfolding(elf_object::specs::Refusal::content_refusal))]
+#[tactic(auto, unfolding(elf_descriptor::specs::Passed::content_refusal))]
 pub(crate) fn check_contents<S: Source>(elf: &Elf<S>) -> Result<(), ElfError>
     ensures { result ≡ answered (content_refusal elf.now.o) tt }
 {

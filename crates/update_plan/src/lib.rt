@@ -6,6 +6,7 @@ mod contents;
 mod parts;
 mod places;
 mod plans;
+pub mod prelude;
 mod sections;
 
 pub use places::{PlacedParts, has_layout, place_parts, update_null};

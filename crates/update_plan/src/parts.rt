@@ -3,20 +3,18 @@
 
 ghost use Rattle.std.specs.Prelude.{◌≡◌, ◌++◌, ◌-◌, ◌<◌, ◌≤◌, ◌^◌, length, map, min, IfOk, IfErr, OnOk};
 ghost use Rattle.elf_types.specs.declared.errors.ElfError.TheVariants.{Memory};
-ghost use Rattle.elf_layout.specs.Capping.{capped};
-ghost use Rattle.elf_object.specs.Object.{section_at};
-ghost use Rattle.elf_object.specs.Joined.{file_bytes};
-ghost use Rattle.elf_object.specs.Layout as stated;
-ghost use Rattle.elf_object.specs.Valid.{IsObject};
+ghost use Rattle.elf_descriptor.specs.elf_layout.Capping.{capped};
+ghost use Rattle.elf_descriptor.specs.elf_object.Object.{section_at};
+ghost use Rattle.elf_descriptor.specs.elf_object.Joined.{file_bytes};
+ghost use Rattle.elf_descriptor.specs.elf_object.Layout as stated;
+ghost use Rattle.elf_descriptor.specs.elf_object.Valid.{IsObject};
 ghost use Rattle.update_plan.specs.Sections.{capped_section};
 
 use crate::sections::{has_file_bytes, section_occupies_file};
 use elf_descriptor::Elf;
-use elf_layout::{PartAt, Parts};
-use elf_outside::Source;
+use elf_descriptor::prelude::{PartAt, Parts, Source, ehdr_size, phdr_size, shdr_size};
 use elf_types::constants::SHT_NULL;
 use elf_types::{Class, ElfError, Part, ScnId, Shdr};
-use elf_xlate::{ehdr_size, phdr_size, shdr_size};
 
 /// The ELF header as a part.
 fn header_part<S: Source>(elf: &Elf<S>) -> PartAt
@@ -93,7 +91,7 @@ fn file_length<S: Source>(elf: &Elf<S>, s: u32) -> u64
 }
 
 /// A section that is there as a part.
-#[tactic(auto, unfolding(elf_object::specs::Layout::section_part, elf_layout::specs::Capping::capped))]
+#[tactic(auto, unfolding(elf_descriptor::specs::Passed::section_part, elf_descriptor::specs::Passed::capped))]
 fn section_part<S: Source>(elf: &Elf<S>, s: u32) -> PartAt
     requires { s < length elf.now.o.sections }
     ensures { result ≡ capped_section elf.now.o s }
@@ -122,7 +120,7 @@ fn push_sections<S: Source>(elf: &Elf<S>, parts: &mut Parts) -> Result<(), ElfEr
 
 /// The parts of an object's image; a length that passes 2^64 - 1 is told as that. It refuses
 /// `Memory` alone.
-#[tactic(auto, unfolding(elf_object::specs::Layout::parts_of))]
+#[tactic(auto, unfolding(elf_descriptor::specs::Passed::parts_of))]
 pub(crate) fn list_parts<S: Source>(elf: &Elf<S>) -> Result<Parts, ElfError>
     requires { IsObject elf.now.o }
     ensures ok { IfOk result (λ parts. parts ≡ map capped (stated.parts_of elf.now.o)) }

@@ -3,24 +3,22 @@
 ghost use Rattle.std.specs.Prelude.{◌≡◌, true, Ok, length, IfOk, IfErr};
 ghost use Rattle.elf_types.specs.Answers.{answered};
 ghost use Rattle.elf_types.specs.declared.errors.ElfError.TheVariants.{Memory};
-ghost use Rattle.elf_layout.specs.Capping.{capped};
-ghost use Rattle.elf_layout.specs.Layout.{placing, MayWantMemory};
-ghost use Rattle.elf_object.specs.Object.{is_dirty};
-ghost use Rattle.elf_object.specs.Words.{Updates};
-ghost use Rattle.elf_object.specs.Calls as calls;
-ghost use Rattle.elf_object.specs.Layout.{parts_of, places_of};
-ghost use Rattle.elf_object.specs.Refusal.{refusal, content_refusal, placing_refusal};
-ghost use Rattle.object_laws.specs.Laws.{PartsMayBeCapped};
+ghost use Rattle.elf_descriptor.specs.elf_layout.Capping.{capped};
+ghost use Rattle.elf_descriptor.specs.elf_layout.Layout.{placing, MayWantMemory};
+ghost use Rattle.elf_descriptor.specs.elf_object.Object.{is_dirty};
+ghost use Rattle.elf_descriptor.specs.elf_object.Words.{Updates};
+ghost use Rattle.elf_descriptor.specs.elf_object.Calls as calls;
+ghost use Rattle.elf_descriptor.specs.elf_object.Layout.{parts_of, places_of};
+ghost use Rattle.elf_descriptor.specs.elf_object.Refusal.{refusal, content_refusal, placing_refusal};
+ghost use Rattle.elf_descriptor.specs.object_laws.Laws.{PartsMayBeCapped};
 ghost use Rattle.elf_descriptor.specs.Edits.{flagged};
 ghost use Rattle.update_plan.specs.Placing.{ArePlaced, IsRefused, IsUnplaced};
 
 use crate::contents::check_contents;
 use crate::parts::list_parts;
 use elf_descriptor::Elf;
-use elf_layout::{Parts, Places, place};
-use elf_outside::Source;
+use elf_descriptor::prelude::{Parts, Places, Source, parts_may_be_capped, place};
 use elf_types::{ElfError, LAYOUT, Part};
-use object_laws::laws::parts_may_be_capped;
 
 /// The parts of an image, in their order, and where they stand.
 #[derive(Drop)]
@@ -32,7 +30,7 @@ pub struct PlacedParts {
 }
 
 /// Whether the layout is the caller's, `ELF_F_LAYOUT`.
-#[tactic(auto, unfolding(elf_object::specs::Calls::flags_answer, elf_object::specs::Answers::part_refusal, elf_object::specs::Answers::flags_of))]
+#[tactic(auto, unfolding(elf_descriptor::specs::Passed::flags_answer, elf_descriptor::specs::Passed::part_refusal, elf_descriptor::specs::Passed::flags_of))]
 pub fn has_layout<S: Source>(elf: &Elf<S>) -> bool
     ensures { result ≡ elf.now.o.layout }
 {

@@ -2,13 +2,13 @@
 
 ghost use Rattle.std.specs.Prelude.{◌≡◌, ◌<◌, ℕ, All, length, map, slice_index_or, slice_set, IfOk, IfErr};
 ghost use Rattle.elf_types.specs.declared.errors.ElfError.TheVariants.{Memory};
-ghost use Rattle.elf_layout.specs.Layout.{positions, standing};
-ghost use Rattle.elf_layout.specs.Meeting.{ranks_by_position};
-ghost use Rattle.elf_object.specs.Object.{is_dirty};
-ghost use Rattle.elf_object.specs.Layout.{placed_parts, places_of};
+ghost use Rattle.elf_descriptor.specs.elf_layout.Layout.{positions, standing};
+ghost use Rattle.elf_descriptor.specs.elf_layout.Meeting.{ranks_by_position};
+ghost use Rattle.elf_descriptor.specs.elf_object.Object.{is_dirty};
+ghost use Rattle.elf_descriptor.specs.elf_object.Layout.{placed_parts, places_of};
 ghost use Rattle.update_plan.specs.Plans.{no_part, part_of_rank, stand_at};
 
-use elf_layout::{PartAt, Parts, Places, ranks_by_position};
+use elf_descriptor::prelude::{PartAt, Parts, Places, ranks_by_position};
 use elf_types::{ElfError, List};
 use std::alloc::Global;
 

@@ -1,12 +1,11 @@
 //! Small questions on the sections of a descriptor.
 
 ghost use Rattle.std.specs.Prelude.{◌≡◌, ◌<◌, length};
-ghost use Rattle.elf_object.specs.Answers.{piece_count};
-ghost use Rattle.elf_object.specs.Object.{section_at, has_file_bytes, home_is_clean, occupies_file};
+ghost use Rattle.elf_descriptor.specs.elf_object.Answers.{piece_count};
+ghost use Rattle.elf_descriptor.specs.elf_object.Object.{section_at, has_file_bytes, home_is_clean, occupies_file};
 
+use elf_descriptor::prelude::{Source, occupies_file};
 use elf_descriptor::{Elf, Held};
-use elf_object::occupies_file;
-use elf_outside::Source;
 use elf_types::{DataId, ScnId};
 
 /// Whether a section that is there occupies space in the file, by its present type.
@@ -21,7 +20,7 @@ pub(crate) fn section_occupies_file<S: Source>(elf: &Elf<S>, s: ScnId) -> bool
 /// neither has one of type `SHT_NULL` or `SHT_NOBITS`. It reads nothing and takes no memory.
 ///
 /// Source: gABI chapter 4, "Sections".
-#[tactic(auto, unfolding(elf_object::specs::Object::has_file_bytes))]
+#[tactic(auto, unfolding(elf_descriptor::specs::Passed::has_file_bytes))]
 pub fn has_file_bytes<S: Source>(elf: &Elf<S>, s: ScnId) -> bool
     requires { s.0 < length elf.now.o.sections }
     ensures { result ≡ has_file_bytes s.0 (section_at elf.now.o s.0) }
@@ -42,7 +41,7 @@ pub fn is_in_file<S: Source>(elf: &Elf<S>, s: u32) -> bool
 
 /// The place and the length of the home of a section that is there. It reads nothing and takes no
 /// memory.
-#[tactic(auto, unfolding(elf_object::specs::Calls::home_answer))]
+#[tactic(auto, unfolding(elf_descriptor::specs::Passed::home_answer))]
 pub fn home_extent<S: Source>(elf: &Elf<S>, s: u32) -> (u64, u64)
     requires { s < length elf.now.o.sections }
     ensures place { result.0 ≡ (section_at elf.now.o s).home.at }
@@ -55,7 +54,7 @@ pub fn home_extent<S: Source>(elf: &Elf<S>, s: u32) -> (u64, u64)
 }
 
 /// Whether the home piece of a section that is there is its first one and clean.
-#[tactic(auto, unfolding(elf_object::specs::Object::home_is_clean, elf_object::specs::Object::piece_at, elf_object::specs::Answers::piece_refusal, elf_object::specs::Answers::piece_count))]
+#[tactic(auto, unfolding(elf_descriptor::specs::Passed::home_is_clean, elf_descriptor::specs::Passed::piece_at, elf_descriptor::specs::Passed::piece_refusal, elf_descriptor::specs::Passed::piece_count))]
 pub(crate) fn home_is_clean<S: Source>(elf: &Elf<S>, s: ScnId) -> bool
     requires { s.0 < length elf.now.o.sections }
     ensures { result ≡ home_is_clean (section_at elf.now.o s.0) }
@@ -72,7 +71,7 @@ pub(crate) fn home_is_clean<S: Source>(elf: &Elf<S>, s: ScnId) -> bool
 }
 
 /// The number of pieces of a section that is there. It reads nothing and takes no memory.
-#[tactic(auto, unfolding(elf_object::specs::Calls::pieces_answer))]
+#[tactic(auto, unfolding(elf_descriptor::specs::Passed::pieces_answer))]
 pub fn count_pieces<S: Source>(elf: &Elf<S>, s: ScnId) -> u32
     requires { s.0 < length elf.now.o.sections }
     ensures { result ≡ piece_count elf.now.o s.0 }

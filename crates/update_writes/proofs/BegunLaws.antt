@@ -10,24 +10,24 @@ use Rattle.elf_types.specs.declared.records.Part.{Part}
 use Rattle.elf_types.specs.declared.records.Part.TheVariants as part
 use Rattle.elf_layout.specs.declared.parts.PartAt.{PartAt}
 use Rattle.elf_outside.specs.declared.sources.Source.{Ghosts as SourceGhosts}
-use Rattle.elf_object.specs.Blocks.{Block, block_end, extents_meet}
-use Rattle.elf_object.specs.Object.{Object, Section, Home, section_at, is_dirty}
-use Rattle.elf_object.specs.Valid.{IsObject}
-use Rattle.elf_object.specs.Layout.{placed}
-use Rattle.elf_object.specs.Image.{image_length, kept_base}
-use Rattle.elf_object.specs.Changed.{when, is_moved, is_disturbed, section_changed}
-use Rattle.object_laws.specs.Laws.{IsTornImage}
-use Rattle.object_laws.proofs.StandLaws.{section_at-past}
-use Rattle.writing_laws.specs.Lines.{AreInLine}
-use Rattle.writing_laws.specs.Plan.{plan, fill_block, meets_some, written_blocks}
-use Rattle.writing_laws.specs.Ready.{IsReady}
-use Rattle.writing_laws.proofs.LineLaws.{end_is, line_within}
-use Rattle.writing_laws.proofs.PieceLaws.{kept_at_most}
-use Rattle.writing_laws.proofs.PlanLaws.{plan_line}
-use Rattle.writing_laws.specs.Based.{some_unmarked}
-use Rattle.writing_laws.proofs.DisturbedLaws.{disturbed_by_writes, meeting_from}
-use Rattle.elf_descriptor.specs.State.{State}
-use Rattle.elf_descriptor.specs.Cuts.{MayWrite, MaySize, IsKeptApart}
+use Rattle.elf_update.specs.elf_object.Blocks.{Block, block_end, extents_meet}
+use Rattle.elf_update.specs.elf_object.Object.{Object, Section, Home, section_at, is_dirty}
+use Rattle.elf_update.specs.elf_object.Valid.{IsObject}
+use Rattle.elf_update.specs.elf_object.Layout.{placed}
+use Rattle.elf_update.specs.elf_object.Image.{image_length, kept_base}
+use Rattle.elf_update.specs.elf_object.Changed.{when, is_moved, is_disturbed, section_changed}
+use Rattle.elf_update.specs.object_laws.Laws.{IsTornImage}
+use Rattle.elf_update.proofs.object_laws.StandLaws.{section_at-past}
+use Rattle.elf_update.specs.writing_laws.Lines.{AreInLine}
+use Rattle.elf_update.specs.writing_laws.Plan.{plan, fill_block, meets_some, written_blocks}
+use Rattle.elf_update.specs.writing_laws.Ready.{IsReady}
+use Rattle.elf_update.proofs.writing_laws.LineLaws.{end_is, line_within}
+use Rattle.elf_update.proofs.writing_laws.PieceLaws.{kept_at_most}
+use Rattle.elf_update.proofs.writing_laws.PlanLaws.{plan_line}
+use Rattle.elf_update.specs.writing_laws.Based.{some_unmarked}
+use Rattle.elf_update.proofs.writing_laws.DisturbedLaws.{disturbed_by_writes, meeting_from}
+use Rattle.elf_update.specs.elf_descriptor.State.{State}
+use Rattle.elf_update.specs.elf_descriptor.Cuts.{MayWrite, MaySize, IsKeptApart}
 use Rattle.elf_update.specs.declared.updates.PlannedParts.{PlannedParts}
 use Rattle.elf_update.specs.Descriptors.{HasStoredPlaces, stored_pieces, planned}
 use Rattle.elf_update.specs.Pieces.{pieces_length, stacked_text, block_at, blocks_at, HasLength}

@@ -5,17 +5,17 @@ use Rattle.std.specs.Option.{option_map}
 use Rattle.std.proofs.lemmas.Bool.{cases_lt}
 use Rattle.std.proofs.lemmas.List.{length-append, length-take, length-replicate, take_all, take_min, get_or-take, get_or-append_right, get_or_append_left, get_or-replicate, get_or_past}
 use Rattle.elf_outside.specs.Writes.{resized}
-use Rattle.elf_object.specs.Blocks.{Block, is_covered}
-use Rattle.elf_object.specs.Object.{Object}
-use Rattle.elf_object.specs.Image.{image, image_length}
-use Rattle.object_laws.specs.Laws.{IsTornImage}
-use Rattle.object_laws.proofs.ImageLaws.{length-image}
-use Rattle.writing_laws.specs.Lines.{IsUnderWay}
-use Rattle.writing_laws.specs.Based.{IsBased}
-use Rattle.writing_laws.specs.Ready.{IsReady}
-use Rattle.writing_laws.proofs.UnderWayLaws.{under_way_done}
-use Rattle.writing_laws.proofs.DeviceLaws.{under_way_cut}
-use Rattle.writing_laws.proofs.WriteLaws.{unwritten_same, torn_device}
+use Rattle.elf_update.specs.elf_object.Blocks.{Block, is_covered}
+use Rattle.elf_update.specs.elf_object.Object.{Object}
+use Rattle.elf_update.specs.elf_object.Image.{image, image_length}
+use Rattle.elf_update.specs.object_laws.Laws.{IsTornImage}
+use Rattle.elf_update.proofs.object_laws.ImageLaws.{length-image}
+use Rattle.elf_update.specs.writing_laws.Lines.{IsUnderWay}
+use Rattle.elf_update.specs.writing_laws.Based.{IsBased}
+use Rattle.elf_update.specs.writing_laws.Ready.{IsReady}
+use Rattle.elf_update.proofs.writing_laws.UnderWayLaws.{under_way_done}
+use Rattle.elf_update.proofs.writing_laws.DeviceLaws.{under_way_cut}
+use Rattle.elf_update.proofs.writing_laws.WriteLaws.{unwritten_same, torn_device}
 use Rattle.update_moves.specs.Written.{written_line}
 use Rattle.update_moves.proofs.LineLaws.{line_covers}
 use Rattle.update_writes.specs.Writes.{LeavesTorn}

@@ -7,8 +7,8 @@ use Rattle.elf_types.specs.declared.errors.ElfError.TheVariants.{Write}
 use Rattle.elf_outside.specs.declared.sources.Source.{Ghosts as SourceGhosts}
 use Rattle.elf_outside.specs.declared.devices.Device.{Ghosts as DeviceGhosts}
 use Rattle.elf_outside.specs.Patches.{Patches}
-use Rattle.elf_descriptor.specs.State.{State}
-use Rattle.elf_descriptor.specs.Cuts.{CutsBase}
+use Rattle.elf_update.specs.elf_descriptor.State.{State}
+use Rattle.elf_update.specs.elf_descriptor.Cuts.{CutsBase}
 use Rattle.update_writes.specs.Overwrites.{MayOverwrite, Overwrites}
 use Rattle.update_writes.proofs.OverLaws.{may_within, may_after, over_written, over_both, over_stop, over_as}
 

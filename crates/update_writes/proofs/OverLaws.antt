@@ -11,11 +11,11 @@ use Rattle.elf_outside.specs.Patches.{Patches}
 use Rattle.elf_outside.specs.Writes.{written_over, WritesOver, TearsOver}
 use Rattle.elf_outside.proofs.PutLemmas.{patches_both, patches_stop}
 use Rattle.elf_outside.proofs.UseLemmas.{uses_device_none}
-use Rattle.elf_object.specs.Object.{section_at}
-use Rattle.writing_laws.proofs.DisturbedLaws.{meeting_from, meeting_to}
-use Rattle.elf_descriptor.specs.State.{State}
-use Rattle.elf_descriptor.specs.Cuts.{MayWrite, MaySize, CutsBase}
-use Rattle.elf_descriptor.specs.Fronts.{HoldsBase}
+use Rattle.elf_update.specs.elf_object.Object.{section_at}
+use Rattle.elf_update.proofs.writing_laws.DisturbedLaws.{meeting_from, meeting_to}
+use Rattle.elf_update.specs.elf_descriptor.State.{State}
+use Rattle.elf_update.specs.elf_descriptor.Cuts.{MayWrite, MaySize, CutsBase}
+use Rattle.elf_update.specs.elf_descriptor.Fronts.{HoldsBase}
 use Rattle.update_writes.specs.Overwrites.{MayOverwrite, ChangesBase, Overwrites}
 
 -- ---- Whether bytes are told

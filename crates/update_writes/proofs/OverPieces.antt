@@ -7,9 +7,9 @@ use Rattle.elf_types.specs.declared.errors.ElfError.{ElfError}
 use Rattle.elf_layout.specs.Layout.{rounded_up}
 use Rattle.elf_outside.specs.declared.sources.Source.{Ghosts as SourceGhosts}
 use Rattle.elf_outside.specs.declared.devices.Device.{Ghosts as DeviceGhosts}
-use Rattle.elf_object.specs.Blocks.{stacked, last_end}
-use Rattle.object_laws.proofs.PlaceLaws.{rounded_up-ge}
-use Rattle.elf_descriptor.specs.State.{State}
+use Rattle.elf_update.specs.elf_object.Blocks.{stacked, last_end}
+use Rattle.elf_update.proofs.object_laws.PlaceLaws.{rounded_up-ge}
+use Rattle.elf_update.specs.elf_descriptor.State.{State}
 use Rattle.elf_update.specs.Origins.{absent_piece}
 use Rattle.elf_update.specs.Pieces.{filled_piece, pieces_length, joined_from, stacked_text}
 use Rattle.elf_update.proofs.PieceLaws.{joined_step, last_step, last_within, last_none, joined_none}

@@ -12,11 +12,11 @@ use Rattle.elf_outside.specs.Writes.{written_over, IsTornBy}
 use Rattle.elf_outside.specs.Patches.{UsesDevice}
 use Rattle.elf_outside.proofs.PutLemmas.{uses_device_both, uses_device_on}
 use Rattle.elf_outside.proofs.UseLemmas.{uses_device_none, uses_device_as}
-use Rattle.elf_object.specs.Blocks.{Block, block_end, block_covers}
-use Rattle.writing_laws.specs.Lines.{HoldsBlock, IsUnderWay}
-use Rattle.writing_laws.proofs.DeviceLaws.{under_way_written, under_way_failed}
-use Rattle.elf_descriptor.specs.State.{State}
-use Rattle.elf_descriptor.specs.Fronts.{HoldsBase}
+use Rattle.elf_update.specs.elf_object.Blocks.{Block, block_end, block_covers}
+use Rattle.elf_update.specs.writing_laws.Lines.{HoldsBlock, IsUnderWay}
+use Rattle.elf_update.proofs.writing_laws.DeviceLaws.{under_way_written, under_way_failed}
+use Rattle.elf_update.specs.elf_descriptor.State.{State}
+use Rattle.elf_update.specs.elf_descriptor.Fronts.{HoldsBase}
 use Rattle.update_writes.specs.Overwrites.{Overwrites}
 use Rattle.update_writes.specs.Walks.{PutsAll}
 use Rattle.update_moves.proofs.LineLaws.{each_right}

@@ -10,15 +10,15 @@ use Rattle.elf_types.specs.Answers.{first_refusal}
 use Rattle.elf_layout.specs.declared.parts.PartAt.{PartAt}
 use Rattle.elf_layout.specs.declared.parts.Places.{Places}
 use Rattle.elf_layout.specs.Layout.{places_of as parts_places, refusal_of}
-use Rattle.elf_object.specs.Answers.{piece_count}
-use Rattle.elf_object.specs.Object.{Object, Section, section_at, piece_at, header_of, is_dirty, some_section_marked}
-use Rattle.elf_object.specs.Valid.{IsObject}
-use Rattle.elf_object.specs.Joined.{file_bytes, pieces_end, piece_blocks}
-use Rattle.elf_object.specs.Layout.{header_part, segments_part, section_part, table_part, section_numbers, parts_of, places_of, placed_header, placed_shdr, placed_section, placed_by}
-use Rattle.elf_object.specs.Image.{front_blocks}
-use Rattle.elf_object.specs.Refusal.{too_many, unfit_segment, unfit_item, missing_home, content_refusal, placing_refusal, refusal}
-use Rattle.object_laws.proofs.ImageLaws.{placed-dirty}
-use Rattle.elf_descriptor.specs.State.{State}
+use Rattle.elf_update.specs.elf_object.Answers.{piece_count}
+use Rattle.elf_update.specs.elf_object.Object.{Object, Section, section_at, piece_at, header_of, is_dirty, some_section_marked}
+use Rattle.elf_update.specs.elf_object.Valid.{IsObject}
+use Rattle.elf_update.specs.elf_object.Joined.{file_bytes, pieces_end, piece_blocks}
+use Rattle.elf_update.specs.elf_object.Layout.{header_part, segments_part, section_part, table_part, section_numbers, parts_of, places_of, placed_header, placed_shdr, placed_section, placed_by}
+use Rattle.elf_update.specs.elf_object.Image.{front_blocks}
+use Rattle.elf_update.specs.elf_object.Refusal.{too_many, unfit_segment, unfit_item, missing_home, content_refusal, placing_refusal, refusal}
+use Rattle.elf_update.proofs.object_laws.ImageLaws.{placed-dirty}
+use Rattle.elf_update.specs.elf_descriptor.State.{State}
 use Rattle.elf_update.specs.Origins.{absent_piece}
 use Rattle.elf_update.specs.Descriptors.{HasStoredPlaces, stored_pieces, HasToRead}
 use Rattle.elf_update.proofs.DataLaws.{some_there}

@@ -4,13 +4,13 @@ use Rattle.std.proofs.Common.{◌≡◌, ◌⊎◌, ⊎_elim, ℕ, ◌+◌, ◌-
 use Rattle.std.specs.Prelude.{◌==◌, if◌then◌else◌}
 use Rattle.std.proofs.lemmas.Bool.{cases_lt, eqb-true}
 use Rattle.std.proofs.lemmas.List.{length-replicate, get_or-replicate, get_or_past}
-use Rattle.elf_object.specs.Blocks.{Block, block_covers, is_covered}
-use Rattle.object_laws.proofs.StandLaws.{covered_from}
-use Rattle.writing_laws.specs.Lines.{StandsAt, HoldsBlock, IsUnderWay}
-use Rattle.writing_laws.specs.Plan.{fill_block}
-use Rattle.writing_laws.proofs.Bools.{neither}
-use Rattle.writing_laws.proofs.LineLaws.{covers_from}
-use Rattle.writing_laws.proofs.HeldLaws.{stands_from, stands_within, stands_byte, held_byte}
+use Rattle.elf_update.specs.elf_object.Blocks.{Block, block_covers, is_covered}
+use Rattle.elf_update.proofs.object_laws.StandLaws.{covered_from}
+use Rattle.elf_update.specs.writing_laws.Lines.{StandsAt, HoldsBlock, IsUnderWay}
+use Rattle.elf_update.specs.writing_laws.Plan.{fill_block}
+use Rattle.elf_update.proofs.writing_laws.Bools.{neither}
+use Rattle.elf_update.proofs.writing_laws.LineLaws.{covers_from}
+use Rattle.elf_update.proofs.writing_laws.HeldLaws.{stands_from, stands_within, stands_byte, held_byte}
 use Rattle.update_writes.specs.Walks.{put_end}
 
 -- ---- A device on the way

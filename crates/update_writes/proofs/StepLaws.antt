@@ -12,20 +12,20 @@ use Rattle.elf_outside.specs.Writes.{resized, Resizes, ResizesOrNot}
 use Rattle.elf_outside.specs.Patches.{UsesDevice}
 use Rattle.elf_outside.proofs.PutLemmas.{uses_device_both, uses_device_on}
 use Rattle.elf_outside.proofs.UseLemmas.{uses_device_as}
-use Rattle.elf_object.specs.Blocks.{Block}
-use Rattle.elf_object.specs.Object.{Object}
-use Rattle.elf_object.specs.Image.{image, image_length}
-use Rattle.elf_object.specs.Changed.{changed_bytes}
-use Rattle.object_laws.proofs.ImageLaws.{length-image}
-use Rattle.writing_laws.specs.Lines.{IsUnderWay}
-use Rattle.writing_laws.specs.Based.{IsBased}
-use Rattle.elf_object.specs.Due.{is_loaded}
-use Rattle.elf_descriptor.specs.State.{State}
-use Rattle.elf_descriptor.specs.Cuts.{CutsBase}
+use Rattle.elf_update.specs.elf_object.Blocks.{Block}
+use Rattle.elf_update.specs.elf_object.Object.{Object}
+use Rattle.elf_update.specs.elf_object.Image.{image, image_length}
+use Rattle.elf_update.specs.elf_object.Changed.{changed_bytes}
+use Rattle.elf_update.proofs.object_laws.ImageLaws.{length-image}
+use Rattle.elf_update.specs.writing_laws.Lines.{IsUnderWay}
+use Rattle.elf_update.specs.writing_laws.Based.{IsBased}
+use Rattle.elf_update.specs.elf_object.Due.{is_loaded}
+use Rattle.elf_update.specs.elf_descriptor.State.{State}
+use Rattle.elf_update.specs.elf_descriptor.Cuts.{CutsBase}
 use Rattle.elf_update.specs.declared.updates.PlannedParts.{PlannedParts}
 use Rattle.update_moves.specs.Written.{written_line}
 use Rattle.update_moves.proofs.LineLaws.{line_holds, line_count}
-use Rattle.writing_laws.proofs.UnderWayLaws.{under_way_torn}
+use Rattle.elf_update.proofs.writing_laws.UnderWayLaws.{under_way_torn}
 use Rattle.update_writes.specs.Walks.{PutsAll}
 use Rattle.update_writes.specs.Writes.{IsMarkedAndLoaded, LeavesTorn, WritesChanges}
 use Rattle.update_writes.proofs.TornObjects.{torn_rebased, torn_base}

@@ -12,18 +12,18 @@ use Rattle.elf_types.specs.declared.records.Shdr.{Shdr}
 use Rattle.elf_types.specs.declared.records.Part.{Part}
 use Rattle.elf_types.specs.declared.records.Part.TheVariants as part
 use Rattle.elf_layout.specs.declared.parts.Places.{Places}
-use Rattle.elf_object.specs.Object.{Object, Section, Piece, WrittenFront, absent_section, section_at, has_file_bytes, is_dirty}
-use Rattle.elf_object.specs.Joined.{aligned_pieces, piece_bytes}
+use Rattle.elf_update.specs.elf_object.Object.{Object, Section, Piece, WrittenFront, absent_section, section_at, has_file_bytes, is_dirty}
+use Rattle.elf_update.specs.elf_object.Joined.{aligned_pieces, piece_bytes}
 use Rattle.elf_xlate.specs.Translation.{encoded}
-use Rattle.elf_object.specs.Layout.{places_of, placed_section, placed_by, placed}
-use Rattle.elf_object.specs.Image.{front_blocks, kept_base}
-use Rattle.elf_object.specs.Changed.{is_moved, marked_piece, torn_section, torn_over, torn}
-use Rattle.elf_object.proofs.ChangedLaws.{torn-dirty}
-use Rattle.object_laws.proofs.ImageLaws.{placed-dirty, section_at-placed}
-use Rattle.object_laws.proofs.StandLaws.{section_count-placed, section_at-past}
-use Rattle.object_laws.proofs.AgainLaws.{front_again}
-use Rattle.object_laws.proofs.TornLaws.{torn-is, torn_front}
-use Rattle.writing_laws.specs.Based.{some_unmarked}
+use Rattle.elf_update.specs.elf_object.Layout.{places_of, placed_section, placed_by, placed}
+use Rattle.elf_update.specs.elf_object.Image.{front_blocks, kept_base}
+use Rattle.elf_update.specs.elf_object.Changed.{is_moved, marked_piece, torn_section, torn_over, torn}
+use Rattle.elf_update.proofs.elf_object.ChangedLaws.{torn-dirty}
+use Rattle.elf_update.proofs.object_laws.ImageLaws.{placed-dirty, section_at-placed}
+use Rattle.elf_update.proofs.object_laws.StandLaws.{section_count-placed, section_at-past}
+use Rattle.elf_update.proofs.object_laws.AgainLaws.{front_again}
+use Rattle.elf_update.proofs.object_laws.TornLaws.{torn-is, torn_front}
+use Rattle.elf_update.specs.writing_laws.Based.{some_unmarked}
 use Rattle.elf_update.specs.Descriptors.{stored_pieces}
 use Rattle.update_moves.proofs.TornLaws.{over_placed}
 

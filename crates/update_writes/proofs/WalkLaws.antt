@@ -8,14 +8,14 @@ use Rattle.elf_types.specs.declared.records.Part.{Part}
 use Rattle.elf_layout.specs.declared.parts.PartAt.{PartAt}
 use Rattle.elf_outside.specs.declared.sources.Source.{Ghosts as SourceGhosts}
 use Rattle.elf_outside.specs.declared.devices.Device.{Ghosts as DeviceGhosts}
-use Rattle.elf_object.specs.Blocks.{Block, block_end}
-use Rattle.elf_object.specs.Changed.{when}
-use Rattle.writing_laws.specs.Lines.{AreInLine}
-use Rattle.writing_laws.specs.Plan.{fill_block}
-use Rattle.writing_laws.proofs.LineLaws.{line_within, end_is}
-use Rattle.elf_descriptor.specs.State.{State}
-use Rattle.elf_descriptor.specs.Cuts.{MayWrite}
-use Rattle.update_plan.specs.Plans.{no_part}
+use Rattle.elf_update.specs.elf_object.Blocks.{Block, block_end}
+use Rattle.elf_update.specs.elf_object.Changed.{when}
+use Rattle.elf_update.specs.writing_laws.Lines.{AreInLine}
+use Rattle.elf_update.specs.writing_laws.Plan.{fill_block}
+use Rattle.elf_update.proofs.writing_laws.LineLaws.{line_within, end_is}
+use Rattle.elf_update.specs.elf_descriptor.State.{State}
+use Rattle.elf_update.specs.elf_descriptor.Cuts.{MayWrite}
+use Rattle.elf_update.specs.update_plan.Plans.{no_part}
 use Rattle.elf_update.specs.Pieces.{pieces_length, stacked_text, block_at, blocks_at, HasLength}
 use Rattle.elf_update.proofs.PieceLaws.{length-joined_pieces}
 use Rattle.update_moves.specs.Written.{written_between}

@@ -8,12 +8,12 @@ use Rattle.elf_types.specs.declared.records.Part.TheVariants as part
 use Rattle.elf_outside.specs.declared.sources.Source.{Ghosts as SourceGhosts}
 use Rattle.elf_outside.specs.declared.devices.Device.{Ghosts as DeviceGhosts}
 use Rattle.elf_outside.specs.Patches.{Patches}
-use Rattle.elf_object.specs.Answers.{piece_count}
-use Rattle.elf_object.specs.Object.{section_at, piece_at, has_file_bytes}
-use Rattle.elf_object.specs.Due.{is_loaded}
-use Rattle.elf_descriptor.specs.State.{State}
-use Rattle.elf_descriptor.specs.Cuts.{MayWrite}
-use Rattle.elf_descriptor.specs.Fronts.{HoldsBase}
+use Rattle.elf_update.specs.elf_object.Answers.{piece_count}
+use Rattle.elf_update.specs.elf_object.Object.{section_at, piece_at, has_file_bytes}
+use Rattle.elf_update.specs.elf_object.Due.{is_loaded}
+use Rattle.elf_update.specs.elf_descriptor.State.{State}
+use Rattle.elf_update.specs.elf_descriptor.Cuts.{MayWrite}
+use Rattle.elf_update.specs.elf_descriptor.Fronts.{HoldsBase}
 
 -- what a text of so many bytes rests on that is put over a device from a place on: the object is
 -- ready, the range lies in the device, which begins with the base, and no home that shares a place

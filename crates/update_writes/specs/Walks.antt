@@ -10,11 +10,11 @@ use Rattle.elf_outside.specs.declared.sources.Source.{Ghosts as SourceGhosts}
 use Rattle.elf_outside.specs.declared.devices.Device.{Ghosts as DeviceGhosts}
 use Rattle.elf_outside.specs.Torn.{IsTorn}
 use Rattle.elf_outside.specs.Patches.{UsesDevice}
-use Rattle.elf_object.specs.Blocks.{Block, block_end}
-use Rattle.writing_laws.specs.Lines.{HoldsBlock, IsUnderWay}
-use Rattle.elf_descriptor.specs.State.{State}
-use Rattle.elf_descriptor.specs.Cuts.{MayWrite}
-use Rattle.elf_descriptor.specs.Fronts.{HoldsBase}
+use Rattle.elf_update.specs.elf_object.Blocks.{Block, block_end}
+use Rattle.elf_update.specs.writing_laws.Lines.{HoldsBlock, IsUnderWay}
+use Rattle.elf_update.specs.elf_descriptor.State.{State}
+use Rattle.elf_update.specs.elf_descriptor.Cuts.{MayWrite}
+use Rattle.elf_update.specs.elf_descriptor.Fronts.{HoldsBase}
 use Rattle.elf_update.specs.Pieces.{block_at}
 use Rattle.update_moves.specs.Written.{written_between}
 use Rattle.update_writes.specs.Overwrites.{ChangesBase, NeedsNoRead}

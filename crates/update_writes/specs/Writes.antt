@@ -8,14 +8,14 @@ use Rattle.elf_outside.specs.declared.sources.Source.{Ghosts as SourceGhosts}
 use Rattle.elf_outside.specs.declared.devices.Device.{Ghosts as DeviceGhosts}
 use Rattle.elf_outside.specs.Torn.{IsTorn}
 use Rattle.elf_outside.specs.Patches.{UsesDevice}
-use Rattle.elf_object.specs.Object.{Object, section_at}
-use Rattle.elf_object.specs.Image.{image, image_length}
-use Rattle.elf_object.specs.Changed.{torn, is_moved, changed_bytes}
-use Rattle.elf_object.specs.Due.{is_loaded}
-use Rattle.object_laws.specs.Laws.{IsTornImage}
-use Rattle.writing_laws.specs.Based.{IsBased}
-use Rattle.elf_descriptor.specs.State.{State}
-use Rattle.elf_descriptor.specs.Fronts.{HoldsBase}
+use Rattle.elf_update.specs.elf_object.Object.{Object, section_at}
+use Rattle.elf_update.specs.elf_object.Image.{image, image_length}
+use Rattle.elf_update.specs.elf_object.Changed.{torn, is_moved, changed_bytes}
+use Rattle.elf_update.specs.elf_object.Due.{is_loaded}
+use Rattle.elf_update.specs.object_laws.Laws.{IsTornImage}
+use Rattle.elf_update.specs.writing_laws.Based.{IsBased}
+use Rattle.elf_update.specs.elf_descriptor.State.{State}
+use Rattle.elf_update.specs.elf_descriptor.Fronts.{HoldsBase}
 use Rattle.elf_update.specs.declared.updates.PlannedParts.{PlannedParts}
 use Rattle.elf_update.specs.Updates.{IsPlanned}
 use Rattle.update_moves.specs.Written.{part_changed}

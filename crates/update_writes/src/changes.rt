@@ -1,15 +1,15 @@
 //! What changes is written.
 
 ghost use Rattle.std.specs.Prelude.{◌≡◌, ◌<◌, ◌≤◌, length};
-ghost use Rattle.elf_object.specs.Image.{image_length};
+ghost use Rattle.elf_update.specs.elf_object.Image.{image_length};
 ghost use Rattle.update_moves.specs.Written.{written_line};
 ghost use Rattle.update_writes.specs.Walks.{PutsAll};
 ghost use Rattle.update_writes.specs.Writes.{IsMarkedAndLoaded, WritesChanges};
 
 use crate::walks::write_parts;
-use elf_descriptor::Elf;
 use elf_outside::Device;
 use elf_types::ElfError;
+use elf_update::prelude::Elf;
 use elf_update::{PlannedParts, ground_of};
 
 /// Puts what changes over a device that is at least as long as the image. What it held before it

@@ -4,9 +4,9 @@ ghost use Rattle.std.specs.Prelude.{◌≡◌, ◌≤◌, ◌<◌, length};
 ghost use Rattle.std.proofs.Math.ListN.{replicate};
 ghost use Rattle.update_writes.specs.Overwrites.{MayOverwrite, Overwrites};
 
-use elf_descriptor::Elf;
 use elf_outside::Device;
 use elf_types::ElfError;
+use elf_update::prelude::Elf;
 
 /// Puts a byte so many times over the device from the place `at` on. `page` holds that byte alone.
 fn write_same<D: Device>(

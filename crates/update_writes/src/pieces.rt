@@ -9,10 +9,10 @@ ghost use Rattle.elf_update.specs.Descriptors.{HasStoredPlaces, stored_pieces};
 ghost use Rattle.update_writes.specs.Overwrites.{NeedsNoRead, MayOverwrite, Overwrites};
 
 use crate::fills::write_fill;
-use elf_descriptor::Elf;
 use elf_layout::PartAt;
 use elf_outside::Device;
 use elf_types::{ElfError, Part};
+use elf_update::prelude::Elf;
 use elf_update::{ImageParts, copy_at_hand};
 
 /// Puts as many bytes of a piece as `buf` has, at least one, from the place `from` of the piece on,

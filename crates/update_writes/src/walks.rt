@@ -1,10 +1,10 @@
 //! The walk over the plan of an image: the parts that change, and the fill between the parts.
 
 ghost use Rattle.std.specs.Prelude.{◌≡◌, ℕ, ◌+◌, ◌-◌, ◌^◌, ◌≤◌, ◌<◌, max, true, [], ◌∷◌, length, All};
-ghost use Rattle.elf_object.specs.Changed.{when};
-ghost use Rattle.writing_laws.specs.Lines.{AreInLine};
-ghost use Rattle.writing_laws.specs.Plan.{fill_block};
-ghost use Rattle.elf_descriptor.specs.Fronts.{HoldsBase};
+ghost use Rattle.elf_update.specs.elf_object.Changed.{when};
+ghost use Rattle.elf_update.specs.writing_laws.Lines.{AreInLine};
+ghost use Rattle.elf_update.specs.writing_laws.Plan.{fill_block};
+ghost use Rattle.elf_update.specs.elf_descriptor.Fronts.{HoldsBase};
 ghost use Rattle.elf_update.specs.Pieces.{block_at, blocks_at, HasLength};
 ghost use Rattle.elf_update.specs.Descriptors.{HasStoredPlaces, stored_pieces};
 ghost use Rattle.update_writes.specs.Overwrites.{NeedsNoRead, MayOverwrite};
@@ -12,11 +12,11 @@ ghost use Rattle.update_writes.specs.Walks.{put_end, put_blocks, NeedNoRead, May
 
 use crate::fills::write_fill;
 use crate::pieces::write_part;
-use elf_descriptor::Elf;
 use elf_layout::PartAt;
 use elf_outside::Device;
 use elf_types::ElfError;
 use elf_update::Ground;
+use elf_update::prelude::Elf;
 
 /// Where the fill that is put ends, of a gap that ends at a place: zeros are put up to the old end
 /// of the device alone, since behind it there are zeros.

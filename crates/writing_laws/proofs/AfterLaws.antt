@@ -6,17 +6,17 @@ use Rattle.std.proofs.lemmas.Bool.{cases_lt, lt-ltb, ltb-false}
 use Rattle.std.proofs.lemmas.List.{length-take, length-take-le, length-drop, get_or-take, get_or-drop, ext_get_or}
 use Rattle.std.proofs.lemmas.List.Elements.{All-map}
 use Rattle.elf_types.specs.declared.records.Shdr.{Shdr}
-use Rattle.elf_object.specs.Blocks.{Block, block_covers, is_covered, extents_meet}
-use Rattle.elf_object.specs.Object.{Object, Section, Piece, Home, absent_section, section_at, is_dirty}
-use Rattle.elf_object.specs.Open.{home_of, home_bytes}
-use Rattle.elf_object.specs.Joined.{file_bytes}
-use Rattle.elf_object.specs.Layout.{places_of, placed_by, placed, placed_section}
-use Rattle.elf_object.specs.Image.{image_length, image, is_fill_place}
-use Rattle.elf_object.specs.Refusal.{refusal}
-use Rattle.elf_object.specs.Settled.{settled_section, settled_over, settle}
-use Rattle.elf_object.proofs.ChangedLaws.{is_moved-dirty, torn-dirty}
-use Rattle.elf_object.specs.Changed.{torn_over, changed_blocks, fill_places, is_disturbed, section_changed, is_moved, marked_piece, torn_section, torn}
-use Rattle.elf_object.specs.Valid.{IsObject}
+use Rattle.object_laws.specs.elf_object.Blocks.{Block, block_covers, is_covered, extents_meet}
+use Rattle.object_laws.specs.elf_object.Object.{Object, Section, Piece, Home, absent_section, section_at, is_dirty}
+use Rattle.object_laws.specs.elf_object.Open.{home_of, home_bytes}
+use Rattle.object_laws.specs.elf_object.Joined.{file_bytes}
+use Rattle.object_laws.specs.elf_object.Layout.{places_of, placed_by, placed, placed_section}
+use Rattle.object_laws.specs.elf_object.Image.{image_length, image, is_fill_place}
+use Rattle.object_laws.specs.elf_object.Refusal.{refusal}
+use Rattle.object_laws.specs.elf_object.Settled.{settled_section, settled_over, settle}
+use Rattle.object_laws.proofs.elf_object.ChangedLaws.{is_moved-dirty, torn-dirty}
+use Rattle.object_laws.specs.elf_object.Changed.{torn_over, changed_blocks, fill_places, is_disturbed, section_changed, is_moved, marked_piece, torn_section, torn}
+use Rattle.object_laws.specs.elf_object.Valid.{IsObject}
 use Rattle.object_laws.specs.Laws.{IsTornImage}
 use Rattle.object_laws.proofs.ImageLaws.{length-image, placed-dirty, section_at-placed}
 use Rattle.object_laws.proofs.KeepLaws.{section_at_is}

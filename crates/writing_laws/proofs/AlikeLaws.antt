@@ -4,14 +4,14 @@ use Rattle.std.specs.Prelude.{map}
 use Rattle.std.specs.List.{enumerate_from}
 use Rattle.std.proofs.lemmas.List.{length-map, get_or-map, ext_get_or}
 use Rattle.std.proofs.lemmas.List.FromFn.{length-enumerate_from, get_or-enumerate_from}
-use Rattle.elf_object.specs.Object.{Object, Section, absent_section, section_at, is_dirty}
-use Rattle.elf_object.specs.Joined.{file_bytes}
-use Rattle.elf_object.specs.Layout.{places_of, placed_by, placed}
-use Rattle.elf_object.specs.Image.{front_blocks, image}
-use Rattle.elf_object.specs.Refusal.{refusal}
-use Rattle.elf_object.specs.Settled.{settled_section, settled_over, settle}
-use Rattle.elf_object.specs.Changed.{torn_over, is_moved, torn}
-use Rattle.elf_object.specs.Valid.{IsObject}
+use Rattle.object_laws.specs.elf_object.Object.{Object, Section, absent_section, section_at, is_dirty}
+use Rattle.object_laws.specs.elf_object.Joined.{file_bytes}
+use Rattle.object_laws.specs.elf_object.Layout.{places_of, placed_by, placed}
+use Rattle.object_laws.specs.elf_object.Image.{front_blocks, image}
+use Rattle.object_laws.specs.elf_object.Refusal.{refusal}
+use Rattle.object_laws.specs.elf_object.Settled.{settled_section, settled_over, settle}
+use Rattle.object_laws.specs.elf_object.Changed.{torn_over, is_moved, torn}
+use Rattle.object_laws.specs.elf_object.Valid.{IsObject}
 use Rattle.object_laws.specs.Laws.{IsTornImage}
 use Rattle.object_laws.proofs.ImageLaws.{placed-dirty, placed-clean}
 use Rattle.object_laws.proofs.SettledLaws.{settle-dirty}

@@ -16,21 +16,21 @@ use Rattle.elf_types.specs.declared.records.Ehdr.{Ehdr}
 use Rattle.elf_types.specs.declared.records.Shdr.{Shdr}
 use Rattle.elf_types.specs.declared.errors.ElfError.{ElfError}
 use Rattle.elf_types.specs.declared.errors.ElfError.TheVariants as error
-use Rattle.elf_xlate.specs.Headers.{class_code, order_code, ident, ident as ident_bytes, ehdr_size, ehdr_of, ehdr_bytes, HoldsEhdr, phdr_size, phdr_of, phdr_bytes, shdr_size, shdr_of, shdr_bytes}
-use Rattle.elf_xlate.specs.Translation.{items_of, listed}
-use Rattle.elf_xlate.proofs.Digits.{AreBytes as AreDigits, are_bytes}
-use Rattle.elf_xlate.proofs.BothWays.{written_all}
+use Rattle.object_laws.specs.elf_xlate.Headers.{class_code, order_code, ident, ident as ident_bytes, ehdr_size, ehdr_of, ehdr_bytes, HoldsEhdr, phdr_size, phdr_of, phdr_bytes, shdr_size, shdr_of, shdr_bytes}
+use Rattle.object_laws.specs.elf_xlate.Translation.{items_of, listed}
+use Rattle.object_laws.proofs.elf_xlate.Digits.{AreBytes as AreDigits, are_bytes}
+use Rattle.object_laws.proofs.elf_xlate.BothWays.{written_all}
 use Rattle.elf_types.specs.Answers.{refused_if, answered, or_refused}
 use Rattle.elf_types.specs.declared.constants.TheConstants.{ELFMAG, PN_XNUM}
-use Rattle.elf_ident.specs.declared.counts.Counts.{Counts}
-use Rattle.elf_ident.specs.declared.fronts.Head.{Head}
-use Rattle.elf_ident.specs.declared.fronts.Front.{Front}
-use Rattle.elf_ident.specs.Front.{class_named, order_named, no_ident, ident_in, first_section, true_counts, true_phnum, count_refusal, lies_in, phdrs_at, shdrs_at, front_at, front}
-use Rattle.elf_object.specs.Object.{Object}
-use Rattle.elf_object.specs.Open.{home_of, home_bytes, opened_section, front_in_image, phdrs_bytes, shdrs_bytes, standing_header, begun, begun_or_refused, opened, created_over}
+use Rattle.object_laws.specs.elf_ident.declared.counts.Counts.{Counts}
+use Rattle.object_laws.specs.elf_ident.declared.fronts.Head.{Head}
+use Rattle.object_laws.specs.elf_ident.declared.fronts.Front.{Front}
+use Rattle.object_laws.specs.elf_ident.Front.{class_named, order_named, no_ident, ident_in, first_section, true_counts, true_phnum, count_refusal, lies_in, phdrs_at, shdrs_at, front_at, front}
+use Rattle.object_laws.specs.elf_object.Object.{Object}
+use Rattle.object_laws.specs.elf_object.Open.{home_of, home_bytes, opened_section, front_in_image, phdrs_bytes, shdrs_bytes, standing_header, begun, begun_or_refused, opened, created_over}
 use Rattle.elf_types.specs.Lists.{AreBytes}
-use Rattle.elf_object.proofs.PassedLaws.{not_refused, not_not, passed_one, passed_two}
-use Rattle.elf_ident.proofs.Refusals.{answered_ok, bind_ok}
+use Rattle.object_laws.proofs.elf_object.PassedLaws.{not_refused, not_not, passed_one, passed_two}
+use Rattle.object_laws.proofs.elf_ident.Refusals.{answered_ok, bind_ok}
 use Rattle.object_laws.proofs.OpenLaws.{IsFrontOf, front_known}
 use Rattle.writing_laws.specs.Lines.{StandsAt}
 use Rattle.writing_laws.specs.Based.{HomeStands, IsBased, BeginningsAreBased}

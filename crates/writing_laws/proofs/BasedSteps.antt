@@ -18,21 +18,21 @@ use Rattle.elf_types.specs.declared.records.Rela.{Rela}
 use Rattle.elf_types.specs.declared.records.Dyn.{Dyn}
 use Rattle.elf_types.specs.declared.records.Part.{Part}
 use Rattle.elf_types.specs.declared.records.Part.TheVariants as part
-use Rattle.elf_xlate.specs.declared.content.Items.{Items}
-use Rattle.elf_xlate.specs.declared.content.Items.TheVariants as items
-use Rattle.elf_xlate.specs.Fields.{fits}
-use Rattle.elf_xlate.specs.Items.{sym_fits, rel_fits, rela_fits, dyn_fits}
-use Rattle.elf_xlate.specs.Translation.{items_count, items_kind}
-use Rattle.elf_object.specs.Object.{Object, Section, Piece, section_at, piece_at, absent_section, new_section, no_phdr, is_dirty}
-use Rattle.elf_object.specs.Answers.{kind_at, items_at, piece_count, flags_of, has_dirty, has_layout, lend_refusal, halves_of, words_of, addrs_of, syms_of, rels_of, relas_of, dyns_of}
-use Rattle.elf_object.specs.Steps.{with_sections as other_sections, new_number, with_section, with_piece_at, with_ehdr, with_phdrs, with_phdr, with_new_phdrs, with_shdr, with_new_section, with_null_section, with_new_piece, own_piece, with_own, with_mark, with_layout, with_flags, is_whole, with_fill}
-use Rattle.elf_object.specs.Layout.{places_of, placed_by, placed, placed_section}
-use Rattle.elf_object.specs.Image.{image_length}
-use Rattle.elf_object.specs.Refusal.{refusal}
-use Rattle.elf_object.specs.Calls as calls
-use Rattle.elf_object.specs.Calls.{Call, update_ehdr, update_phdr, update_shdr, step, update_ehdr_refusal, update_phdr_refusal, newphdr_refusal, update_shdr_refusal, newscn_refusal, newdata_refusal, set_fill, replace_refusal, flag, flag_refusal, lend, update_item, update_item_refusal}
-use Rattle.elf_object.specs.Runs.{set_item, addall, added, or_same}
-use Rattle.elf_object.proofs.PassedLaws.{answered_keeps, edit_keeps, looked_keeps}
+use Rattle.object_laws.specs.elf_xlate.declared.content.Items.{Items}
+use Rattle.object_laws.specs.elf_xlate.declared.content.Items.TheVariants as items
+use Rattle.object_laws.specs.elf_xlate.Fields.{fits}
+use Rattle.object_laws.specs.elf_xlate.Items.{sym_fits, rel_fits, rela_fits, dyn_fits}
+use Rattle.object_laws.specs.elf_xlate.Translation.{items_count, items_kind}
+use Rattle.object_laws.specs.elf_object.Object.{Object, Section, Piece, section_at, piece_at, absent_section, new_section, no_phdr, is_dirty}
+use Rattle.object_laws.specs.elf_object.Answers.{kind_at, items_at, piece_count, flags_of, has_dirty, has_layout, lend_refusal, halves_of, words_of, addrs_of, syms_of, rels_of, relas_of, dyns_of}
+use Rattle.object_laws.specs.elf_object.Steps.{with_sections as other_sections, new_number, with_section, with_piece_at, with_ehdr, with_phdrs, with_phdr, with_new_phdrs, with_shdr, with_new_section, with_null_section, with_new_piece, own_piece, with_own, with_mark, with_layout, with_flags, is_whole, with_fill}
+use Rattle.object_laws.specs.elf_object.Layout.{places_of, placed_by, placed, placed_section}
+use Rattle.object_laws.specs.elf_object.Image.{image_length}
+use Rattle.object_laws.specs.elf_object.Refusal.{refusal}
+use Rattle.object_laws.specs.elf_object.Calls as calls
+use Rattle.object_laws.specs.elf_object.Calls.{Call, update_ehdr, update_phdr, update_shdr, step, update_ehdr_refusal, update_phdr_refusal, newphdr_refusal, update_shdr_refusal, newscn_refusal, newdata_refusal, set_fill, replace_refusal, flag, flag_refusal, lend, update_item, update_item_refusal}
+use Rattle.object_laws.specs.elf_object.Runs.{set_item, addall, added, or_same}
+use Rattle.object_laws.proofs.elf_object.PassedLaws.{answered_keeps, edit_keeps, looked_keeps}
 use Rattle.std.proofs.Math.Bool.{or-true}
 use Rattle.writing_laws.specs.Based.{some_unmarked, HomeStands, IsBased, KeepsBased, EveryStepKeepsBased}
 

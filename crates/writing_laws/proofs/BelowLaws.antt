@@ -8,13 +8,13 @@ use Rattle.std.proofs.lemmas.List.FromFn.{length-map-range_with_len}
 use Rattle.std.proofs.lemmas.List.Sums.{sum_by-cons, sum_by-append}
 use Rattle.elf_types.specs.declared.records.Part.{Part}
 use Rattle.elf_types.specs.declared.records.Part.TheVariants as part
-use Rattle.elf_layout.specs.declared.parts.PartAt.{PartAt}
-use Rattle.elf_object.specs.Blocks.{Block, block_end, extents_meet}
-use Rattle.elf_object.specs.Object.{Object, is_dirty}
-use Rattle.elf_object.specs.Open.{no_block}
-use Rattle.elf_object.specs.Layout.{section_numbers, placed_parts, placed_by, places_of, placed}
-use Rattle.elf_object.specs.Image.{front_blocks, section_block, part_blocks}
-use Rattle.elf_object.specs.Changed.{when, header_changed, segments_changed, section_changed, table_changed, changed_parts, changed_blocks}
+use Rattle.object_laws.specs.elf_layout.declared.parts.PartAt.{PartAt}
+use Rattle.object_laws.specs.elf_object.Blocks.{Block, block_end, extents_meet}
+use Rattle.object_laws.specs.elf_object.Object.{Object, is_dirty}
+use Rattle.object_laws.specs.elf_object.Open.{no_block}
+use Rattle.object_laws.specs.elf_object.Layout.{section_numbers, placed_parts, placed_by, places_of, placed}
+use Rattle.object_laws.specs.elf_object.Image.{front_blocks, section_block, part_blocks}
+use Rattle.object_laws.specs.elf_object.Changed.{when, header_changed, segments_changed, section_changed, table_changed, changed_parts, changed_blocks}
 use Rattle.object_laws.proofs.ImageLaws.{placed-dirty}
 use Rattle.object_laws.proofs.StandLaws.{AreBlocksOf, placed_blocks, section_count-placed, row_left, row_last}
 use Rattle.writing_laws.specs.Plan.{block_of_rank, fill_blocks, written_blocks, meets_some, bytes_below, written_below, rank_changed, rank_written_below}

@@ -3,9 +3,9 @@
 use Rattle.std.proofs.Common.{◌≡◌, ℕ, ◌+◌, ◌-◌, ◌<◌, ◌≤◌, Bool, true, false, ◌||◌, List, [], ◌∷◌, ◌++◌, length, take, drop, replicate, get_or, sym, ap, ◌∙◌, subst, arith, ⊎_elim, ◌⊎◌, inl, inr}
 use Rattle.std.proofs.lemmas.Bool.{cases_lt}
 use Rattle.std.proofs.lemmas.List.{length-append, length-take, length-take-le, length-drop, length-replicate, get_or-append_right, get_or_append_left, get_or-take, get_or-drop, get_or-replicate, get_or_past, append-nil, ext_get_or}
-use Rattle.elf_outside.specs.Writes.{written_over, resized, IsTornBy}
-use Rattle.elf_outside.specs.Torn.{IsTorn}
-use Rattle.elf_object.specs.Blocks.{Block, block_end, block_covers, is_covered}
+use Rattle.object_laws.specs.elf_outside.Writes.{written_over, resized, IsTornBy}
+use Rattle.object_laws.specs.elf_outside.Torn.{IsTorn}
+use Rattle.object_laws.specs.elf_object.Blocks.{Block, block_end, block_covers, is_covered}
 use Rattle.writing_laws.specs.Lines.{HoldsBlock, patched, IsUnderWay}
 use Rattle.writing_laws.proofs.Bools.{neither}
 use Rattle.writing_laws.proofs.LineLaws.{covers_from, not_covered, end_is}

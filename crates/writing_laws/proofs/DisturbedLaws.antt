@@ -6,10 +6,10 @@ use Rattle.std.proofs.lemmas.Bool.{cases_lt, lt-ltb, le-ltb, ltb-true}
 use Rattle.std.proofs.lemmas.List.{length-replicate}
 use Rattle.std.proofs.lemmas.List.Elements.{filter-append}
 use Rattle.std.proofs.lemmas.List.Folds.{list_any-append}
-use Rattle.elf_object.specs.Blocks.{Block, block_end, extents_meet}
-use Rattle.elf_object.specs.Object.{Object}
-use Rattle.elf_object.specs.Image.{kept_base, image_length}
-use Rattle.elf_object.specs.Changed.{changed_blocks, is_disturbed}
+use Rattle.object_laws.specs.elf_object.Blocks.{Block, block_end, extents_meet}
+use Rattle.object_laws.specs.elf_object.Object.{Object}
+use Rattle.object_laws.specs.elf_object.Image.{kept_base, image_length}
+use Rattle.object_laws.specs.elf_object.Changed.{changed_blocks, is_disturbed}
 use Rattle.writing_laws.proofs.Bools.{both_true}
 use Rattle.writing_laws.specs.Lines.{AreInLine, gap_places}
 use Rattle.writing_laws.specs.Plan.{plan, fill_block, fill_between, fill_blocks, written_blocks, meets_some}

@@ -8,16 +8,16 @@ use Rattle.std.proofs.lemmas.List.FromFn.{length-range_with_len}
 use Rattle.std.proofs.lemmas.List.Sums.{sum_by-cons}
 use Rattle.elf_types.specs.declared.records.Class.{Class}
 use Rattle.elf_types.specs.declared.records.Order.{Order}
-use Rattle.elf_xlate.specs.declared.content.Items.{Items}
-use Rattle.elf_layout.specs.Layout.{rounded_up, end_after, in_order_from, standing}
-use Rattle.elf_layout.specs.Meeting.{has_bytes, ranks_by_position}
-use Rattle.elf_layout.specs.declared.parts.PartAt.{PartAt}
-use Rattle.elf_object.specs.Blocks.{block_end, stacked, last_end}
-use Rattle.elf_object.specs.Object.{Object, Section, Piece, section_at, has_file_bytes, home_is_clean}
-use Rattle.elf_object.specs.Joined.{piece_bytes, aligned_pieces, piece_blocks, pieces_end, file_bytes}
-use Rattle.elf_object.specs.Layout.{section_part, table_part, section_numbers, parts_of, placed_parts}
-use Rattle.elf_object.specs.Due.{is_loaded, home_due, homes_due}
-use Rattle.elf_object.specs.Valid.{IsObject}
+use Rattle.object_laws.specs.elf_xlate.declared.content.Items.{Items}
+use Rattle.object_laws.specs.elf_layout.Layout.{rounded_up, end_after, in_order_from, standing}
+use Rattle.object_laws.specs.elf_layout.Meeting.{has_bytes, ranks_by_position}
+use Rattle.object_laws.specs.elf_layout.declared.parts.PartAt.{PartAt}
+use Rattle.object_laws.specs.elf_object.Blocks.{block_end, stacked, last_end}
+use Rattle.object_laws.specs.elf_object.Object.{Object, Section, Piece, section_at, has_file_bytes, home_is_clean}
+use Rattle.object_laws.specs.elf_object.Joined.{piece_bytes, aligned_pieces, piece_blocks, pieces_end, file_bytes}
+use Rattle.object_laws.specs.elf_object.Layout.{section_part, table_part, section_numbers, parts_of, placed_parts}
+use Rattle.object_laws.specs.elf_object.Due.{is_loaded, home_due, homes_due}
+use Rattle.object_laws.specs.elf_object.Valid.{IsObject}
 use Rattle.object_laws.proofs.ImageLaws.{length-joined, file_bytes_from}
 use Rattle.object_laws.proofs.KeepLaws.{section_at_is}
 use Rattle.object_laws.proofs.StandLaws.{section_at-past}

@@ -6,7 +6,7 @@ use Rattle.std.proofs.lemmas.Bool.{cases_lt, lt-ltb, le-ltb}
 use Rattle.std.proofs.lemmas.List.{length-append, length-replicate}
 use Rattle.std.proofs.lemmas.List.Elements.{filter-append}
 use Rattle.std.proofs.lemmas.List.Sums.{sum_by-cons}
-use Rattle.elf_object.specs.Blocks.{Block, block_end, block_covers, is_covered}
+use Rattle.object_laws.specs.elf_object.Blocks.{Block, block_end, block_covers, is_covered}
 use Rattle.std.proofs.Math.Bool.{or-true}
 use Rattle.writing_laws.proofs.Bools.{neither}
 use Rattle.writing_laws.specs.Lines.{AreInLine, gap_places}

@@ -6,7 +6,7 @@ use Rattle.std.specs.Str.{bytes_eq}
 use Rattle.std.proofs.lemmas.Bool.{cases_lt, eqb-true}
 use Rattle.std.proofs.lemmas.List.{length-take-le, length-take, length-drop, get_or-take, get_or-drop, ext_get_or, nil_from_length}
 use Rattle.std.proofs.lemmas.Slice.Eq.{bytes_eq-Decides}
-use Rattle.elf_object.specs.Blocks.{Block, block_covers, is_covered, byte_over, spread, same_extent, same_block}
+use Rattle.object_laws.specs.elf_object.Blocks.{Block, block_covers, is_covered, byte_over, spread, same_extent, same_block}
 use Rattle.object_laws.proofs.BlockLaws.{length-spread, get_or-spread}
 use Rattle.object_laws.proofs.StandLaws.{covered_from}
 use Rattle.writing_laws.proofs.Bools.{both_true}

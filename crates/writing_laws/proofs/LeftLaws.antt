@@ -8,18 +8,18 @@ use Rattle.elf_types.specs.declared.records.Part.{Part}
 use Rattle.elf_types.specs.declared.records.Part.TheVariants as part
 use Rattle.elf_types.specs.declared.errors.ElfError.{ElfError}
 use Rattle.elf_types.specs.declared.errors.ElfError.TheVariants.{OutOfFile}
-use Rattle.elf_xlate.specs.declared.content.Items.{Items}
-use Rattle.elf_xlate.specs.Translation.{encoded}
+use Rattle.object_laws.specs.elf_xlate.declared.content.Items.{Items}
+use Rattle.object_laws.specs.elf_xlate.Translation.{encoded}
 use Rattle.elf_types.specs.Answers.{refused_if}
-use Rattle.elf_object.specs.Blocks.{stacked, last_end, spread}
-use Rattle.elf_object.specs.Object.{Object, Section, Piece, absent_section, section_at, has_file_bytes, home_is_clean, some_piece_marked, is_dirty}
-use Rattle.elf_object.specs.Joined.{piece_bytes, aligned_pieces, piece_blocks, pieces_end, file_bytes}
-use Rattle.elf_object.specs.Layout.{places_of, placed_by, placed}
-use Rattle.elf_object.specs.Image.{front_blocks, section_block}
-use Rattle.elf_object.specs.Refusal.{missing_in_section, missing_home}
-use Rattle.elf_object.proofs.ChangedLaws.{header_changed-dirty, segments_changed-dirty, table_changed-dirty, section_changed-dirty}
-use Rattle.elf_object.specs.Changed.{block_of, front_differs, header_changed, segments_changed, table_changed, is_at_home, section_changed}
-use Rattle.elf_object.specs.Valid.{IsPiece, OthersOwn}
+use Rattle.object_laws.specs.elf_object.Blocks.{stacked, last_end, spread}
+use Rattle.object_laws.specs.elf_object.Object.{Object, Section, Piece, absent_section, section_at, has_file_bytes, home_is_clean, some_piece_marked, is_dirty}
+use Rattle.object_laws.specs.elf_object.Joined.{piece_bytes, aligned_pieces, piece_blocks, pieces_end, file_bytes}
+use Rattle.object_laws.specs.elf_object.Layout.{places_of, placed_by, placed}
+use Rattle.object_laws.specs.elf_object.Image.{front_blocks, section_block}
+use Rattle.object_laws.specs.elf_object.Refusal.{missing_in_section, missing_home}
+use Rattle.object_laws.proofs.elf_object.ChangedLaws.{header_changed-dirty, segments_changed-dirty, table_changed-dirty, section_changed-dirty}
+use Rattle.object_laws.specs.elf_object.Changed.{block_of, front_differs, header_changed, segments_changed, table_changed, is_at_home, section_changed}
+use Rattle.object_laws.specs.elf_object.Valid.{IsPiece, OthersOwn}
 use Rattle.object_laws.proofs.KeepLaws.{section_at_is}
 use Rattle.object_laws.proofs.ImageLaws.{placed-dirty, joined-none}
 use Rattle.object_laws.proofs.ItemLaws.{alone_spread, row_none}

@@ -8,11 +8,11 @@ use Rattle.std.proofs.lemmas.List.{map-append}
 use Rattle.std.proofs.lemmas.List.Folds.{list_any-append}
 use Rattle.elf_types.specs.declared.records.Part.{Part}
 use Rattle.elf_types.specs.declared.records.Part.TheVariants as part
-use Rattle.elf_object.specs.Blocks.{Block, block_covers, is_covered}
-use Rattle.elf_object.specs.Object.{Object, is_dirty}
-use Rattle.elf_object.specs.Layout.{section_numbers, places_of, placed}
-use Rattle.elf_object.specs.Image.{front_blocks, section_block, part_blocks, kept_base, uncovered_byte, image}
-use Rattle.elf_object.specs.Changed.{header_changed, segments_changed, table_changed, section_changed, when, changed_parts, changed_blocks}
+use Rattle.object_laws.specs.elf_object.Blocks.{Block, block_covers, is_covered}
+use Rattle.object_laws.specs.elf_object.Object.{Object, is_dirty}
+use Rattle.object_laws.specs.elf_object.Layout.{section_numbers, places_of, placed}
+use Rattle.object_laws.specs.elf_object.Image.{front_blocks, section_block, part_blocks, kept_base, uncovered_byte, image}
+use Rattle.object_laws.specs.elf_object.Changed.{header_changed, segments_changed, table_changed, section_changed, when, changed_parts, changed_blocks}
 use Rattle.object_laws.proofs.ImageLaws.{placed-dirty}
 use Rattle.object_laws.proofs.StandLaws.{section_count-placed}
 use Rattle.std.proofs.Math.Bool.{or-true}

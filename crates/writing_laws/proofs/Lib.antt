@@ -1,3 +1,4 @@
+pub use Rattle.object_laws.proofs as object_laws
 pub mod Bools
 pub mod Computed
 pub mod LineLaws

@@ -7,12 +7,12 @@ use Rattle.std.proofs.lemmas.List.{length-map, length-set, set-set, set-get_or, 
 use Rattle.std.proofs.lemmas.List.FromFn.{length-enumerate_from, get_or-enumerate_from}
 use Rattle.elf_types.specs.declared.records.Part.{Part}
 use Rattle.elf_types.specs.declared.records.Part.TheVariants as part
-use Rattle.elf_object.specs.Object.{Object, Section, Piece, absent_section, home_piece, section_at, piece_at, is_dirty}
-use Rattle.elf_object.specs.Steps.{with_section, with_piece_at, with_mark}
-use Rattle.elf_object.specs.Layout.{places_of, placed_by, placed}
-use Rattle.elf_object.proofs.ChangedLaws.{torn-dirty}
-use Rattle.elf_object.specs.Changed.{torn_over, is_moved, marked_piece, torn_section}
-use Rattle.elf_object.proofs.StepLaws.{section_count-with_section, section_at-with_section}
+use Rattle.object_laws.specs.elf_object.Object.{Object, Section, Piece, absent_section, home_piece, section_at, piece_at, is_dirty}
+use Rattle.object_laws.specs.elf_object.Steps.{with_section, with_piece_at, with_mark}
+use Rattle.object_laws.specs.elf_object.Layout.{places_of, placed_by, placed}
+use Rattle.object_laws.proofs.elf_object.ChangedLaws.{torn-dirty}
+use Rattle.object_laws.specs.elf_object.Changed.{torn_over, is_moved, marked_piece, torn_section}
+use Rattle.object_laws.proofs.elf_object.StepLaws.{section_count-with_section, section_at-with_section}
 use Rattle.writing_laws.specs.Marks.{marked_all, pieces_of, moved_pieces}
 use Rattle.writing_laws.specs.Writing.{MarksAreTorn}
 

@@ -5,11 +5,11 @@ use Rattle.std.specs.List.{range_with_len}
 use Rattle.std.proofs.lemmas.Bool.{cases_lt, lt-ltb, le-ltb}
 use Rattle.std.proofs.lemmas.List.{length-append, length-take, length-drop, length-replicate, get_or_append_left, get_or-append_right, get_or-take, get_or-drop, get_or-replicate, ext_get_or}
 use Rattle.std.proofs.lemmas.List.FromFn.{length-map-range_with_len, get_or-map-range_with_len}
-use Rattle.elf_layout.specs.Layout.{rounded_up}
-use Rattle.elf_object.specs.Blocks.{block_end, stacked, last_end}
-use Rattle.elf_object.specs.Object.{Object, section_at, has_file_bytes}
-use Rattle.elf_object.specs.Joined.{aligned_pieces, piece_blocks, pieces_end, file_bytes}
-use Rattle.elf_object.specs.Image.{kept_base, uncovered_byte}
+use Rattle.object_laws.specs.elf_layout.Layout.{rounded_up}
+use Rattle.object_laws.specs.elf_object.Blocks.{block_end, stacked, last_end}
+use Rattle.object_laws.specs.elf_object.Object.{Object, section_at, has_file_bytes}
+use Rattle.object_laws.specs.elf_object.Joined.{aligned_pieces, piece_blocks, pieces_end, file_bytes}
+use Rattle.object_laws.specs.elf_object.Image.{kept_base, uncovered_byte}
 use Rattle.object_laws.proofs.PlaceLaws.{rounded_up-ge}
 use Rattle.writing_laws.specs.Lines.{AreInLine, in_line}
 use Rattle.writing_laws.specs.Writing.{GapBytes, PiecesInLine}

@@ -6,12 +6,12 @@ use Rattle.std.proofs.lemmas.Bool.{lt-ltb, le-ltb}
 use Rattle.std.proofs.lemmas.List.Sums.{length-filter}
 use Rattle.std.proofs.lemmas.List.{append-nil}
 use Rattle.std.proofs.lemmas.List.Elements.{filter-append}
-use Rattle.elf_layout.specs.Layout.{length_from, length_of, standing, places_of as parts_places}
-use Rattle.elf_object.specs.Blocks.{Block, block_end, is_covered, spread}
-use Rattle.elf_object.specs.Object.{Object, is_dirty}
-use Rattle.elf_object.specs.Layout.{parts_of, places_of, placed}
-use Rattle.elf_object.specs.Image.{part_blocks, kept_base, uncovered_byte, image_length, image, is_fill_place}
-use Rattle.elf_object.specs.Changed.{fill_places}
+use Rattle.object_laws.specs.elf_layout.Layout.{length_from, length_of, standing, places_of as parts_places}
+use Rattle.object_laws.specs.elf_object.Blocks.{Block, block_end, is_covered, spread}
+use Rattle.object_laws.specs.elf_object.Object.{Object, is_dirty}
+use Rattle.object_laws.specs.elf_object.Layout.{parts_of, places_of, placed}
+use Rattle.object_laws.specs.elf_object.Image.{part_blocks, kept_base, uncovered_byte, image_length, image, is_fill_place}
+use Rattle.object_laws.specs.elf_object.Changed.{fill_places}
 use Rattle.object_laws.proofs.ImageLaws.{image-dirty}
 use Rattle.object_laws.proofs.PlaceLaws.{length_from-ge}
 use Rattle.object_laws.proofs.StandLaws as stand

@@ -3,13 +3,13 @@ use Rattle.std.proofs.Common.{◌≡◌, ℕ, suc, ◌+◌, ◌<◌, Bool, true,
 use Rattle.std.specs.Prelude.{nat_le, nat_lt, if◌then◌else◌, map, cond}
 use Rattle.std.specs.List.{filter, enumerate_from, AllByRecursion}
 use Rattle.std.proofs.lemmas.Bool.{ltb-true}
-use Rattle.elf_layout.specs.declared.parts.PartAt.{PartAt}
-use Rattle.elf_layout.specs.Meeting.{has_bytes, inserted_by, sorted_by, ranked_from, ranks_by_position}
-use Rattle.elf_object.specs.Blocks.{Block}
-use Rattle.elf_object.specs.Object.{Object}
-use Rattle.elf_object.specs.Open.{no_block}
-use Rattle.elf_object.specs.Layout.{placed_parts, placed}
-use Rattle.elf_object.specs.Image.{part_blocks}
+use Rattle.object_laws.specs.elf_layout.declared.parts.PartAt.{PartAt}
+use Rattle.object_laws.specs.elf_layout.Meeting.{has_bytes, inserted_by, sorted_by, ranked_from, ranks_by_position}
+use Rattle.object_laws.specs.elf_object.Blocks.{Block}
+use Rattle.object_laws.specs.elf_object.Object.{Object}
+use Rattle.object_laws.specs.elf_object.Open.{no_block}
+use Rattle.object_laws.specs.elf_object.Layout.{placed_parts, placed}
+use Rattle.object_laws.specs.elf_object.Image.{part_blocks}
 use Rattle.object_laws.proofs.ImageLaws.{placed-dirty}
 use Rattle.object_laws.proofs.StandLaws.{IsBlockOf, AreBlocksOf, placed_blocks}
 use Rattle.writing_laws.specs.Plan.{block_has_bytes, in_order, plan, block_of_rank}

@@ -3,8 +3,8 @@ use Rattle.std.proofs.Common.{◌≡◌, ℕ, ◌+◌, ◌-◌, ◌<◌, ◌≤�
 use Rattle.std.specs.Prelude.{nat_le, cond, if◌then◌else◌}
 use Rattle.std.specs.List.{filter, AllByRecursion}
 use Rattle.std.proofs.lemmas.Bool.{cases_lt, ltb-true, ltb-false, leb-true, leb-false}
-use Rattle.elf_layout.specs.Meeting.{inserted_by, sorted_by}
-use Rattle.elf_object.specs.Blocks.{Block, block_end, block_covers, is_covered, byte_over}
+use Rattle.object_laws.specs.elf_layout.Meeting.{inserted_by, sorted_by}
+use Rattle.object_laws.specs.elf_object.Blocks.{Block, block_end, block_covers, is_covered, byte_over}
 use Rattle.object_laws.proofs.BlockLaws.{AreApart, AllApart}
 use Rattle.writing_laws.specs.Lines.{AreInLine}
 use Rattle.writing_laws.specs.Plan.{block_has_bytes, in_order}

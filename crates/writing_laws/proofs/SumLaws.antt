@@ -3,8 +3,8 @@ use Rattle.std.proofs.Common.{◌≡◌, ℕ, zero, suc, ◌+◌, ◌≤◌, Boo
 use Rattle.std.specs.Prelude.{nat_le, if◌then◌else◌, map, cond, sum_by}
 use Rattle.std.specs.List.{range_with_len, enumerate_from, filter, AllByRecursion}
 use Rattle.std.proofs.lemmas.List.Sums.{sum_by-cons}
-use Rattle.elf_layout.specs.declared.parts.PartAt.{PartAt}
-use Rattle.elf_layout.specs.Meeting.{has_bytes, inserted_by, sorted_by, ranked_from, ranks_by_position}
+use Rattle.object_laws.specs.elf_layout.declared.parts.PartAt.{PartAt}
+use Rattle.object_laws.specs.elf_layout.Meeting.{has_bytes, inserted_by, sorted_by, ranked_from, ranks_by_position}
 
 sum_inserted : {X : Type 0} (f : X → ℕ) (key : X → ℕ) (x : X) (ys : List X)
     → sum_by f (inserted_by key x ys) ≡ f x + sum_by f ys

@@ -5,8 +5,8 @@ use Rattle.std.specs.List.{range_with_len}
 use Rattle.std.proofs.lemmas.Bool.{cases_lt}
 use Rattle.std.proofs.lemmas.List.{drop-drop, take_at, drop_at, get_or-take, get_or_past, length-take-le, ext_get_or}
 use Rattle.std.proofs.lemmas.List.FromFn.{length-map-range_with_len}
-use Rattle.elf_outside.specs.Torn.{IsTorn}
-use Rattle.elf_object.specs.Blocks.{Block, block_end, block_covers, is_covered, byte_over, spread}
+use Rattle.object_laws.specs.elf_outside.Torn.{IsTorn}
+use Rattle.object_laws.specs.elf_object.Blocks.{Block, block_end, block_covers, is_covered, byte_over, spread}
 use Rattle.object_laws.proofs.BlockLaws.{length-spread, get_or-spread}
 use Rattle.object_laws.proofs.StandLaws.{covered_from}
 use Rattle.writing_laws.specs.Lines.{StandsAt, HoldsBlock, AreInLine, in_line, IsLeft, patched, IsUnderWay}

@@ -7,11 +7,11 @@ use Rattle.std.proofs.lemmas.List.{length-replicate, get_or-replicate, length-ta
 use Rattle.std.proofs.lemmas.List.Elements.{All-from_recursion, recursion_from_All}
 use Rattle.std.proofs.lemmas.List.Folds.{list_any-append}
 use Rattle.std.proofs.lemmas.List.Sums.{sum_by-append}
-use Rattle.elf_object.specs.Blocks.{Block, block_end, block_covers, is_covered, byte_over}
-use Rattle.elf_object.specs.Object.{Object}
-use Rattle.elf_object.specs.Layout.{places_of, placed}
-use Rattle.elf_object.specs.Image.{front_blocks, section_block, part_blocks, kept_base, uncovered_byte, image_length, image, is_fill_place}
-use Rattle.elf_object.specs.Changed.{header_changed, segments_changed, table_changed, section_changed, changed_blocks, changed_bytes}
+use Rattle.object_laws.specs.elf_object.Blocks.{Block, block_end, block_covers, is_covered, byte_over}
+use Rattle.object_laws.specs.elf_object.Object.{Object}
+use Rattle.object_laws.specs.elf_object.Layout.{places_of, placed}
+use Rattle.object_laws.specs.elf_object.Image.{front_blocks, section_block, part_blocks, kept_base, uncovered_byte, image_length, image, is_fill_place}
+use Rattle.object_laws.specs.elf_object.Changed.{header_changed, segments_changed, table_changed, section_changed, changed_blocks, changed_bytes}
 use Rattle.object_laws.proofs.BlockLaws.{byte_over-uncovered}
 use Rattle.object_laws.proofs.ImageLaws.{length-image, placed-dirty}
 use Rattle.object_laws.proofs.StandLaws.{section_count-placed}

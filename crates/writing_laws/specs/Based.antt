@@ -12,17 +12,17 @@ use Rattle.elf_types.specs.declared.records.Rel.{Rel}
 use Rattle.elf_types.specs.declared.records.Rela.{Rela}
 use Rattle.elf_types.specs.declared.records.Dyn.{Dyn}
 use Rattle.elf_types.specs.declared.records.Part.{Part}
-use Rattle.elf_xlate.specs.declared.content.Items.{Items}
-use Rattle.elf_object.specs.Object.{Object, Section}
-use Rattle.elf_object.specs.Open.{opened, created_over}
-use Rattle.elf_object.specs.Refusal.{refusal}
-use Rattle.elf_object.specs.Settled.{settle}
-use Rattle.elf_object.specs.Changed.{torn}
-use Rattle.elf_object.specs.Calls.{Call, step}
-use Rattle.elf_object.specs.Calls as calls
-use Rattle.elf_object.specs.Runs as runs
+use Rattle.object_laws.specs.elf_xlate.declared.content.Items.{Items}
+use Rattle.object_laws.specs.elf_object.Object.{Object, Section}
+use Rattle.object_laws.specs.elf_object.Open.{opened, created_over}
+use Rattle.object_laws.specs.elf_object.Refusal.{refusal}
+use Rattle.object_laws.specs.elf_object.Settled.{settle}
+use Rattle.object_laws.specs.elf_object.Changed.{torn}
+use Rattle.object_laws.specs.elf_object.Calls.{Call, step}
+use Rattle.object_laws.specs.elf_object.Calls as calls
+use Rattle.object_laws.specs.elf_object.Runs as runs
 use Rattle.elf_types.specs.Lists.{AreBytes}
-use Rattle.elf_object.specs.Valid.{IsObject}
+use Rattle.object_laws.specs.elf_object.Valid.{IsObject}
 use Rattle.object_laws.specs.Laws.{IsTornImage}
 use Rattle.writing_laws.specs.Lines.{HoldsBlock}
 use Rattle.writing_laws.specs.Ready.{IsReady}

@@ -1,6 +1,6 @@
 -- Blocks on which the words for writers are computed.
 use Rattle.std.specs.Prelude.{ℕ, List, [], ◌∷◌, length, map}
-use Rattle.elf_object.specs.Blocks.{Block}
+use Rattle.object_laws.specs.elf_object.Blocks.{Block}
 
 -- three blocks, one of them empty
 abbrev pub three_blocks : List Block

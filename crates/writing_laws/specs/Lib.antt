@@ -1,3 +1,4 @@
+pub use Rattle.object_laws.specs as object_laws
 pub mod Lines
 pub mod Plan
 pub mod Marks

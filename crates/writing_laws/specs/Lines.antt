@@ -2,8 +2,8 @@
 -- between them, and what a device may hold while it is written.
 use Rattle.std.specs.Prelude.{◌≡◌, ℕ, ◌-◌, ◌≤◌, true, false, List, [], ◌∷◌, ◌++◌, length, take, drop, map, slice_index}
 use Rattle.std.specs.List.{range_with_len}
-use Rattle.elf_outside.specs.Torn.{AreOldOrNew}
-use Rattle.elf_object.specs.Blocks.{Block, block_end, is_covered, spread}
+use Rattle.object_laws.specs.elf_outside.Torn.{AreOldOrNew}
+use Rattle.object_laws.specs.elf_object.Blocks.{Block, block_end, is_covered, spread}
 
 -- a piece of bytes stands in bytes at a place
 abbrev pub StandsAt : List ℕ → ℕ → List ℕ → Type 0

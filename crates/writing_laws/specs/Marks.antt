@@ -4,10 +4,10 @@ use Rattle.std.specs.Prelude.{ℕ, List, [], ◌∷◌, length, map, flat_map, f
 use Rattle.std.specs.List.{range_with_len}
 use Rattle.elf_types.specs.declared.records.Part.{Part}
 use Rattle.elf_types.specs.declared.records.Part.TheVariants as part
-use Rattle.elf_object.specs.Object.{Object, section_at}
-use Rattle.elf_object.specs.Steps.{with_mark}
-use Rattle.elf_object.specs.Layout.{placed}
-use Rattle.elf_object.specs.Changed.{is_moved}
+use Rattle.object_laws.specs.elf_object.Object.{Object, section_at}
+use Rattle.object_laws.specs.elf_object.Steps.{with_mark}
+use Rattle.object_laws.specs.elf_object.Layout.{placed}
+use Rattle.object_laws.specs.elf_object.Changed.{is_moved}
 
 -- an object with a dirty mark on each of some parts
 abbrev pub marked_all : Object → List Part → Object

@@ -3,14 +3,14 @@
 use Rattle.std.specs.Prelude.{slice_index_or, ℕ, ◌+◌, ◌-◌, ◌==◌, ◌&&◌, Bool, nat_lt, min, max, List, [], ◌∷◌, ◌++◌, length, sum_by, if◌then◌else◌}
 use Rattle.std.specs.List.{filter, list_any}
 use Rattle.std.proofs.Math.ListN.{replicate}
-use Rattle.elf_layout.specs.Meeting.{sorted_by}
-use Rattle.elf_object.specs.Blocks.{Block, block_end, extents_meet}
-use Rattle.elf_object.specs.Object.{Object, Home, section_at, has_file_bytes, home_is_clean}
-use Rattle.elf_object.specs.Open.{no_block}
-use Rattle.elf_object.specs.Layout.{placed}
-use Rattle.elf_object.specs.Image.{part_blocks, kept_base, image_length}
-use Rattle.elf_object.specs.Changed.{header_changed, segments_changed, section_changed, table_changed, changed_blocks}
-use Rattle.elf_object.specs.Due.{home_due}
+use Rattle.object_laws.specs.elf_layout.Meeting.{sorted_by}
+use Rattle.object_laws.specs.elf_object.Blocks.{Block, block_end, extents_meet}
+use Rattle.object_laws.specs.elf_object.Object.{Object, Home, section_at, has_file_bytes, home_is_clean}
+use Rattle.object_laws.specs.elf_object.Open.{no_block}
+use Rattle.object_laws.specs.elf_object.Layout.{placed}
+use Rattle.object_laws.specs.elf_object.Image.{part_blocks, kept_base, image_length}
+use Rattle.object_laws.specs.elf_object.Changed.{header_changed, segments_changed, section_changed, table_changed, changed_blocks}
+use Rattle.object_laws.specs.elf_object.Due.{home_due}
 
 abbrev pub block_has_bytes : Block → Bool
 block_has_bytes b = nat_lt 0 (length b.bytes)

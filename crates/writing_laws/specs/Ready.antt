@@ -1,8 +1,8 @@
 -- When an update has something to write (elf_update).
 use Rattle.std.specs.Prelude.{◌≡◌, true, None}
-use Rattle.elf_object.specs.Object.{Object, is_dirty}
-use Rattle.elf_object.specs.Refusal.{refusal}
-use Rattle.elf_object.specs.Valid.{IsObject}
+use Rattle.object_laws.specs.elf_object.Object.{Object, is_dirty}
+use Rattle.object_laws.specs.elf_object.Refusal.{refusal}
+use Rattle.object_laws.specs.elf_object.Valid.{IsObject}
 
 -- an object that an update writes: something is dirty, and the update is not refused
 pub record IsReady (o : Object) : Type 0 where

@@ -4,18 +4,18 @@ use Rattle.std.specs.Prelude.{◌≡◌, ℕ, ◌+◌, ◌-◌, ◌<◌, ◌≤�
 use Rattle.std.proofs.Math.ListN.{replicate}
 use Rattle.std.specs.List.{range_with_len}
 use Rattle.elf_types.specs.declared.records.Part.TheVariants as part
-use Rattle.elf_outside.specs.Torn.{IsTorn}
-use Rattle.elf_object.specs.Blocks.{Block, block_end, block_covers, is_covered, spread}
-use Rattle.elf_object.specs.Object.{is_dirty, Object, Home, section_at, has_file_bytes}
-use Rattle.elf_object.specs.Joined.{piece_blocks, pieces_end, file_bytes}
-use Rattle.elf_layout.specs.Meeting.{ranks_by_position}
-use Rattle.elf_object.specs.Layout.{placed_parts, placed}
-use Rattle.elf_object.specs.Image.{part_blocks, kept_base, uncovered_byte, image_length, image, is_fill_place}
-use Rattle.elf_object.specs.Refusal.{refusal}
-use Rattle.elf_object.specs.Settled.{settle}
-use Rattle.elf_object.specs.Changed.{changed_blocks, fill_places, changed_bytes, is_disturbed, torn}
-use Rattle.elf_object.specs.Due.{homes_due, clean_homes}
-use Rattle.elf_object.specs.Valid.{IsObject}
+use Rattle.object_laws.specs.elf_outside.Torn.{IsTorn}
+use Rattle.object_laws.specs.elf_object.Blocks.{Block, block_end, block_covers, is_covered, spread}
+use Rattle.object_laws.specs.elf_object.Object.{is_dirty, Object, Home, section_at, has_file_bytes}
+use Rattle.object_laws.specs.elf_object.Joined.{piece_blocks, pieces_end, file_bytes}
+use Rattle.object_laws.specs.elf_layout.Meeting.{ranks_by_position}
+use Rattle.object_laws.specs.elf_object.Layout.{placed_parts, placed}
+use Rattle.object_laws.specs.elf_object.Image.{part_blocks, kept_base, uncovered_byte, image_length, image, is_fill_place}
+use Rattle.object_laws.specs.elf_object.Refusal.{refusal}
+use Rattle.object_laws.specs.elf_object.Settled.{settle}
+use Rattle.object_laws.specs.elf_object.Changed.{changed_blocks, fill_places, changed_bytes, is_disturbed, torn}
+use Rattle.object_laws.specs.elf_object.Due.{homes_due, clean_homes}
+use Rattle.object_laws.specs.elf_object.Valid.{IsObject}
 use Rattle.object_laws.specs.Laws.{IsTornImage}
 use Rattle.writing_laws.specs.Lines.{HoldsBlock, AreInLine, in_line, gap_places, patched}
 use Rattle.writing_laws.specs.Plan.{plan, block_of_rank, rank_due, places_below, base_gaps, fill_blocks, written_blocks, meets_some, written_below, rank_written_below}

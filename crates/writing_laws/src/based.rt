@@ -1,10 +1,10 @@
 //! What is not marked stands in the base: of the beginnings of an object, kept by every step, and
 //! after an update. Each law is the contract of a function that does nothing.
 
-ghost use Rattle.elf_object.specs.Object.{Object};
+ghost use Rattle.object_laws.specs.elf_object.Object.{Object};
 ghost use Rattle.writing_laws.specs.Based.{BeginningsAreBased, EveryStepKeepsBased, UpdatesKeepBased};
 
-use elf_xlate::{ehdr_both_ways, phdr_both_ways, shdr_both_ways};
+use object_laws::prelude::{ehdr_both_ways, phdr_both_ways, shdr_both_ways};
 
 /// In an image of bytes that is opened, and in an object that is created over any base, what is not
 /// marked stands in the base.

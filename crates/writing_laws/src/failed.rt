@@ -1,7 +1,7 @@
 //! What an update in place that failed leaves, and that it can be done again. Each law is the
 //! contract of a function that does nothing.
 
-ghost use Rattle.elf_object.specs.Object.{Object};
+ghost use Rattle.object_laws.specs.elf_object.Object.{Object};
 ghost use Rattle.writing_laws.specs.Writing.{MarksAreTorn, SettlesAlike, TornDevice, UndisturbedStays};
 
 /// A device that has at each place the old byte or the image's, and the old length or the image's,

@@ -1,7 +1,7 @@
 //! What an update in place writes, and what it may leave alone. Each law is the contract of a
 //! function that does nothing.
 
-ghost use Rattle.elf_object.specs.Object.{Object};
+ghost use Rattle.object_laws.specs.elf_object.Object.{Object};
 ghost use Rattle.writing_laws.specs.Writing.{DisturbedByWrites, InPlace, LeftStands, MeetsBySums, WrittenByPlan, WrittenStands};
 
 /// Where something is dirty, an update is not refused, and what is not marked stands in the base, a

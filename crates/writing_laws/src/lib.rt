@@ -7,5 +7,6 @@ pub mod based;
 pub mod failed;
 pub mod in_place;
 pub mod plans;
+pub mod prelude;
 #[cfg(test)]
 mod tests;

@@ -1,7 +1,7 @@
 //! The order in which an image is written: its parts by their places, and the gaps between them.
 //! Each law is the contract of a function that does nothing.
 
-ghost use Rattle.elf_object.specs.Object.{Object};
+ghost use Rattle.object_laws.specs.elf_object.Object.{Object};
 ghost use Rattle.writing_laws.specs.Writing.{GapBytes, GapsAreFill, PartsAreApart, PiecesInLine, PlanByRank, PlanDue, PlanIsImage};
 
 /// Where something is dirty and an update is not refused, no place is a byte of two parts, and each

@@ -5,7 +5,7 @@ ghost use Rattle.std.specs.Prelude.{◌≡◌, ◌+◌, [], ◌∷◌};
 ghost use Rattle.writing_laws.specs.Lines.{gap_places, in_line, patched};
 ghost use Rattle.writing_laws.specs.Plan.{base_gaps, fill_between, in_order, plan, written_blocks};
 ghost use Rattle.writing_laws.specs.Examples.{extents, three_blocks, two_in_order};
-ghost use Rattle.elf_object.specs.Samples.{shifted32};
+ghost use Rattle.object_laws.specs.elf_object.Samples.{shifted32};
 
 /// Blocks that are not empty by their places, what lies between them, and the bytes of both.
 fn blocks_stand_in_a_line()

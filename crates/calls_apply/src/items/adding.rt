@@ -4,16 +4,15 @@ ghost use Rattle.std.specs.Prelude.{◌≡◌, ℕ, false, length, map, refl};
 ghost use Rattle.elf_types.specs.declared.records.Kind.TheVariants as kinds;
 ghost use Rattle.elf_xlate.specs.declared.content.Items.{Items as TheItems};
 ghost use Rattle.elf_xlate.specs.Translation.{items_kind};
-ghost use Rattle.elf_object.specs.Answers.{kind_at, same_kind};
-ghost use Rattle.elf_object.specs.Runs.{added, more, more_sym, more_rel, more_rela, more_dyn};
+ghost use Rattle.symbol_lookup.specs.elf_object.Answers.{kind_at, same_kind};
+ghost use Rattle.symbol_lookup.specs.elf_object.Runs.{added, more, more_sym, more_rel, more_rela, more_dyn};
 ghost use Rattle.calls_apply.specs.Applies.{Applies, result_of};
 ghost use Rattle.calls_script.specs.declared.calls.Call.TheVariants as call;
 
 use crate::answers::Answer;
-use elf_descriptor::Elf;
 use elf_outside::Source;
 use elf_types::{DataId, Dyn, Kind, List, Rel, Rela, Sym};
-use section_data::Listed;
+use update_plan::prelude::{Elf, section_data_Listed as Listed};
 
 /// A type to whose items a number is added, or to one of their fields, modulo its range.
 trait Adds: Listed + Copy + Drop {

@@ -2,7 +2,7 @@
 
 ghost use Rattle.std.specs.Prelude.{◌≡◌, ◌<◌, length, None, OnOk, IfErr, IfSome};
 ghost use Rattle.elf_types.specs.Answers.{answered, IsRefusal};
-ghost use Rattle.section_data.specs.Views.{IsCell};
+ghost use Rattle.section_table.specs.section_data.Views.{IsCell};
 ghost use Rattle.section_table.specs.Sections.{cell_of, IsAsOpened};
 ghost use Rattle.elf_descriptor.specs.Views.{HasCounts, scn_at, no_scn};
 ghost use Rattle.elf_descriptor.specs.Bodies.{no_piece_in};
@@ -12,8 +12,8 @@ use crate::body::Body;
 use crate::cells::held_in;
 use crate::held::Held;
 use elf_types::{DataId, ElfError, Shdr};
-use section_data::Cell;
 use section_table::CellAt;
+use section_table::prelude::Cell;
 
 impl Body {
     /// Whether there is a section with that number; else `NoSection`.

@@ -1,7 +1,7 @@
 //! An object without sections and program headers.
 
 ghost use Rattle.std.specs.Prelude.{◌≡◌};
-ghost use Rattle.elf_object.specs.Open.{new_ehdr};
+ghost use Rattle.section_table.specs.elf_object.Open.{new_ehdr};
 ghost use Rattle.elf_descriptor.specs.Created.{IsCreatedBody};
 
 use crate::body::{Base, Body};

@@ -1,12 +1,12 @@
 //! Whether a part of the front is the one that stands in the image.
 
 ghost use Rattle.std.specs.Prelude.{◌≡◌, ◌↔◌, ◌+◌, ◌<◌, ℕ, List, Option, None, not, true, length, slice_get, Some, IsTrue};
-ghost use Rattle.elf_layout.specs.declared.parts.Places.{Places as ThePlaces};
-ghost use Rattle.elf_xlate.specs.Headers.{HasNarrowCounts, IsEhdr, IsPhdr, IsShdr};
-ghost use Rattle.elf_object.specs.Blocks.{same_extent};
-ghost use Rattle.elf_object.specs.Changed.{front_differs};
-ghost use Rattle.elf_object.specs.Layout.{section_place};
-ghost use Rattle.elf_object.specs.Refusal.{content_refusal};
+ghost use Rattle.section_table.specs.elf_layout.declared.parts.Places.{Places as ThePlaces};
+ghost use Rattle.section_table.specs.elf_xlate.Headers.{HasNarrowCounts, IsEhdr, IsPhdr, IsShdr};
+ghost use Rattle.section_table.specs.elf_object.Blocks.{same_extent};
+ghost use Rattle.section_table.specs.elf_object.Changed.{front_differs};
+ghost use Rattle.section_table.specs.elf_object.Layout.{section_place};
+ghost use Rattle.section_table.specs.elf_object.Refusal.{content_refusal};
 ghost use Rattle.elf_descriptor.specs.Fronts.{Compares, IsOfFront, TellsHeader, TellsSegments, TellsTable, stored_shdrs};
 ghost use Rattle.elf_descriptor.specs.Places.{HasPlaces, PartsFitAt, stored_shdr};
 ghost use Rattle.elf_descriptor.specs.Sound.{IsElf};
@@ -14,11 +14,11 @@ ghost use Rattle.elf_descriptor.specs.Views.{HasCounts, object_of, scn_at};
 
 use crate::body::places::place_of;
 use crate::body::{Body, Written};
-use elf_layout::Places;
-use elf_object::written_header;
 use elf_types::{Ehdr, Part, Phdr, Shdr};
-use elf_xlate::{ehdr_both_ways, phdr_both_ways, shdr_both_ways};
-use object_laws::laws::sizes_are_lengths;
+use section_table::prelude::{
+    Places, ehdr_both_ways, phdr_both_ways, shdr_both_ways, written_header,
+};
+use writing_laws::prelude::sizes_are_lengths;
 
 /// Whether two ELF headers are the same. The first is in the range of its type.
 fn same_ehdr(one: Ehdr, other: Ehdr) -> bool
@@ -45,7 +45,7 @@ fn same_shdr(one: Shdr, other: Shdr) -> bool
 }
 
 /// Whether two extents are alike: empty ones are, wherever they stand.
-#[tactic(auto, unfolding(elf_object::specs::Blocks::same_extent))]
+#[tactic(auto, unfolding(section_table::specs::Passed::same_extent))]
 fn same_extent(a: u64, m: u64, b: u64, n: u64) -> bool
     ensures value { result ≡ same_extent a m b n }
     ensures alike { result ≡ true → m ≡ n }

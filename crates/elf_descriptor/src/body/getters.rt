@@ -2,8 +2,8 @@
 
 ghost use Rattle.std.specs.Prelude.{◌≡◌, ◌<◌, ◌≤◌, ℕ, List, Option, Ok, IfSome, length};
 ghost use Rattle.std.specs.List.{list_any};
-ghost use Rattle.elf_object.specs.Object.{is_dirty};
-ghost use Rattle.elf_object.specs.Calls as calls;
+ghost use Rattle.section_table.specs.elf_object.Object.{is_dirty};
+ghost use Rattle.section_table.specs.elf_object.Calls as calls;
 ghost use Rattle.elf_descriptor.specs.Views.{HasCounts, object_of, base_of, scn_at};
 ghost use Rattle.elf_descriptor.specs.Bodies.{is_scn_dirty};
 ghost use Rattle.elf_descriptor.specs.Sound.{source_part};

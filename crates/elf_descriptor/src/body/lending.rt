@@ -4,20 +4,19 @@ ghost use Rattle.std.specs.Prelude.{◌≡◌, ◌≢◌, ◌<◌, true, false, 
 ghost use Rattle.std.specs.Borrow.{sem};
 ghost use Rattle.elf_types.specs.declared.errors.ElfError.TheVariants.{Memory};
 ghost use Rattle.elf_types.specs.Answers.{answered};
-ghost use Rattle.elf_xlate.specs.Translation.{items_count};
-ghost use Rattle.elf_outside.specs.Asks.{Asks};
-ghost use Rattle.elf_object.specs.Words.{Answers};
-ghost use Rattle.section_data.specs.Held.{piece_in, HeldIs};
-ghost use Rattle.section_data.specs.Leaves.{LiesIn, OwnsKind};
-ghost use Rattle.section_data.specs.Refused.{kind_refused, lend_due, preparing};
+ghost use Rattle.section_table.specs.elf_xlate.Translation.{items_count};
+ghost use Rattle.section_table.specs.elf_outside.Asks.{Asks};
+ghost use Rattle.section_table.specs.elf_object.Words.{Answers};
+ghost use Rattle.section_table.specs.section_data.Held.{piece_in, HeldIs};
+ghost use Rattle.section_table.specs.section_data.Leaves.{LiesIn, OwnsKind};
+ghost use Rattle.section_table.specs.section_data.Refused.{kind_refused, lend_due, preparing};
 ghost use Rattle.elf_descriptor.specs.Views.{HasCounts, scn_at};
 ghost use Rattle.elf_descriptor.specs.Bodies.{no_list_in};
 ghost use Rattle.elf_descriptor.specs.Warmed.{Warmed};
 
 use crate::body::Body;
-use elf_outside::Source;
 use elf_types::{DataId, ElfError, Kind, List};
-use section_data::Listed;
+use section_table::prelude::{Source, section_data_Listed as Listed};
 
 impl Body {
     ghost use Rattle.elf_descriptor.specs.Owned.{IsOwned, LendsOwn};

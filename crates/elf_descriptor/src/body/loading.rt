@@ -3,11 +3,11 @@
 ghost use Rattle.std.specs.Prelude.{◌≡◌, ◌≢◌, ◌<◌, length, true, IsTrue, is_some, IfErr, OnOk, OnErr};
 ghost use Rattle.elf_types.specs.declared.errors.ElfError.TheVariants.{Memory};
 ghost use Rattle.elf_types.specs.Answers.{answered};
-ghost use Rattle.elf_outside.specs.Asks.{Asks};
-ghost use Rattle.elf_object.specs.Words.{Answers};
-ghost use Rattle.section_data.specs.Held.{piece_in, cell_is_loaded, piece_holds_items, HeldIs};
-ghost use Rattle.section_data.specs.Leaves.{LiesIn};
-ghost use Rattle.section_data.specs.Refused.{load_due, items_due, loading, preparing, home_out, items_refused, kind_refused};
+ghost use Rattle.section_table.specs.elf_outside.Asks.{Asks};
+ghost use Rattle.section_table.specs.elf_object.Words.{Answers};
+ghost use Rattle.section_table.specs.section_data.Held.{piece_in, cell_is_loaded, piece_holds_items, HeldIs};
+ghost use Rattle.section_table.specs.section_data.Leaves.{LiesIn};
+ghost use Rattle.section_table.specs.section_data.Refused.{load_due, items_due, loading, preparing, home_out, items_refused, kind_refused};
 ghost use Rattle.elf_descriptor.specs.Views.{HasCounts, scn_at};
 ghost use Rattle.elf_descriptor.specs.Bodies.{no_raw_in, no_items_in, no_list_in};
 ghost use Rattle.elf_descriptor.specs.Dues.{list_due, IsListed};
@@ -15,8 +15,8 @@ ghost use Rattle.elf_descriptor.specs.Warmed.{Warmed};
 
 use crate::body::Body;
 use crate::cells::fetch_list;
-use elf_outside::Source;
 use elf_types::{DataId, ElfError, Kind};
+use section_table::prelude::Source;
 
 impl Body {
     /// Reads the home of a section that is there, where its bytes are not held. It refuses in this

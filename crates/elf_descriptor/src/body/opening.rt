@@ -2,19 +2,19 @@
 
 ghost use Rattle.std.specs.Prelude.{◌≡◌, IfOk, IfErr};
 ghost use Rattle.elf_types.specs.declared.errors.ElfError.TheVariants.{Memory};
-ghost use Rattle.elf_xlate.specs.Headers.{HasNarrowCounts};
-ghost use Rattle.elf_ident.specs.Reading.{IsCounted};
-ghost use Rattle.elf_object.specs.Open.{standing_header};
+ghost use Rattle.section_table.specs.elf_xlate.Headers.{HasNarrowCounts};
+ghost use Rattle.section_table.specs.elf_ident.Reading.{IsCounted};
+ghost use Rattle.section_table.specs.elf_object.Open.{standing_header};
 ghost use Rattle.elf_descriptor.specs.Begun.{IsOpened, begun_body, standing_front};
 
 use crate::body::{Base, Body, Written};
-use elf_ident::Front;
 use elf_types::{Ehdr, ElfError, List, Phdrs};
+use section_table::prelude::Front;
 use section_table::{HeaderTable, Sections};
 use std::alloc::Global;
 
 /// The header with its counts and its string index as they stand in the image.
-#[tactic(auto, unfolding(elf_object::specs::Open::standing_header))]
+#[tactic(auto, unfolding(section_table::specs::Passed::standing_header))]
 fn as_written(front: &Front) -> Ehdr
     ensures value { result ≡ standing_header front.now }
     ensures narrow { HasNarrowCounts (standing_header front.now) }

@@ -2,7 +2,7 @@
 
 ghost use Rattle.std.specs.Prelude.{◌≡◌, ◌<◌, ℕ, List, Option, length, false, OnOk};
 ghost use Rattle.elf_types.specs.Answers.{answered};
-ghost use Rattle.elf_object.specs.Answers.{flag_bits, flags_of, part_refusal};
+ghost use Rattle.section_table.specs.elf_object.Answers.{flag_bits, flags_of, part_refusal};
 ghost use Rattle.elf_descriptor.specs.Views.{HasCounts, object_of};
 ghost use Rattle.elf_descriptor.specs.Edits.{IsThere};
 

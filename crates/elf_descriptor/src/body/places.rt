@@ -1,16 +1,14 @@
 //! Places, sizes and derived values are stored in the headers.
 
 ghost use Rattle.std.specs.Prelude.{◌≡◌, ◌+◌, ◌<◌, length, slice_set, slice_index};
-ghost use Rattle.elf_object.specs.Layout.{section_place};
+ghost use Rattle.section_table.specs.elf_object.Layout.{section_place};
 ghost use Rattle.elf_descriptor.specs.Views.{HasCounts, scn_at};
 ghost use Rattle.elf_descriptor.specs.Places.{HasPlaces, StoresHeaders, StoresPlaces, shdr_to_store, size_to_store, stored_header, stored_scn, stored_shdr, stored_size};
 
 use crate::body::Body;
-use elf_layout::Places;
-use elf_object::{derived_header, numbered_shdr, occupies_file};
 use elf_types::constants::SHT_NULL;
 use elf_types::{Class, Ehdr, Shdr};
-use section_data::Cell;
+use section_table::prelude::{Cell, Places, derived_header, numbered_shdr, occupies_file};
 
 /// The place of the part with a rank, which is there.
 pub(super) fn place_of(places: &Places, rank: u64) -> u64

@@ -3,11 +3,11 @@
 ghost use Rattle.std.specs.Prelude.{◌≡◌, ◌<◌, ◌||◌, true, false, length, IsTrue, IfErr, OnOk, OnErr};
 ghost use Rattle.elf_types.specs.declared.errors.ElfError.TheVariants.{Read};
 ghost use Rattle.elf_types.specs.Answers.{answered};
-ghost use Rattle.elf_outside.specs.Asks.{Asks};
-ghost use Rattle.elf_object.specs.Words.{Answers};
-ghost use Rattle.section_data.specs.Held.{cell_is_loaded};
-ghost use Rattle.section_data.specs.Refused.{home_out, load_due, reading};
-ghost use Rattle.section_data.specs.Leaves.{LiesIn, with_room};
+ghost use Rattle.section_table.specs.elf_outside.Asks.{Asks};
+ghost use Rattle.section_table.specs.elf_object.Words.{Answers};
+ghost use Rattle.section_table.specs.section_data.Held.{cell_is_loaded};
+ghost use Rattle.section_table.specs.section_data.Refused.{home_out, load_due, reading};
+ghost use Rattle.section_table.specs.section_data.Leaves.{LiesIn, with_room};
 ghost use Rattle.elf_descriptor.specs.Bodies.{no_raw_in};
 ghost use Rattle.elf_descriptor.specs.Edits.{IsStated};
 ghost use Rattle.elf_descriptor.specs.Views.{HasCounts, scn_at, no_scn};
@@ -15,8 +15,8 @@ ghost use Rattle.elf_descriptor.specs.Rooms.{can_let_go, let_go, HoldsSo, Fills}
 
 use crate::body::Body;
 use crate::cells::can_forget;
-use elf_outside::Source;
 use elf_types::ElfError;
+use section_table::prelude::Source;
 
 impl Body {
     /// Keeps memory aside for the home of a section that is there. It refuses in this order:

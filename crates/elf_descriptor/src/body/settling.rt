@@ -1,14 +1,14 @@
 //! An object becomes that of the image that was written.
 
 ghost use Rattle.std.specs.Prelude.{◌≡◌, ◌<◌, All, IsTrue, Some, length, map, slice_set};
-ghost use Rattle.elf_xlate.specs.Headers.{IsPhdr};
+ghost use Rattle.section_table.specs.elf_xlate.Headers.{IsPhdr};
 ghost use Rattle.section_table.specs.Sections.{AreNumbered};
 ghost use Rattle.elf_descriptor.specs.Settling.{SettlesBody, front_as_written};
 ghost use Rattle.elf_descriptor.specs.Views.{ready_of};
 
 use crate::body::{Base, Body, Spare, Written};
-use elf_object::written_header;
 use elf_types::{Phdr, Shdr};
+use section_table::prelude::written_header;
 use section_table::{HeaderTable, Sections};
 use std::mem;
 

@@ -2,7 +2,7 @@
 
 ghost use Rattle.std.specs.Prelude.{◌≡◌, ◌-◌, ◌^◌, min};
 ghost use Rattle.elf_types.specs.Answers.{answered};
-ghost use Rattle.section_data.specs.Sizes.{data_size};
+ghost use Rattle.section_table.specs.section_data.Sizes.{data_size};
 ghost use Rattle.elf_descriptor.specs.Views.{HasCounts, scn_at, no_scn};
 
 use crate::body::Body;

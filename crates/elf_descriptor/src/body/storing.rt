@@ -7,7 +7,7 @@ ghost use Rattle.elf_descriptor.specs.Stores.{no_store_in};
 
 use crate::body::Body;
 use elf_types::{DataId, ElfError};
-use section_data::Storable;
+use section_table::prelude::Storable;
 
 impl Body {
     /// Whether item `i` of a piece of the item's kind can be given that value. It refuses in this

@@ -1,13 +1,12 @@
 //! The base bytes of an object.
 
 ghost use Rattle.std.specs.Prelude.{◌≡◌, ◌+◌, ◌≤◌, length, take, drop, IsTrue, OnOk, IfErr};
-ghost use Rattle.elf_outside.specs.Asks.{Asks};
+ghost use Rattle.section_table.specs.elf_outside.Asks.{Asks};
 
 use crate::body::Base;
 use crate::descriptor::Elf;
-use elf_outside::Source;
-use elf_outside::reads::read;
 use elf_types::ElfError;
+use section_table::prelude::{Source, read};
 
 /// Copies the bytes from the place `at` on into the whole of `buf`.
 fn copy_range(bytes: &[u8], at: u64, buf: &mut [u8])

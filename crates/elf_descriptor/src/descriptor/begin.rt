@@ -4,20 +4,19 @@ ghost use Rattle.std.specs.Prelude.{◌≡◌, ◌+◌, ◌≤◌, Ok, IfOk, IfE
 ghost use Rattle.elf_types.specs.declared.constants.TheConstants.{MAX_IMAGE};
 ghost use Rattle.elf_types.specs.declared.errors.ElfError.TheVariants.{Memory};
 ghost use Rattle.elf_types.specs.Answers.{Follows};
-ghost use Rattle.elf_outside.specs.Asks.{Asks};
-ghost use Rattle.elf_ident.specs.Front.{front_bytes, most_front_bytes};
-ghost use Rattle.elf_ident.specs.Reading.{IsFittingFront, IsCounted, IsFrontRefusal};
-ghost use Rattle.elf_object.specs.Open.{begun, opened};
+ghost use Rattle.section_table.specs.elf_outside.Asks.{Asks};
+ghost use Rattle.section_table.specs.elf_ident.Front.{front_bytes, most_front_bytes};
+ghost use Rattle.section_table.specs.elf_ident.Reading.{IsFittingFront, IsCounted, IsFrontRefusal};
+ghost use Rattle.section_table.specs.elf_object.Open.{begun, opened};
 ghost use Rattle.elf_descriptor.specs.Begun.{BegunIsSound};
 
 use crate::body::Body;
 use crate::descriptor::Elf;
-use elf_ident::{Front, read_front};
-use elf_outside::Source;
 use elf_types::ElfError;
-use object_laws::laws::{beginnings_are_tied, begun_fits};
+use section_table::prelude::{Front, Source, read_front};
 use std::alloc::Global;
 use writing_laws::based::beginnings_are_based;
+use writing_laws::prelude::{beginnings_are_tied, begun_fits};
 
 /// What a front begins is an object; over bytes that are told, and that have this front, what is
 /// not dirty stands in them.

@@ -1,16 +1,16 @@
 //! How a descriptor is created over nothing that was read.
 
 ghost use Rattle.std.specs.Prelude.{[]};
-ghost use Rattle.object_laws.specs.Laws.{BeginningsAre, BeginningsAreTied};
+ghost use Rattle.writing_laws.specs.object_laws.Laws.{BeginningsAre, BeginningsAreTied};
 ghost use Rattle.writing_laws.specs.Based.{BeginningsAreBased};
 
 use crate::body::Body;
 use crate::descriptor::Elf;
-use elf_outside::NoSource;
 use elf_types::{Class, Octets, Order, bytes_are_ranged};
-use object_laws::laws::{beginnings_are, beginnings_are_tied};
+use section_table::prelude::NoSource;
 use std::alloc::Global;
 use writing_laws::based::beginnings_are_based;
+use writing_laws::prelude::{beginnings_are, beginnings_are_tied};
 
 /// What is created is an object, of which what is not dirty stands in its base.
 fn creating_is_sound()

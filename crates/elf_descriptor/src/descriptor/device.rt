@@ -1,13 +1,12 @@
 //! Writes of the device that a descriptor is over.
 
 ghost use Rattle.std.specs.Prelude.{◌≡◌, ◌+◌, ◌≤◌, length, IsTrue, OnOk, OnErr, IfErr};
-ghost use Rattle.elf_outside.specs.Writes.{Resizes, ResizesOrNot};
-ghost use Rattle.elf_outside.specs.Patches.{UsesDevice, Patches};
+ghost use Rattle.section_table.specs.elf_outside.Writes.{Resizes, ResizesOrNot};
+ghost use Rattle.section_table.specs.elf_outside.Patches.{UsesDevice, Patches};
 
 use crate::descriptor::Elf;
-use elf_outside::Device;
-use elf_outside::writes::{set_len, write_at};
 use elf_types::ElfError;
+use section_table::prelude::{Device, set_len, write_at};
 
 impl<D: Device> Elf<D> {
     ghost use Rattle.elf_descriptor.specs.Cuts.{MayWrite, MaySize, CutsBase};

@@ -2,18 +2,17 @@
 
 ghost use Rattle.std.specs.Prelude.{◌≡◌, ◌<◌, ◌^◌, length, OnErr};
 ghost use Rattle.std.specs.Borrow.{sem};
-ghost use Rattle.elf_xlate.specs.Headers.{IsEhdr, IsShdr};
-ghost use Rattle.elf_object.specs.Words.{handing_back, result_map, Edits, EditsWith};
-ghost use Rattle.elf_object.specs.Calls as calls;
-ghost use Rattle.object_laws.specs.Laws.{EveryStepKeeps, EveryStepKeepsTied};
+ghost use Rattle.section_table.specs.elf_xlate.Headers.{IsEhdr, IsShdr};
+ghost use Rattle.section_table.specs.elf_object.Words.{handing_back, result_map, Edits, EditsWith};
+ghost use Rattle.section_table.specs.elf_object.Calls as calls;
+ghost use Rattle.writing_laws.specs.object_laws.Laws.{EveryStepKeeps, EveryStepKeepsTied};
 ghost use Rattle.writing_laws.specs.Based.{EveryStepKeepsBased};
 
 use crate::descriptor::Elf;
-use elf_outside::Source;
 use elf_types::{DataId, Ehdr, ElfError, Part, Phdr, ScnId, Shdr};
-use elf_xlate::Items;
-use object_laws::laws::{every_step_keeps, every_step_keeps_tied};
+use section_table::prelude::{Items, Source};
 use writing_laws::based::every_step_keeps_based;
+use writing_laws::prelude::{every_step_keeps, every_step_keeps_tied};
 
 /// Every edit leaves an object, of which what is not dirty stands in the base.
 pub(super) fn every_step_is_sound()

@@ -2,17 +2,16 @@
 
 ghost use Rattle.std.specs.Prelude.{◌≡◌, ℕ, ◌||◌, true, IsTrue, is_some, IfErr, IfSome, OnOk, None, Ok};
 ghost use Rattle.elf_types.specs.Answers.{answered, IsRefusal};
-ghost use Rattle.elf_object.specs.Words.{Wants, Answers};
-ghost use Rattle.elf_object.specs.Object.{piece_at};
-ghost use Rattle.elf_object.specs.Answers.{lend_refusal, items_at, entry_at};
-ghost use Rattle.elf_object.specs.Due.{is_loaded};
+ghost use Rattle.section_table.specs.elf_object.Words.{Wants, Answers};
+ghost use Rattle.section_table.specs.elf_object.Object.{piece_at};
+ghost use Rattle.section_table.specs.elf_object.Answers.{lend_refusal, items_at, entry_at};
+ghost use Rattle.section_table.specs.elf_object.Due.{is_loaded};
 ghost use Rattle.elf_descriptor.specs.Entries.{entry};
 ghost use Rattle.elf_descriptor.specs.Reads.{Looks, wanted};
 
 use crate::descriptor::Elf;
-use elf_outside::Source;
 use elf_types::{DataId, ElfError};
-use section_data::Item;
+use section_table::prelude::{Item, Source};
 
 impl<S: Source> Elf<S> {
     /// Makes each item of a piece of the item's kind be at hand: it is own, or its home is loaded.

@@ -1,13 +1,12 @@
 //! The front that an update writes.
 
 ghost use Rattle.std.specs.Prelude.{◌≡◌, true, None, OnOk, OnErr, IfErr};
-ghost use Rattle.elf_object.specs.Changed.{front_differs};
-ghost use Rattle.elf_object.specs.Refusal.{content_refusal};
+ghost use Rattle.section_table.specs.elf_object.Changed.{front_differs};
+ghost use Rattle.section_table.specs.elf_object.Refusal.{content_refusal};
 
 use crate::descriptor::Elf;
-use elf_layout::Places;
-use elf_outside::Source;
 use elf_types::{ElfError, Part};
+use section_table::prelude::{Places, Source};
 
 impl<S: Source> Elf<S> {
     ghost use Rattle.elf_descriptor.specs.Fronts.{HoldsBase, IsOfFront};

@@ -2,14 +2,14 @@
 
 ghost use Rattle.std.specs.Prelude.{◌≡◌, false, Ok, IfOk, length};
 ghost use Rattle.elf_types.specs.Answers.{err_of};
-ghost use Rattle.elf_object.specs.Object.{is_dirty};
-ghost use Rattle.elf_object.specs.Answers.{piece_refusal};
-ghost use Rattle.elf_object.specs.Calls as calls;
+ghost use Rattle.section_table.specs.elf_object.Object.{is_dirty};
+ghost use Rattle.section_table.specs.elf_object.Answers.{piece_refusal};
+ghost use Rattle.section_table.specs.elf_object.Calls as calls;
 
 use crate::descriptor::Elf;
 use crate::held::Held;
-use elf_outside::Source;
 use elf_types::{DataId, Ehdr, ElfError, Kind, Part, Phdr, ScnId, Shdr};
+use section_table::prelude::Source;
 use std::alloc::Global;
 
 impl<S: Source> Elf<S> {

@@ -3,8 +3,8 @@
 ghost use Rattle.std.specs.Prelude.{◌≡◌};
 
 use crate::descriptor::Elf;
-use elf_outside::Source;
 use elf_types::{ElfError, ScnId};
+use section_table::prelude::Source;
 
 impl<S: Source> Elf<S> {
     ghost use Rattle.elf_descriptor.specs.Homes.{out_answer};

@@ -3,21 +3,20 @@
 ghost use Rattle.std.specs.Prelude.{◌≡◌, true, length, IsTrue, IfOk, IfSome, OnOk, OnErr, []};
 ghost use Rattle.std.specs.Borrow.{sem};
 ghost use Rattle.elf_types.specs.Answers.{answered};
-ghost use Rattle.elf_xlate.specs.Translation.{items_count};
-ghost use Rattle.elf_object.specs.Words.{Answers};
-ghost use Rattle.elf_object.specs.Object.{piece_at};
-ghost use Rattle.elf_object.specs.Answers.{lend_refusal, items_at, count_at};
-ghost use Rattle.elf_object.specs.Steps.{BecomesOwn};
-ghost use Rattle.elf_object.specs.Calls.{due};
-ghost use Rattle.elf_object.specs.Calls as calls;
+ghost use Rattle.section_table.specs.elf_xlate.Translation.{items_count};
+ghost use Rattle.section_table.specs.elf_object.Words.{Answers};
+ghost use Rattle.section_table.specs.elf_object.Object.{piece_at};
+ghost use Rattle.section_table.specs.elf_object.Answers.{lend_refusal, items_at, count_at};
+ghost use Rattle.section_table.specs.elf_object.Steps.{BecomesOwn};
+ghost use Rattle.section_table.specs.elf_object.Calls.{due};
+ghost use Rattle.section_table.specs.elf_object.Calls as calls;
 ghost use Rattle.elf_descriptor.specs.Owned.{IsOwnPiece};
 ghost use Rattle.elf_descriptor.specs.Reads.{Queries, wanted};
 
 use crate::descriptor::Elf;
 use crate::descriptor::edits::every_step_is_sound;
-use elf_outside::Source;
 use elf_types::{DataId, ElfError, List};
-use section_data::Listed;
+use section_table::prelude::{Source, section_data_Listed as Listed};
 
 mod kinds;
 

@@ -2,17 +2,16 @@
 //! held.
 
 ghost use Rattle.std.specs.Prelude.{◌≡◌, ◌≤◌, true, IsTrue, None};
-ghost use Rattle.elf_object.specs.Object.{section_at};
-ghost use Rattle.elf_object.specs.Answers.{no_section};
-ghost use Rattle.elf_object.specs.Due.{is_loaded};
-ghost use Rattle.section_data.specs.Nuls.{IsEndedFront};
+ghost use Rattle.section_table.specs.elf_object.Object.{section_at};
+ghost use Rattle.section_table.specs.elf_object.Answers.{no_section};
+ghost use Rattle.section_table.specs.elf_object.Due.{is_loaded};
+ghost use Rattle.section_table.specs.section_data.Nuls.{IsEndedFront};
 ghost use Rattle.elf_descriptor.specs.FirstPieces.{AreFirst};
 ghost use Rattle.elf_descriptor.specs.Tables.{IsHeldTable};
 
 use crate::descriptor::Elf;
-use elf_outside::Source;
 use elf_types::ScnId;
-use section_data::FirstPieces;
+use section_table::prelude::{FirstPieces, Source};
 
 impl<S: Source> Elf<S> {
     /// Notes where the pieces of a section that hold bytes end, so that `first_pieces` finds them

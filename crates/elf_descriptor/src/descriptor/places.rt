@@ -2,18 +2,17 @@
 
 ghost use Rattle.std.specs.Prelude.{◌≡◌, ◌-◌, ◌^◌, min, true, None};
 ghost use Rattle.elf_types.specs.Answers.{answered};
-ghost use Rattle.elf_object.specs.Object.{is_dirty};
-ghost use Rattle.elf_object.specs.Answers.{no_section};
-ghost use Rattle.elf_object.specs.Joined.{pieces_end};
-ghost use Rattle.elf_object.specs.Layout.{placed, places_of};
-ghost use Rattle.elf_object.specs.Refusal.{refusal};
+ghost use Rattle.section_table.specs.elf_object.Object.{is_dirty};
+ghost use Rattle.section_table.specs.elf_object.Answers.{no_section};
+ghost use Rattle.section_table.specs.elf_object.Joined.{pieces_end};
+ghost use Rattle.section_table.specs.elf_object.Layout.{placed, places_of};
+ghost use Rattle.section_table.specs.elf_object.Refusal.{refusal};
 
 use crate::descriptor::Elf;
 use crate::descriptor::edits::every_step_is_sound;
-use elf_layout::Places;
-use elf_outside::Source;
 use elf_types::{ElfError, ScnId};
-use object_laws::laws::sizes_are_lengths;
+use section_table::prelude::{Places, Source};
+use writing_laws::prelude::sizes_are_lengths;
 
 impl<S: Source> Elf<S> {
     /// The size of a section's data: where its last piece ends, each piece standing at a multiple

@@ -3,17 +3,16 @@
 ghost use Rattle.std.specs.Prelude.{◌≡◌, true, IsTrue, OnOk, [], None};
 ghost use Rattle.std.specs.Borrow.{sem};
 ghost use Rattle.elf_types.specs.Answers.{answered};
-ghost use Rattle.elf_object.specs.Words.{Answers, AlikeBytes, AlikeItems, IsLike, seen};
-ghost use Rattle.elf_object.specs.Object.{section_at, piece_at};
-ghost use Rattle.elf_object.specs.Answers.{raw_refusal, data_refusal, items_at};
-ghost use Rattle.elf_object.specs.Due.{is_loaded, holds_items};
-ghost use Rattle.elf_object.specs.Calls as calls;
+ghost use Rattle.section_table.specs.elf_object.Words.{Answers, AlikeBytes, AlikeItems, IsLike, seen};
+ghost use Rattle.section_table.specs.elf_object.Object.{section_at, piece_at};
+ghost use Rattle.section_table.specs.elf_object.Answers.{raw_refusal, data_refusal, items_at};
+ghost use Rattle.section_table.specs.elf_object.Due.{is_loaded, holds_items};
+ghost use Rattle.section_table.specs.elf_object.Calls as calls;
 ghost use Rattle.elf_descriptor.specs.Reads.{Queries, Looks, wanted};
 
 use crate::descriptor::Elf;
-use elf_outside::Source;
 use elf_types::{DataId, ElfError, ScnId};
-use elf_xlate::Items;
+use section_table::prelude::{Items, Source};
 
 impl<S: Source> Elf<S> {
     ghost use Rattle.elf_descriptor.specs.Rests.{Rests, GivesRaw, GivesItems};

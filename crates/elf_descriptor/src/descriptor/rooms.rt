@@ -3,14 +3,14 @@
 
 ghost use Rattle.std.specs.Prelude.{◌≡◌, [], true, IsTrue, OnOk, IfErr};
 ghost use Rattle.elf_types.specs.Answers.{answered};
-ghost use Rattle.elf_object.specs.Words.{Answers, Edits};
-ghost use Rattle.elf_object.specs.Answers.{no_section, raw_refusal};
-ghost use Rattle.elf_object.specs.Due.{is_loaded};
-ghost use Rattle.elf_object.specs.Calls as calls;
+ghost use Rattle.section_table.specs.elf_object.Words.{Answers, Edits};
+ghost use Rattle.section_table.specs.elf_object.Answers.{no_section, raw_refusal};
+ghost use Rattle.section_table.specs.elf_object.Due.{is_loaded};
+ghost use Rattle.section_table.specs.elf_object.Calls as calls;
 
 use crate::descriptor::Elf;
-use elf_outside::Source;
 use elf_types::{ElfError, ScnId};
+use section_table::prelude::Source;
 
 impl<S: Source> Elf<S> {
     ghost use Rattle.elf_descriptor.specs.Rooms.{with_room_for, has_room_for, reads_home, unloaded};

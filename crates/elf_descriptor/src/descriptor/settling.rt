@@ -1,16 +1,16 @@
 //! What an update in place leaves.
 
 ghost use Rattle.std.specs.Prelude.{◌≡◌, true, length, IsTrue, IfSome, None};
-ghost use Rattle.elf_object.specs.Image.{image};
-ghost use Rattle.elf_object.specs.Layout.{placed};
-ghost use Rattle.elf_object.specs.Object.{is_dirty};
-ghost use Rattle.elf_object.specs.Refusal.{refusal};
+ghost use Rattle.section_table.specs.elf_object.Image.{image};
+ghost use Rattle.section_table.specs.elf_object.Layout.{placed};
+ghost use Rattle.section_table.specs.elf_object.Object.{is_dirty};
+ghost use Rattle.section_table.specs.elf_object.Refusal.{refusal};
 ghost use Rattle.elf_descriptor.specs.Settling.{SettlingIsSound};
 
 use crate::descriptor::Elf;
-use elf_outside::Device;
-use object_laws::laws::{updates_keep, updates_tie};
+use section_table::prelude::Device;
 use writing_laws::based::updates_keep_based;
+use writing_laws::prelude::{updates_keep, updates_tie};
 
 /// What is settled is an object; over a source that tells its bytes, what is not dirty stands in
 /// them.

@@ -2,15 +2,14 @@
 
 ghost use Rattle.std.specs.Prelude.{◌≡◌, true, IfErr, OnOk, OnErr, []};
 ghost use Rattle.elf_types.specs.Answers.{answered, IsRefusal};
-ghost use Rattle.elf_object.specs.Words.{Answers};
-ghost use Rattle.elf_object.specs.Calls.{update_item_refusal};
+ghost use Rattle.section_table.specs.elf_object.Words.{Answers};
+ghost use Rattle.section_table.specs.elf_object.Calls.{update_item_refusal};
 ghost use Rattle.elf_descriptor.specs.Reads.{Queries, wanted};
 ghost use Rattle.elf_descriptor.specs.Stores.{store, EditsItems};
 
 use crate::descriptor::Elf;
-use elf_outside::Source;
 use elf_types::{DataId, ElfError};
-use section_data::Storable;
+use section_table::prelude::{Source, Storable};
 
 impl<S: Source> Elf<S> {
     /// Whether item `i` of a piece of the item's kind can be given that value; it refuses as

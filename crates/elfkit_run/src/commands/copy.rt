@@ -5,7 +5,7 @@ ghost use Rattle.tool_text.specs.Forms.{HasNames};
 ghost use Rattle.tool_output.specs.Files.{LeavesFiles};
 ghost use Rattle.tool_output.specs.Statuses.{refused_status};
 ghost use Rattle.tool_output.specs.Outcomes.{Does};
-ghost use Rattle.command_outcomes.specs.Copy.{copy_outcome};
+ghost use Rattle.selftest_tool.specs.command_outcomes.Copy.{copy_outcome};
 
 use copy_tool::copy_file;
 use elf_outside::{Files, Sink};

@@ -4,7 +4,7 @@ ghost use Rattle.std.specs.Prelude.{◌≤◌, IsTrue};
 ghost use Rattle.tool_output.specs.Files.{LeavesFiles};
 ghost use Rattle.tool_output.specs.Outcomes.{Does};
 ghost use Rattle.tool_output.specs.Statuses.{refused_status};
-ghost use Rattle.command_outcomes.specs.Selftest.{selftest_outcome};
+ghost use Rattle.selftest_tool.specs.command_outcomes.Selftest.{selftest_outcome};
 
 use elf_outside::{Files, Sink};
 use selftest_tool::write_and_tell;

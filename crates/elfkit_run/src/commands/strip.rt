@@ -4,7 +4,7 @@ ghost use Rattle.std.specs.Prelude.{◌≡◌, ◌≢◌, None, IsTrue};
 ghost use Rattle.tool_output.specs.Files.{LeavesFiles};
 ghost use Rattle.tool_output.specs.Statuses.{refused_status};
 ghost use Rattle.tool_output.specs.Outcomes.{Does};
-ghost use Rattle.command_outcomes.specs.Strip.{strip_outcome};
+ghost use Rattle.selftest_tool.specs.command_outcomes.Strip.{strip_outcome};
 
 use elf_outside::{Files, Sink};
 use std::alloc::Global;

@@ -12,9 +12,9 @@ ghost use Rattle.section_data.specs.Leaves.{replaced, appended, marked_piece};
 use crate::cell::Cell;
 use crate::piece::Piece;
 use elf_object::is_piece_align;
+use elf_object::prelude::{Items, unfit};
 use elf_types::constants::MAX_PIECES;
 use elf_types::{Class, ElfError, Part};
-use elf_xlate::{Items, unfit};
 
 impl Cell {
     /// Whether items fit the class as the piece with that number; else `Unfit`.

@@ -7,8 +7,8 @@ ghost use Rattle.section_data.specs.Held.{piece_in, kind_in, items_in, is_at_han
 
 use crate::cell::Cell;
 use crate::item::{Item, entry, item_if_whole, item_in};
+use elf_object::prelude::Items;
 use elf_types::{Class, ElfError, Kind, Order};
-use elf_xlate::Items;
 
 impl Cell {
     /// The items of a piece that holds them. It takes no memory.

@@ -4,9 +4,9 @@ ghost use Rattle.std.specs.Prelude.{◌≡◌, ◌<◌, true, length, IsTrue, Is
 ghost use Rattle.std.specs.Borrow.{sem};
 ghost use Rattle.elf_types.specs.declared.errors.ElfError.TheVariants.{Memory};
 ghost use Rattle.elf_types.specs.Answers.{answered, IsRefusal};
-ghost use Rattle.elf_outside.specs.Asks.{Asks};
+ghost use Rattle.elf_object.specs.elf_outside.Asks.{Asks};
 ghost use Rattle.elf_object.specs.Words.{Answers, result_map};
-ghost use Rattle.elf_xlate.specs.Translation.{items_kind, items_count};
+ghost use Rattle.elf_object.specs.elf_xlate.Translation.{items_kind, items_count};
 ghost use Rattle.section_data.specs.Views.{IsCell};
 ghost use Rattle.section_data.specs.Held.{piece_in, kind_in, piece_holds_items, items_over, HeldIs};
 ghost use Rattle.section_data.specs.Refused.{kind_refused, wrong_piece_kind, lend_due, preparing};
@@ -14,9 +14,8 @@ ghost use Rattle.section_data.specs.Leaves.{LiesIn, Claims, Owns, OwnsKind, Stay
 
 use crate::cell::Cell;
 use crate::listed::Listed;
-use elf_outside::Source;
+use elf_object::prelude::{Items, Source};
 use elf_types::{Class, ElfError, Kind, List, Order};
-use elf_xlate::Items;
 
 impl Cell {
     ghost use Rattle.section_data.specs.Lends.{LendsCell, LendsCellItems, LendsItems, LendsItemList};

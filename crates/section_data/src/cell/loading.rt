@@ -3,8 +3,8 @@
 ghost use Rattle.std.specs.Prelude.{◌≡◌, ◌≢◌, ◌⊎◌, ◌+◌, ◌<◌, ◌≤◌, length, take, drop, true, false, IsTrue, IsSome, IfOk, IfErr, IfSome, OnOk, OnErr, Some, None, is_some, ◌||◌, if◌then◌else◌};
 ghost use Rattle.elf_types.specs.declared.errors.ElfError.TheVariants.{Memory, Read};
 ghost use Rattle.elf_types.specs.Answers.{answered, IsRefusal};
-ghost use Rattle.elf_outside.specs.Asks.{Asks};
-ghost use Rattle.elf_xlate.specs.Translation.{decoded, is_whole};
+ghost use Rattle.elf_object.specs.elf_outside.Asks.{Asks};
+ghost use Rattle.elf_object.specs.elf_xlate.Translation.{decoded, is_whole};
 ghost use Rattle.elf_object.specs.Words.{Answers};
 ghost use Rattle.elf_types.specs.declared.records.Class.{Class as TheClass};
 ghost use Rattle.elf_types.specs.declared.records.Order.{Order as TheOrder};
@@ -17,10 +17,8 @@ ghost use Rattle.section_data.specs.Nuls.{IsEndedFront};
 
 use crate::cell::Cell;
 use crate::home::Home;
-use elf_outside::Source;
-use elf_outside::reads::read_range;
+use elf_object::prelude::{Items, Source, XlateError, item_size, read_range, to_memory};
 use elf_types::{Class, ElfError, Kind, Octets, Order};
-use elf_xlate::{Items, XlateError, item_size, to_memory};
 use std::alloc::Global;
 
 /// The bytes of a home. An empty one is not read, and takes no memory.

@@ -3,7 +3,7 @@
 ghost use Rattle.std.specs.Prelude.{◌≡◌, ◌<◌, true, IsTrue, IfErr, OnOk, OnErr, ◌||◌};
 ghost use Rattle.elf_types.specs.declared.errors.ElfError.TheVariants.{Read};
 ghost use Rattle.elf_types.specs.Answers.{answered};
-ghost use Rattle.elf_outside.specs.Asks.{Asks};
+ghost use Rattle.elf_object.specs.elf_outside.Asks.{Asks};
 ghost use Rattle.elf_object.specs.Words.{Answers, Edits};
 ghost use Rattle.section_data.specs.Views.{IsCell};
 ghost use Rattle.section_data.specs.Held.{cell_is_loaded, is_untouched};
@@ -11,7 +11,7 @@ ghost use Rattle.section_data.specs.Refused.{home_out, load_due, reading};
 ghost use Rattle.section_data.specs.Leaves.{LiesIn, FillsRoom, with_room, unloaded};
 
 use crate::cell::Cell;
-use elf_outside::Source;
+use elf_object::prelude::Source;
 use elf_types::ElfError;
 
 impl Cell {

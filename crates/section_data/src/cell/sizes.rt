@@ -9,9 +9,8 @@ ghost use Rattle.section_data.specs.Spans.{AreFirstIn};
 use crate::cell::Cell;
 use crate::first::FirstPieces;
 use crate::piece::Piece;
-use elf_layout::rounded_within;
+use elf_object::prelude::{fsize, rounded_within};
 use elf_types::Class;
-use elf_xlate::fsize;
 
 /// The number of bytes of a piece in the file of a class, in a section whose home has so many; None
 /// exactly where it passes 2^64 - 1.

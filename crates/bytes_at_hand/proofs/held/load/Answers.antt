@@ -1,5 +1,5 @@
 use Rattle.std.proofs.Common.{sym}
-use Rattle.elf_object.specs.Calls as calls
+use Rattle.object_output.specs.elf_object.Calls as calls
 use Rattle.object_output.proofs.OnceReads.{once_unless}
 use Rattle.object_output.proofs.OnceSums.{once_one}
 use Rattle.object_output.proofs.QueryLemmas.{reads_on, reads_stop, settled_ok, settled_none}

@@ -1,5 +1,5 @@
 use Rattle.std.proofs.Common.{sym}
-use Rattle.elf_object.proofs.AnswerLaws.{answered_value}
+use Rattle.object_output.proofs.elf_object.AnswerLaws.{answered_value}
 use Rattle.bytes_at_hand.proofs.Ends.{some_weaker}
 use Rattle.bytes_at_hand.proofs.HeldItems.{holds_items}
 use Rattle.bytes_at_hand.proofs.items.item_bytes.Goals as goal

@@ -1,7 +1,7 @@
 use Rattle.std.proofs.Common.{◌≡◌, ◌≤◌, ◌<◌, ◌*◌, ◌/◌, ℕ, None, Some, length, take, drop, sym, ap, ◌∙◌, subst}
-use Rattle.elf_xlate.specs.Items.{item_size}
-use Rattle.elf_object.proofs.AnswerLaws.{entry_value}
-use Rattle.section_data.proofs.Items.{entry_there, entry_past}
+use Rattle.object_output.specs.elf_xlate.Items.{item_size}
+use Rattle.object_output.proofs.elf_object.AnswerLaws.{entry_value}
+use Rattle.object_output.proofs.section_data.Items.{entry_there, entry_past}
 use Rattle.bytes_at_hand.proofs.HeldItems.{no_entry_at}
 use Rattle.bytes_at_hand.proofs.items.item_of.Goals as goal
 

@@ -1,7 +1,7 @@
 use Rattle.std.proofs.Common.{◌/◌, ◌<◌, ℕ, length, ap, ◌∙◌, arith}
 use Rattle.std.proofs.Math.Nat.{div-lt_iff_lt-mul}
-use Rattle.elf_xlate.specs.Items.{item_size}
-use Rattle.section_data.proofs.Items.{entry_past}
+use Rattle.object_output.specs.elf_xlate.Items.{item_size}
+use Rattle.object_output.proofs.section_data.Items.{entry_past}
 use Rattle.bytes_at_hand.proofs.HeldItems.{all_before, no_entry_at}
 use Rattle.bytes_at_hand.proofs.items.most_items.Goals as goal
 

@@ -1,5 +1,5 @@
 use Rattle.std.proofs.Common.{◌≡◌, ℕ, ◌≤◌, false, Option, IfSome, inl, inr, refl, sym, ◌∙◌, subst, arith}
-use Rattle.section_data.specs.Held.{items_of_bytes}
+use Rattle.object_output.specs.section_data.Held.{items_of_bytes}
 use Rattle.bytes_at_hand.proofs.HeldItems.{all_before}
 use Rattle.bytes_at_hand.proofs.Passing.{one_passes, one_fails, none_passes, none_late}
 use Rattle.bytes_at_hand.proofs.scans.next_in.Goals as goal

@@ -1,5 +1,5 @@
 use Rattle.std.proofs.Common.{◌≡◌, ◌≤◌}
-use Rattle.section_data.specs.Held.{items_of_bytes}
+use Rattle.object_output.specs.section_data.Held.{items_of_bytes}
 use Rattle.bytes_at_hand.specs.Items.{passing_from}
 use Rattle.bytes_at_hand.proofs.scans.next_in.Given as goal
 

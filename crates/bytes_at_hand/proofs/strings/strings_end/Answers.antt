@@ -1,5 +1,5 @@
 use Rattle.std.proofs.Common.{IfSome, subst}
-use Rattle.elf_object.specs.Object.{Object}
+use Rattle.object_output.specs.elf_object.Object.{Object}
 use Rattle.object_output.proofs.ElfSteps.{still_told}
 use Rattle.bytes_at_hand.specs.Strings.{EndsAt}
 use Rattle.bytes_at_hand.proofs.strings.strings_end.Goals as goal

@@ -1,7 +1,7 @@
 use Rattle.std.proofs.Common.{◌≡◌, List, ℕ, length, drop, ap, sym, ◌∙◌, subst}
 use Rattle.std.specs.Prelude.{nat_lt, is_some}
-use Rattle.gelf_view.specs.Records.{string_front}
-use Rattle.gelf_view.proofs.EndedStrings.{same_strings, each_ended}
+use Rattle.object_output.specs.gelf_view.Records.{string_front}
+use Rattle.object_output.proofs.gelf_view.EndedStrings.{same_strings, each_ended}
 use Rattle.bytes_at_hand.proofs.strings.up_to_last_nul.Goals as goal
 
 pub returns-clause-same : goal.returns-clause-same

@@ -1,5 +1,5 @@
 use Rattle.std.proofs.Common.{Ok, refl, false}
-use Rattle.elf_object.specs.Calls as calls
+use Rattle.symbol_lookup.specs.elf_object.Calls as calls
 use Rattle.calls_apply.specs.Stated.{stated, done}
 use Rattle.calls_apply.proofs.Meeting.{stepped_meets}
 use Rattle.calls_apply.proofs.flags.set_fill.Goals as goal

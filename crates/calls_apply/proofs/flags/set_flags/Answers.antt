@@ -1,8 +1,8 @@
 use Rattle.std.proofs.Common.{Ok, Err}
-use Rattle.elf_object.specs.Calls as calls
-use Rattle.elf_object.specs.Calls.{flag_refusal}
-use Rattle.elf_object.specs.Answers.{flags_of}
-use Rattle.elf_object.specs.Steps.{with_flags}
+use Rattle.symbol_lookup.specs.elf_object.Calls as calls
+use Rattle.symbol_lookup.specs.elf_object.Calls.{flag_refusal}
+use Rattle.symbol_lookup.specs.elf_object.Answers.{flags_of}
+use Rattle.symbol_lookup.specs.elf_object.Steps.{with_flags}
 use Rattle.calls_apply.specs.Stated.{stated}
 use Rattle.calls_apply.specs.declared.answers.Answer.TheVariants as answer
 use Rattle.calls_apply.proofs.Refusing.{settled, flag_refuses}

@@ -1,7 +1,7 @@
 use Rattle.std.proofs.Common.{refl}
-use Rattle.elf_object.specs.Calls as calls
-use Rattle.elf_object.specs.Calls.{newphdr_refusal}
-use Rattle.elf_descriptor.specs.Edits.{stepped}
+use Rattle.symbol_lookup.specs.elf_object.Calls as calls
+use Rattle.symbol_lookup.specs.elf_object.Calls.{newphdr_refusal}
+use Rattle.update_plan.specs.elf_descriptor.Edits.{stepped}
 use Rattle.calls_apply.specs.Stated.{stated, done}
 use Rattle.calls_apply.proofs.Refusing.{answer_refuses, newphdr_refuses}
 use Rattle.calls_apply.proofs.Meeting.{edits_meet}

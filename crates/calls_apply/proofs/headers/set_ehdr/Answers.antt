@@ -1,7 +1,7 @@
 use Rattle.std.proofs.Common.{false, Ok, sym}
-use Rattle.elf_object.specs.Object.{header_of}
-use Rattle.elf_object.specs.Calls.{update_ehdr_refusal}
-use Rattle.elf_object.specs.Calls as calls
+use Rattle.symbol_lookup.specs.elf_object.Object.{header_of}
+use Rattle.symbol_lookup.specs.elf_object.Calls.{update_ehdr_refusal}
+use Rattle.symbol_lookup.specs.elf_object.Calls as calls
 use Rattle.calls_apply.specs.Fields.{ehdr_with}
 use Rattle.calls_apply.specs.Stated.{stated}
 use Rattle.calls_apply.proofs.Refusing.{settled, update_ehdr_refuses}

@@ -1,6 +1,6 @@
 use Rattle.std.proofs.Common.{false, sym}
-use Rattle.elf_object.specs.Calls.{phdr_answer, update_phdr_refusal}
-use Rattle.elf_object.specs.Calls as calls
+use Rattle.symbol_lookup.specs.elf_object.Calls.{phdr_answer, update_phdr_refusal}
+use Rattle.symbol_lookup.specs.elf_object.Calls as calls
 use Rattle.calls_apply.specs.Fields.{phdr_with}
 use Rattle.calls_apply.specs.Stated.{stated}
 use Rattle.calls_apply.proofs.Refusing.{settled, phdr_refuses, update_phdr_refuses}

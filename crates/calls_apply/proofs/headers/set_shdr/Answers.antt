@@ -1,6 +1,6 @@
 use Rattle.std.proofs.Common.{false, sym}
-use Rattle.elf_object.specs.Calls.{shdr_answer, update_shdr_refusal}
-use Rattle.elf_object.specs.Calls as calls
+use Rattle.symbol_lookup.specs.elf_object.Calls.{shdr_answer, update_shdr_refusal}
+use Rattle.symbol_lookup.specs.elf_object.Calls as calls
 use Rattle.calls_apply.specs.Fields.{shdr_with}
 use Rattle.calls_apply.specs.Stated.{stated}
 use Rattle.calls_apply.proofs.Refusing.{settled, shdr_refuses, update_shdr_refuses}

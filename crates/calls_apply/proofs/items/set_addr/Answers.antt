@@ -3,9 +3,9 @@ use Rattle.calls_apply.specs.Applies.{at_any_step}
 use Rattle.elf_types.specs.declared.records.Kind.TheVariants as kinds
 use Rattle.elf_xlate.specs.declared.content.Items.TheVariants as items
 use Rattle.elf_xlate.specs.Fields.{fits}
-use Rattle.elf_object.specs.Answers.{addrs_of}
-use Rattle.elf_object.specs.Calls.{addr_answer}
-use Rattle.elf_object.proofs.ItemCounts.{addrs_counted}
+use Rattle.symbol_lookup.specs.elf_object.Answers.{addrs_of}
+use Rattle.symbol_lookup.specs.elf_object.Calls.{addr_answer}
+use Rattle.symbol_lookup.proofs.elf_object.ItemCounts.{addrs_counted}
 use Rattle.calls_apply.proofs.Setting.{set_refused, set_number}
 use Rattle.calls_apply.proofs.items.set_addr.Goals as goal
 

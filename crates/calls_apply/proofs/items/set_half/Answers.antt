@@ -2,9 +2,9 @@ use Rattle.std.proofs.Common.{true, false, refl}
 use Rattle.calls_apply.specs.Applies.{at_any_step}
 use Rattle.elf_types.specs.declared.records.Kind.TheVariants as kinds
 use Rattle.elf_xlate.specs.declared.content.Items.TheVariants as items
-use Rattle.elf_object.specs.Answers.{halves_of}
-use Rattle.elf_object.specs.Calls.{half_answer}
-use Rattle.elf_object.proofs.ItemCounts.{halves_counted}
+use Rattle.symbol_lookup.specs.elf_object.Answers.{halves_of}
+use Rattle.symbol_lookup.specs.elf_object.Calls.{half_answer}
+use Rattle.symbol_lookup.proofs.elf_object.ItemCounts.{halves_counted}
 use Rattle.calls_apply.proofs.Setting.{set_refused, set_number}
 use Rattle.calls_apply.proofs.items.set_half.Goals as goal
 

@@ -3,10 +3,10 @@ use Rattle.calls_apply.specs.Applies.{at_any_step}
 use Rattle.elf_types.specs.declared.records.Kind.TheVariants as kinds
 use Rattle.elf_xlate.specs.declared.content.Items.TheVariants as items
 use Rattle.elf_xlate.specs.Items.{rela_fits}
-use Rattle.elf_object.specs.Answers.{relas_of}
-use Rattle.elf_object.specs.Calls.{rela_answer}
+use Rattle.symbol_lookup.specs.elf_object.Answers.{relas_of}
+use Rattle.symbol_lookup.specs.elf_object.Calls.{rela_answer}
 use Rattle.calls_apply.specs.Fields.{rela_with}
-use Rattle.elf_object.proofs.ItemCounts.{relas_counted}
+use Rattle.symbol_lookup.proofs.elf_object.ItemCounts.{relas_counted}
 use Rattle.calls_apply.proofs.Setting.{set_refused, set_field}
 use Rattle.calls_apply.proofs.items.set_rela.Goals as goal
 

@@ -3,10 +3,10 @@ use Rattle.calls_apply.specs.Applies.{at_any_step}
 use Rattle.elf_types.specs.declared.records.Kind.TheVariants as kinds
 use Rattle.elf_xlate.specs.declared.content.Items.TheVariants as items
 use Rattle.elf_xlate.specs.Items.{sym_fits}
-use Rattle.elf_object.specs.Answers.{syms_of}
-use Rattle.elf_object.specs.Calls.{sym_answer}
+use Rattle.symbol_lookup.specs.elf_object.Answers.{syms_of}
+use Rattle.symbol_lookup.specs.elf_object.Calls.{sym_answer}
 use Rattle.calls_apply.specs.Fields.{sym_with}
-use Rattle.elf_object.proofs.ItemCounts.{syms_counted}
+use Rattle.symbol_lookup.proofs.elf_object.ItemCounts.{syms_counted}
 use Rattle.calls_apply.proofs.Setting.{set_refused, set_field}
 use Rattle.calls_apply.proofs.items.set_sym.Goals as goal
 

@@ -1,9 +1,9 @@
 use Rattle.std.proofs.Common.{Ok, Err, refl, sym, ◌∙◌}
-use Rattle.elf_object.specs.Calls as calls
+use Rattle.symbol_lookup.specs.elf_object.Calls as calls
 use Rattle.elf_xlate.specs.declared.content.Items.TheVariants as items
-use Rattle.elf_object.specs.Answers.{piece_count}
-use Rattle.elf_object.specs.Calls.{newdata_refusal}
-use Rattle.elf_descriptor.specs.Edits.{stepped, numbers_of}
+use Rattle.symbol_lookup.specs.elf_object.Answers.{piece_count}
+use Rattle.symbol_lookup.specs.elf_object.Calls.{newdata_refusal}
+use Rattle.update_plan.specs.elf_descriptor.Edits.{stepped, numbers_of}
 use Rattle.calls_apply.specs.Stated.{stated, piece_shown}
 use Rattle.calls_apply.proofs.Refusing.{answer_refuses, newdata_refuses}
 use Rattle.calls_apply.proofs.Meeting.{edits_meet, dropped_edits}

@@ -1,9 +1,9 @@
 use Rattle.std.proofs.Common.{Ok, Err, refl}
-use Rattle.elf_object.specs.Calls as calls
-use Rattle.elf_object.specs.Calls.{newscn_refusal}
-use Rattle.elf_object.specs.Steps.{new_number}
-use Rattle.elf_descriptor.specs.Edits.{grown}
-use Rattle.elf_descriptor.proofs.EditSections.{none_more}
+use Rattle.symbol_lookup.specs.elf_object.Calls as calls
+use Rattle.symbol_lookup.specs.elf_object.Calls.{newscn_refusal}
+use Rattle.symbol_lookup.specs.elf_object.Steps.{new_number}
+use Rattle.update_plan.specs.elf_descriptor.Edits.{grown}
+use Rattle.update_plan.proofs.elf_descriptor.EditSections.{none_more}
 use Rattle.calls_apply.specs.Stated.{stated}
 use Rattle.calls_apply.specs.declared.answers.Answer.TheVariants as answer
 use Rattle.calls_apply.proofs.Refusing.{answer_refuses, newscn_refuses}

@@ -1,12 +1,12 @@
 use Rattle.std.proofs.Common.{false}
-use Rattle.elf_object.specs.Calls as calls
+use Rattle.symbol_lookup.specs.elf_object.Calls as calls
 use Rattle.elf_xlate.specs.declared.content.Items.TheVariants as items
-use Rattle.elf_object.specs.Calls.{replace_refusal}
-use Rattle.elf_descriptor.specs.Edits.{stepped}
+use Rattle.symbol_lookup.specs.elf_object.Calls.{replace_refusal}
+use Rattle.update_plan.specs.elf_descriptor.Edits.{stepped}
 use Rattle.calls_apply.specs.Stated.{stated, done}
 use Rattle.calls_apply.proofs.Refusing.{settled, replace_refuses}
 use Rattle.calls_apply.proofs.Meeting.{stepped_meets, copying_meets, came_back, dropped_steps}
-use Rattle.elf_object.specs.Runs.{mapped}
+use Rattle.symbol_lookup.specs.elf_object.Runs.{mapped}
 use Rattle.calls_apply.proofs.pieces.put_piece.Goals as goal
 
 pub returns : goal.returns

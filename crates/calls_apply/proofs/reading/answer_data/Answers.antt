@@ -1,11 +1,11 @@
 use Rattle.std.proofs.Common.{true, Ok, refl}
-use Rattle.elf_object.specs.Calls as calls
+use Rattle.symbol_lookup.specs.elf_object.Calls as calls
 use Rattle.calls_apply.specs.Stated.{stated, data_shown}
 use Rattle.calls_apply.specs.declared.answers.Answer.TheVariants as answer
 use Rattle.calls_apply.proofs.Answered.{by_value, by_error, data_exact}
 use Rattle.calls_apply.proofs.Meeting.{value_meets, error_meets}
 use Rattle.calls_apply.specs.Applies.{all_early, at_any_step}
-use Rattle.elf_object.specs.Runs.{mapped}
+use Rattle.symbol_lookup.specs.elf_object.Runs.{mapped}
 use Rattle.calls_apply.proofs.reading.answer_data.Goals as goal
 
 pub returns-in-Ok : goal.returns-in-Ok

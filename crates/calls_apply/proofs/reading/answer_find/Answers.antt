@@ -1,6 +1,6 @@
-use Rattle.elf_object.specs.Answers.{count_at}
+use Rattle.symbol_lookup.specs.elf_object.Answers.{count_at}
 use Rattle.std.proofs.Common.{Ok, Err, refl}
-use Rattle.elf_object.specs.Runs.{mapped}
+use Rattle.symbol_lookup.specs.elf_object.Runs.{mapped}
 use Rattle.symbol_lookup.specs.Lookups as lookups
 use Rattle.calls_apply.specs.Stated.{stated, found_shown}
 use Rattle.calls_apply.specs.Applies.{all_early, at_any_step}

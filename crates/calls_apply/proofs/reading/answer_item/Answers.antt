@@ -1,11 +1,11 @@
 use Rattle.std.proofs.Common.{refl}
-use Rattle.elf_object.specs.Calls.{data_answer}
+use Rattle.symbol_lookup.specs.elf_object.Calls.{data_answer}
 use Rattle.calls_apply.specs.Stated.{stated, item_in}
 use Rattle.calls_apply.specs.declared.answers.Answer.TheVariants as answer
 use Rattle.calls_apply.proofs.ItemForms.{item_answers, item_refused, item_rose, item_reads}
 use Rattle.calls_apply.proofs.Meeting.{value_meets, error_meets}
 use Rattle.calls_apply.specs.Applies.{all_early, at_any_step}
-use Rattle.elf_object.specs.Runs.{mapped, item}
+use Rattle.symbol_lookup.specs.elf_object.Runs.{mapped, item}
 use Rattle.calls_apply.proofs.Forms.{item_form}
 use Rattle.calls_apply.proofs.reading.answer_item.Goals as goal
 

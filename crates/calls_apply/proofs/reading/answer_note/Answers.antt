@@ -1,12 +1,12 @@
-use Rattle.elf_object.specs.Answers.{count_at}
+use Rattle.symbol_lookup.specs.elf_object.Answers.{count_at}
 use Rattle.std.proofs.Common.{[], Ok, Err, refl}
-use Rattle.gelf_view.specs.Calls.{note_refusals}
+use Rattle.symbol_lookup.specs.gelf_view.Calls.{note_refusals}
 use Rattle.calls_apply.specs.Stated.{stated, note_shown}
 use Rattle.calls_apply.proofs.Answered.{by_reads}
 use Rattle.calls_apply.proofs.Meeting.{value_meets, error_meets}
 use Rattle.calls_apply.specs.Applies.{at_any, at_any_step}
-use Rattle.elf_object.specs.Runs.{mapped}
-use Rattle.gelf_view.specs.Calls as views
+use Rattle.symbol_lookup.specs.elf_object.Runs.{mapped}
+use Rattle.symbol_lookup.specs.gelf_view.Calls as views
 use Rattle.calls_apply.proofs.Forms.{note_form}
 use Rattle.calls_apply.proofs.reading.answer_note.Goals as goal
 

@@ -1,11 +1,11 @@
 use Rattle.std.proofs.Common.{[], Ok, Err, refl}
-use Rattle.elf_object.specs.Calls as calls
+use Rattle.symbol_lookup.specs.elf_object.Calls as calls
 use Rattle.calls_apply.specs.Stated.{stated, copying}
 use Rattle.calls_apply.specs.declared.answers.Answer.TheVariants as answer
 use Rattle.calls_apply.proofs.Answered.{by_answers, copied_answers, copied_rose}
 use Rattle.calls_apply.proofs.Meeting.{value_meets, error_meets}
 use Rattle.calls_apply.specs.Applies.{all_early, at_any_step, result_of}
-use Rattle.elf_object.specs.Runs.{mapped}
+use Rattle.symbol_lookup.specs.elf_object.Runs.{mapped}
 use Rattle.calls_apply.proofs.Forms.{raw_form}
 use Rattle.calls_apply.proofs.reading.answer_raw.Goals as goal
 

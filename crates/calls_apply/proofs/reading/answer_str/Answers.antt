@@ -1,12 +1,12 @@
 use Rattle.std.proofs.Common.{[], Ok, Err, refl}
-use Rattle.elf_object.specs.Strings.{strptr_refusals}
+use Rattle.symbol_lookup.specs.elf_object.Strings.{strptr_refusals}
 use Rattle.calls_apply.specs.Stated.{stated, copying}
 use Rattle.calls_apply.specs.declared.answers.Answer.TheVariants as answer
 use Rattle.calls_apply.proofs.Answered.{by_reads, copied_answers, copied_rose}
 use Rattle.calls_apply.proofs.Meeting.{value_meets, error_meets}
 use Rattle.calls_apply.specs.Applies.{at_any, at_any_step, result_of}
-use Rattle.elf_object.specs.Runs.{mapped}
-use Rattle.elf_object.specs.Strings as strings
+use Rattle.symbol_lookup.specs.elf_object.Runs.{mapped}
+use Rattle.symbol_lookup.specs.elf_object.Strings as strings
 use Rattle.calls_apply.proofs.Forms.{str_form}
 use Rattle.calls_apply.proofs.reading.answer_str.Goals as goal
 

@@ -1,6 +1,6 @@
 use Rattle.std.proofs.Common.{ℕ, List, ap, subst}
-use Rattle.image_ranges.specs.declared.ranges.ByteRange.{ByteRange}
-use Rattle.strip_stream.specs.Fronts.{HoldsMore}
+use Rattle.strip_contents.specs.image_ranges.declared.ranges.ByteRange.{ByteRange}
+use Rattle.strip_contents.specs.strip_stream.Fronts.{HoldsMore}
 use Rattle.copy_contents.proofs.HoldLaws.{names_held}
 use Rattle.copy_contents.proofs.holding.hold_range.Goals as goal
 

@@ -1,4 +1,4 @@
-use Rattle.strip_removed.proofs.NameLaws.{ok_is}
+use Rattle.copy_edits.proofs.strip_removed.NameLaws.{ok_is}
 use Rattle.copy_contents.proofs.HoldLaws.{names_there, names_absent}
 use Rattle.copy_contents.proofs.holding.names_len.Goals as goal
 

@@ -1,4 +1,4 @@
-use Rattle.gelf_view.specs.Records.{string_front}
+use Rattle.copy_edits.specs.gelf_view.Records.{string_front}
 use Rattle.copy_contents.proofs.IndexLaws.{string_put, string_passed}
 use Rattle.copy_contents.proofs.indexing.put_string.Goals as goal
 

@@ -1,11 +1,11 @@
 use Rattle.std.proofs.Common.{ℕ, List, Option, refl, ap, ◌∙◌, subst}
 use Rattle.std.specs.Prelude.{IfOk}
 use Rattle.elf_object.specs.Strings.{or_empty_name}
-use Rattle.gelf_view.specs.Records.{string_front}
-use Rattle.strip_names.specs.declared.known.KnownPlaces.{KnownPlaces}
-use Rattle.strip_names.specs.Known.{NotesName}
-use Rattle.strip_names.specs.Names.{IsAddedAt}
-use Rattle.strip_names.proofs.AddLaws.{placed_as}
+use Rattle.copy_edits.specs.gelf_view.Records.{string_front}
+use Rattle.copy_names.specs.strip_names.declared.known.KnownPlaces.{KnownPlaces}
+use Rattle.copy_names.specs.strip_names.Known.{NotesName}
+use Rattle.copy_names.specs.strip_names.Names.{IsAddedAt}
+use Rattle.copy_names.proofs.strip_names.AddLaws.{placed_as}
 use Rattle.copy_contents.specs.Rows.{held_in, held_name}
 use Rattle.copy_contents.proofs.NamingLaws.{front_plain_as}
 use Rattle.copy_contents.proofs.naming.place_held.Goals as goal

@@ -1,5 +1,5 @@
 use Rattle.std.proofs.Common.{ℕ, List, refl}
-use Rattle.strip_names.proofs.KnownLaws.{held_placed, known_held, known_after, still_ok}
+use Rattle.copy_names.proofs.strip_names.KnownLaws.{held_placed, known_held, known_after, still_ok}
 use Rattle.copy_contents.specs.Rows.{held_in, held_name}
 use Rattle.copy_contents.proofs.naming.place_old.Goals as goal
 

@@ -1,9 +1,9 @@
 use Rattle.std.proofs.Common.{◌≡◌, ◌≢◌, ℕ, true, List, All, drop, refl, sym, ap, ◌∙◌, subst}
 use Rattle.std.specs.Prelude.{IfOk}
-use Rattle.gelf_view.specs.Records.{string_front}
-use Rattle.strip_names.specs.declared.known.KnownPlaces.{KnownPlaces}
-use Rattle.strip_names.specs.Known.{AreHeld}
-use Rattle.strip_names.proofs.KnownLaws.{known_more}
+use Rattle.copy_edits.specs.gelf_view.Records.{string_front}
+use Rattle.copy_names.specs.strip_names.declared.known.KnownPlaces.{KnownPlaces}
+use Rattle.copy_names.specs.strip_names.Known.{AreHeld}
+use Rattle.copy_names.proofs.strip_names.KnownLaws.{known_more}
 use Rattle.copy_edits.specs.Names.{new_name}
 use Rattle.copy_names.proofs.PlaceLaws.{plain_new}
 use Rattle.copy_contents.specs.Rows.{held_in, held_name}

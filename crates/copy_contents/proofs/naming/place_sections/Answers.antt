@@ -1,7 +1,7 @@
 use Rattle.std.proofs.Common.{◌<◌, Bool, length, subst, arith}
 use Rattle.elf_object.specs.Strings.{or_empty_name}
-use Rattle.strip_names.specs.Names.{IsAddedAt}
-use Rattle.strip_names.proofs.KnownLaws.{none_known}
+use Rattle.copy_names.specs.strip_names.Names.{IsAddedAt}
+use Rattle.copy_names.proofs.strip_names.KnownLaws.{none_known}
 use Rattle.copy_edits.specs.Names.{name_now}
 use Rattle.copy_contents.specs.Rows.{held_in, held_name}
 use Rattle.copy_contents.proofs.NameLaws.{count_is}

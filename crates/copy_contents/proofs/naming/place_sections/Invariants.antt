@@ -1,5 +1,5 @@
 use Rattle.elf_object.specs.Object.{Object}
-use Rattle.strip_names.specs.Known.{AreHeld}
+use Rattle.copy_names.specs.strip_names.Known.{AreHeld}
 use Rattle.copy_contents.specs.Rows.{Origin, IsContents, held_in, held_name}
 use Rattle.copy_contents.proofs.NamingLaws.{PlacedTo}
 use Rattle.copy_contents.proofs.naming.place_sections.Given as goal

@@ -2,8 +2,8 @@ use Rattle.std.proofs.Common.{Bool, sym, ap, ◌∙◌, subst}
 use Rattle.std.specs.Prelude.{IsTrue}
 use Rattle.elf_object.specs.Object.{Object, is_dirty}
 use Rattle.elf_object.specs.Valid.{IsTied}
-use Rattle.strip_laws.specs.Made.{FitsClass}
-use Rattle.strip_removed.specs.Steps.{IsRemovable}
+use Rattle.copy_laws.specs.strip_laws.Made.{FitsClass}
+use Rattle.copy_edits.specs.strip_removed.Steps.{IsRemovable}
 use Rattle.copy_changes.specs.Stated.{stated_changes}
 use Rattle.copy_contents.proofs.PlanLaws.{copied_planned, copied_unplanned}
 use Rattle.copy_contents.proofs.planning.plan_copied.Goals as goal

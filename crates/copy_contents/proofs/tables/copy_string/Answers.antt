@@ -1,6 +1,6 @@
 use Rattle.std.proofs.Common.{◌≡◌, ℕ, List, drop, ap, ◌∙◌, arith}
 use Rattle.std.proofs.lemmas.Result.{IfOk-weaker}
-use Rattle.gelf_view.specs.Records.{string_front}
+use Rattle.copy_edits.specs.gelf_view.Records.{string_front}
 use Rattle.copy_contents.specs.Rows.{held_in}
 use Rattle.copy_contents.proofs.TableLaws.{all_copied}
 use Rattle.copy_contents.proofs.tables.copy_string.Goals as goal

@@ -1,6 +1,6 @@
 use Rattle.std.proofs.Common.{ℕ, List, refl, sym, ap, ◌∙◌}
 use Rattle.std.specs.Prelude.{is_some}
-use Rattle.gelf_view.specs.Records.{string_front}
+use Rattle.copy_edits.specs.gelf_view.Records.{string_front}
 use Rattle.copy_contents.proofs.tables.if_ended.Goals as goal
 
 pub returns-then-is_ended : goal.returns-then-is_ended

@@ -1,5 +1,5 @@
 use Rattle.std.proofs.Common.{sym, ap, ◌∙◌}
-use Rattle.image_ranges.specs.declared.ranges.ByteRange.{ByteRange}
+use Rattle.strip_contents.specs.image_ranges.declared.ranges.ByteRange.{ByteRange}
 use Rattle.copy_contents.specs.Rows.{held_in}
 use Rattle.copy_contents.proofs.NameLaws.{no_names, held_names}
 use Rattle.copy_contents.proofs.tables.table_of.Goals as goal

@@ -1,10 +1,10 @@
 use Rattle.std.proofs.Common.{ℕ, List, subst, ◌∙◌}
 use Rattle.elf_types.specs.Answers.{◌>>=◌}
 use Rattle.elf_xlate.specs.declared.content.Items.TheVariants as items
-use Rattle.elf_object.specs.Steps.{new_number}
-use Rattle.elf_object.specs.Calls as calls
-use Rattle.elf_object.specs.Sections.{edited}
-use Rattle.command_objects.specs.Copied.{or_strip, added_header, with_added}
+use Rattle.copy_laws.specs.elf_object.Steps.{new_number}
+use Rattle.copy_laws.specs.elf_object.Calls as calls
+use Rattle.copy_laws.specs.elf_object.Sections.{edited}
+use Rattle.copy_changes.specs.command_objects.Copied.{or_strip, added_header, with_added}
 use Rattle.copy_edits.specs.Steps.{Alters}
 use Rattle.copy_edits.proofs.StepLaws.{alter_as, alter_memory}
 use Rattle.copy_edits.proofs.AddLaws.{added_by}

@@ -1,4 +1,4 @@
-use Rattle.command_objects.specs.Copied.{with_added}
+use Rattle.copy_changes.specs.command_objects.Copied.{with_added}
 use Rattle.copy_changes.specs.Stated.{bytes_pair}
 use Rattle.copy_edits.proofs.TurnLaws.{Turned}
 use Rattle.copy_edits.proofs.adding.add_sections.Given as goal

@@ -1,7 +1,7 @@
-use Rattle.elf_object.specs.Object.{Object}
-use Rattle.elf_object.specs.Calls as calls
-use Rattle.elf_object.specs.Sections.{edited}
-use Rattle.command_objects.specs.Copied.{or_strip, added_header}
+use Rattle.copy_laws.specs.elf_object.Object.{Object}
+use Rattle.copy_laws.specs.elf_object.Calls as calls
+use Rattle.copy_laws.specs.elf_object.Sections.{edited}
+use Rattle.copy_changes.specs.command_objects.Copied.{or_strip, added_header}
 use Rattle.copy_edits.proofs.StepLaws.{alter_then, alter_end}
 use Rattle.copy_edits.proofs.adding.fill_section.Goals as goal
 

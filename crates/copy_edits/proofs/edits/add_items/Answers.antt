@@ -1,4 +1,4 @@
-use Rattle.elf_descriptor.specs.Edits.{numbers_of}
+use Rattle.object_making.specs.elf_descriptor.Edits.{numbers_of}
 use Rattle.copy_edits.proofs.EditLaws.{data_added, data_refused}
 use Rattle.copy_edits.proofs.edits.add_items.Goals as goal
 

@@ -1,7 +1,7 @@
 use Rattle.std.proofs.Common.{◌<◌, Bool, length, ℕ, Option, Some, None, Ok, Err, sym, ap, ◌∙◌, subst, arith}
 use Rattle.std.specs.Prelude.{IsTrue}
-use Rattle.elf_object.specs.Object.{Object}
-use Rattle.elf_object.specs.Strings.{is_name}
+use Rattle.copy_laws.specs.elf_object.Object.{Object}
+use Rattle.copy_laws.specs.elf_object.Strings.{is_name}
 use Rattle.strip_removed.proofs.NameLaws.{ok_is, names_nothing, names_value, names_both, names_end}
 use Rattle.copy_edits.specs.Names.{name_now}
 use Rattle.copy_edits.proofs.FindLaws.{none_more, number_found, none_found}

@@ -1,5 +1,5 @@
 use Rattle.std.proofs.Common.{arith}
-use Rattle.elf_object.specs.Object.{Object}
+use Rattle.copy_laws.specs.elf_object.Object.{Object}
 use Rattle.copy_edits.specs.Names.{names_now}
 use Rattle.copy_edits.specs.Steps.{IsThere}
 use Rattle.copy_edits.proofs.FaultLaws.{number_there}

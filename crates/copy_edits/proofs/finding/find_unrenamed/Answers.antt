@@ -1,5 +1,5 @@
 use Rattle.std.proofs.Common.{Option, ℕ, List, subst}
-use Rattle.command_objects.specs.Copied.{section_named}
+use Rattle.copy_changes.specs.command_objects.Copied.{section_named}
 use Rattle.copy_edits.specs.Steps.{Finds}
 use Rattle.copy_edits.proofs.FindLaws.{names_at_first}
 use Rattle.copy_edits.proofs.finding.find_unrenamed.Goals as goal

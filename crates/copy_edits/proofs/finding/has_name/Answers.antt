@@ -1,10 +1,10 @@
 use Rattle.std.proofs.Common.{ap, ◌∙◌}
-use Rattle.elf_object.specs.Strings.{section_name, is_name}
+use Rattle.copy_laws.specs.elf_object.Strings.{section_name, is_name}
 use Rattle.copy_edits.specs.Names.{new_name}
 use Rattle.copy_edits.proofs.FindLaws.{found_new, found_old, named_reads}
 use Rattle.strip_removed.proofs.NameLaws.{names_nothing}
-use Rattle.gelf_view.specs.SectionNames as names
-use Rattle.elf_descriptor.specs.Reads.{wanted}
+use Rattle.strip_removed.specs.gelf_view.SectionNames as names
+use Rattle.object_making.specs.elf_descriptor.Reads.{wanted}
 use Rattle.copy_edits.proofs.finding.has_name.Goals as goal
 
 pub returns-in-Some-clause-told : goal.returns-in-Some-clause-told

@@ -1,8 +1,8 @@
 use Rattle.std.proofs.Common.{ℕ, sym}
 use Rattle.elf_types.specs.Answers.{answered, ◌>>=◌}
-use Rattle.elf_object.specs.Calls as calls
-use Rattle.elf_object.specs.Sections.{header_at, edited}
-use Rattle.command_objects.specs.Copied.{or_strip, with_bits, flags_fault}
+use Rattle.copy_laws.specs.elf_object.Calls as calls
+use Rattle.copy_laws.specs.elf_object.Sections.{header_at, edited}
+use Rattle.copy_changes.specs.command_objects.Copied.{or_strip, with_bits, flags_fault}
 use Rattle.copy_edits.proofs.FaultLaws.{fault_none, passed_on}
 use Rattle.copy_edits.proofs.StepLaws.{alter_as, alter_fault}
 use Rattle.copy_edits.proofs.flags.flag_at.Goals as goal

@@ -1,9 +1,9 @@
 use Rattle.std.proofs.Common.{ℕ, sym, subst}
 use Rattle.elf_types.specs.Answers.{answered, ◌>>=◌}
-use Rattle.elf_object.specs.Object.{Object}
-use Rattle.elf_object.specs.Calls as calls
-use Rattle.elf_object.specs.Sections.{header_at, edited}
-use Rattle.command_objects.specs.Copied.{section_named, or_strip, with_bits, flags_fault, with_section_flags}
+use Rattle.copy_laws.specs.elf_object.Object.{Object}
+use Rattle.copy_laws.specs.elf_object.Calls as calls
+use Rattle.copy_laws.specs.elf_object.Sections.{header_at, edited}
+use Rattle.copy_changes.specs.command_objects.Copied.{section_named, or_strip, with_bits, flags_fault, with_section_flags}
 use Rattle.copy_edits.specs.Names.{names_now}
 use Rattle.copy_edits.specs.Steps.{IsThere}
 use Rattle.copy_edits.proofs.StepLaws.{find_then, find_end}

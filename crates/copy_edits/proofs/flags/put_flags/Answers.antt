@@ -1,8 +1,8 @@
 use Rattle.std.proofs.Common.{ap, ◌∙◌, subst}
 use Rattle.elf_types.specs.declared.records.Shdr.{Shdr}
-use Rattle.elf_object.specs.Calls as calls
-use Rattle.elf_object.specs.Sections.{edited}
-use Rattle.command_objects.specs.Copied.{or_strip, with_bits}
+use Rattle.copy_laws.specs.elf_object.Calls as calls
+use Rattle.copy_laws.specs.elf_object.Sections.{edited}
+use Rattle.copy_changes.specs.command_objects.Copied.{or_strip, with_bits}
 use Rattle.copy_edits.specs.Steps.{Alters}
 use Rattle.copy_edits.proofs.flags.put_flags.Goals as goal
 

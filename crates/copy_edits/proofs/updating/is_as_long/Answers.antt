@@ -1,7 +1,7 @@
 use Rattle.std.proofs.Common.{◌==◌, ℕ, length, sym, ap, ◌∙◌, arith}
-use Rattle.elf_object.specs.Answers.{no_section}
-use Rattle.elf_object.specs.Joined.{pieces_end}
-use Rattle.elf_object.proofs.AnswerLaws.{answered_value}
+use Rattle.copy_laws.specs.elf_object.Answers.{no_section}
+use Rattle.copy_laws.specs.elf_object.Joined.{pieces_end}
+use Rattle.copy_laws.proofs.elf_object.AnswerLaws.{answered_value}
 use Rattle.object_making.proofs.PlaceLaws.{section_known}
 use Rattle.object_making.proofs.StoreLaws.{never_refused}
 use Rattle.copy_edits.proofs.UpdateLaws.{as_long}

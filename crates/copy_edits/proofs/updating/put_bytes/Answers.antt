@@ -1,8 +1,8 @@
 use Rattle.std.proofs.Common.{List, ℕ, subst, ◌∙◌}
 use Rattle.elf_xlate.specs.declared.content.Items.TheVariants as items
-use Rattle.elf_object.specs.Calls as calls
-use Rattle.elf_object.specs.Sections.{edited}
-use Rattle.command_objects.specs.Copied.{or_strip}
+use Rattle.copy_laws.specs.elf_object.Calls as calls
+use Rattle.copy_laws.specs.elf_object.Sections.{edited}
+use Rattle.copy_changes.specs.command_objects.Copied.{or_strip}
 use Rattle.copy_edits.specs.Steps.{Alters}
 use Rattle.copy_edits.proofs.StepLaws.{alter_memory}
 use Rattle.copy_edits.proofs.updating.put_bytes.Goals as goal

@@ -1,9 +1,9 @@
 use Rattle.std.proofs.Common.{sym}
 use Rattle.elf_types.specs.Answers.{answered, ◌>>=◌}
 use Rattle.elf_xlate.specs.declared.content.Items.TheVariants as items
-use Rattle.elf_object.specs.Calls as calls
-use Rattle.elf_object.specs.Sections.{edited}
-use Rattle.command_objects.specs.Copied.{or_strip, update_fault}
+use Rattle.copy_laws.specs.elf_object.Calls as calls
+use Rattle.copy_laws.specs.elf_object.Sections.{edited}
+use Rattle.copy_changes.specs.command_objects.Copied.{or_strip, update_fault}
 use Rattle.copy_edits.proofs.FaultLaws.{fault_none, passed_on}
 use Rattle.copy_edits.proofs.StepLaws.{alter_as, alter_fault}
 use Rattle.copy_edits.proofs.updating.update_at.Goals as goal

@@ -1,5 +1,5 @@
 use Rattle.std.proofs.Common.{ap, sym, ◌∙◌}
-use Rattle.elf_object.specs.Object.{occupies_file}
+use Rattle.copy_laws.specs.elf_object.Object.{occupies_file}
 use Rattle.copy_edits.proofs.UpdateLaws.{none_in_file, other_length, may_update}
 use Rattle.copy_edits.proofs.updating.update_fault.Goals as goal
 

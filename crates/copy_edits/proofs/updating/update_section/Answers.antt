@@ -1,10 +1,10 @@
 use Rattle.std.proofs.Common.{ℕ, subst, sym}
 use Rattle.elf_types.specs.Answers.{answered, ◌>>=◌}
 use Rattle.elf_xlate.specs.declared.content.Items.TheVariants as items
-use Rattle.elf_object.specs.Object.{Object}
-use Rattle.elf_object.specs.Calls as calls
-use Rattle.elf_object.specs.Sections.{edited}
-use Rattle.command_objects.specs.Copied.{names_in, section_named, or_strip, update_fault, with_bytes}
+use Rattle.copy_laws.specs.elf_object.Object.{Object}
+use Rattle.copy_laws.specs.elf_object.Calls as calls
+use Rattle.copy_laws.specs.elf_object.Sections.{edited}
+use Rattle.copy_changes.specs.command_objects.Copied.{names_in, section_named, or_strip, update_fault, with_bytes}
 use Rattle.copy_edits.specs.Steps.{IsThere}
 use Rattle.copy_edits.proofs.StepLaws.{find_then, find_end}
 use Rattle.copy_edits.proofs.updating.update_section.Goals as goal

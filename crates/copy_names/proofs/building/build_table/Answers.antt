@@ -1,5 +1,5 @@
 use Rattle.copy_names.specs.Texts.{all_texts}
-use Rattle.strip_removed.proofs.NameLaws.{names_nothing, names_memory, names_push, names_end}
+use Rattle.copy_edits.proofs.strip_removed.NameLaws.{names_nothing, names_memory, names_push, names_end}
 use Rattle.copy_names.proofs.building.build_table.Goals as goal
 
 pub place_all-requires-clause-strings : goal.place_all-requires-clause-strings

@@ -1,7 +1,7 @@
 use Rattle.std.proofs.Common.{◌+◌, ◌-◌, ℕ, Bool, false, List, length, map, sym, ap, ◌∙◌, subst}
 use Rattle.std.specs.Prelude.{IfOk}
 use Rattle.copy_changes.specs.declared.changes.NameBytes.{NameBytes}
-use Rattle.strip_removed.proofs.NameLaws.{names_value, names_push}
+use Rattle.copy_edits.proofs.strip_removed.NameLaws.{names_value, names_push}
 use Rattle.copy_names.specs.Texts.{all_texts, AddsTo}
 use Rattle.copy_names.proofs.TextLaws.{texts_long, texts_behind}
 use Rattle.copy_names.proofs.building.place_all.Goals as goal

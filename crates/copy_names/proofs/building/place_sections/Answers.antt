@@ -1,11 +1,11 @@
 use Rattle.std.proofs.Common.{◌≡◌, ◌-◌, ◌+◌, ◌<◌, ℕ, Bool, true, false, length, Ok, Err, sym, subst, arith}
 use Rattle.std.specs.Prelude.{IsTrue}
-use Rattle.elf_object.specs.Object.{Object}
-use Rattle.elf_object.specs.Strings.{or_empty_name}
+use Rattle.copy_changes.specs.elf_object.Object.{Object}
+use Rattle.copy_changes.specs.elf_object.Strings.{or_empty_name}
 use Rattle.strip_names.specs.Known.{AreHeld}
 use Rattle.strip_names.specs.Names.{old_name, IsAddedAt}
 use Rattle.strip_names.proofs.KnownLaws.{none_known}
-use Rattle.strip_removed.proofs.NameLaws.{ok_is, names_nothing, names_value, names_both}
+use Rattle.copy_edits.proofs.strip_removed.NameLaws.{ok_is, names_nothing, names_value, names_both}
 use Rattle.copy_edits.specs.Names.{name_now}
 use Rattle.copy_names.specs.Texts.{all_texts, AreAdded}
 use Rattle.copy_names.proofs.TextLaws.{none_added, one_added, too_large, texts_long, text_at}

@@ -1,5 +1,5 @@
 use Rattle.std.proofs.Common.{◌≤◌, ◌-◌, length, Ok}
-use Rattle.strip_removed.specs.Calls.{ReadsNames}
+use Rattle.copy_edits.specs.strip_removed.Calls.{ReadsNames}
 use Rattle.strip_names.specs.Known.{AreHeld}
 use Rattle.strip_names.specs.Names.{old_name}
 use Rattle.copy_names.specs.Texts.{all_texts, AreAdded}

@@ -1,5 +1,5 @@
 use Rattle.std.proofs.Common.{sym, ◌∙◌}
-use Rattle.strip_removed.proofs.NameLaws.{names_nothing}
+use Rattle.copy_edits.proofs.strip_removed.NameLaws.{names_nothing}
 use Rattle.copy_names.specs.Texts.{all_texts}
 use Rattle.copy_names.proofs.TableLaws.{built_naming}
 use Rattle.copy_names.specs.declared.naming.Naming.TheVariants.{Stay, NoTable}

@@ -1,10 +1,10 @@
 use Rattle.std.proofs.Common.{ℕ, List, Option, sym, subst}
 use Rattle.std.specs.Prelude.{IfOk}
 use Rattle.std.specs.Option.{option_copied}
-use Rattle.elf_object.specs.Strings.{section_name, or_empty_name}
+use Rattle.copy_changes.specs.elf_object.Strings.{section_name, or_empty_name}
 use Rattle.strip_names.specs.Known.{NotesName}
 use Rattle.strip_names.specs.Names.{IsAddedAt}
-use Rattle.strip_removed.proofs.NameLaws.{ok_is, name_value, name_ends, name_end, names_push}
+use Rattle.copy_edits.proofs.strip_removed.NameLaws.{ok_is, name_value, name_ends, name_end, names_push}
 use Rattle.copy_names.proofs.PlaceLaws.{plain_stored}
 use Rattle.copy_names.proofs.placing.place_read.Goals as goal
 

@@ -4,7 +4,7 @@ use Rattle.strip_names.specs.declared.known.KnownPlaces.{KnownPlaces}
 use Rattle.strip_names.specs.Known.{AreHeld}
 use Rattle.strip_names.specs.Names.{old_name, IsAddedAt}
 use Rattle.strip_names.proofs.KnownLaws.{known_more}
-use Rattle.strip_removed.proofs.NameLaws.{names_nothing, names_push}
+use Rattle.copy_edits.proofs.strip_removed.NameLaws.{names_nothing, names_push}
 use Rattle.copy_edits.specs.Names.{new_name}
 use Rattle.copy_names.proofs.PlaceLaws.{plain_new, name_new, name_stored}
 use Rattle.copy_names.proofs.placing.place_section.Goals as goal

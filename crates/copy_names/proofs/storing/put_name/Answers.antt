@@ -1,8 +1,8 @@
 use Rattle.std.proofs.Common.{◌∙◌, ap}
 use Rattle.elf_types.specs.declared.records.Shdr.{Shdr}
-use Rattle.elf_object.specs.Calls.{update_shdr_refusal}
-use Rattle.elf_object.specs.Calls as calls
-use Rattle.elf_descriptor.specs.Edits.{stepped}
+use Rattle.copy_changes.specs.elf_object.Calls.{update_shdr_refusal}
+use Rattle.copy_changes.specs.elf_object.Calls as calls
+use Rattle.object_making.specs.elf_descriptor.Edits.{stepped}
 use Rattle.object_making.proofs.StoreLaws.{never_refused}
 use Rattle.copy_names.proofs.StoreLaws.{name_passes}
 use Rattle.copy_names.proofs.storing.put_name.Goals as goal

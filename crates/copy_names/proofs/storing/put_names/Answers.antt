@@ -1,6 +1,6 @@
 use Rattle.std.proofs.Common.{ap, ◌∙◌, refl, arith}
-use Rattle.strip_removed.proofs.NameLaws.{ok_is}
-use Rattle.elf_descriptor.specs.State.{State}
+use Rattle.copy_edits.proofs.strip_removed.NameLaws.{ok_is}
+use Rattle.object_making.specs.elf_descriptor.State.{State}
 use Rattle.copy_names.proofs.StoreLaws.{put_none, put_there, put_more, put_all}
 use Rattle.copy_names.proofs.storing.put_names.Goals as goal
 

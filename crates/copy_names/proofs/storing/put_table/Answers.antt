@@ -1,7 +1,7 @@
 use Rattle.std.proofs.Common.{ℕ, sym, ap, ◌∙◌, subst}
 use Rattle.elf_xlate.specs.declared.content.Items.TheVariants as items
-use Rattle.elf_object.specs.Steps.{with_own}
-use Rattle.strip_removed.proofs.NameLaws.{ok_is}
+use Rattle.copy_changes.specs.elf_object.Steps.{with_own}
+use Rattle.copy_edits.proofs.strip_removed.NameLaws.{ok_is}
 use Rattle.copy_edits.specs.Steps.{IsThere}
 use Rattle.copy_names.proofs.StoreLaws.{table_put, table_kept}
 use Rattle.copy_names.proofs.storing.put_table.Goals as goal

@@ -1,6 +1,6 @@
 use Rattle.std.proofs.Common.{ℕ, List, ap, ◌∙◌}
 use Rattle.elf_xlate.specs.declared.content.Items.TheVariants as items
-use Rattle.elf_object.specs.Steps.{with_own}
+use Rattle.copy_changes.specs.elf_object.Steps.{with_own}
 use Rattle.copy_names.proofs.StoreLaws.{table_there, table_stored}
 use Rattle.copy_names.proofs.storing.store_table.Goals as goal
 

@@ -1,6 +1,6 @@
 use Rattle.std.proofs.Common.{codes}
-use Rattle.object_output.specs.Images.{file_object}
-use Rattle.object_writing.proofs.NamedLemmas.{named_does}
+use Rattle.strip_tool.specs.object_output.Images.{file_object}
+use Rattle.strip_tool.proofs.object_writing.NamedLemmas.{named_does}
 use Rattle.copy_changes.specs.Stated.{stated_changes}
 use Rattle.copy_tool.specs.Writes.{copied_done}
 use Rattle.copy_tool.proofs.WriteLemmas.{copy_unwritten}

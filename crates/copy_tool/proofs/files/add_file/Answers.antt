@@ -1,5 +1,5 @@
 use Rattle.std.proofs.Common.{◌++◌, ◌∷◌, []}
-use Rattle.command_outcomes.specs.Files.{bytes_named}
+use Rattle.strip_tool.specs.command_outcomes.Files.{bytes_named}
 use Rattle.copy_tool.specs.Files.{length_held, pairs, filled}
 use Rattle.copy_tool.proofs.NameLemmas.{put_filled, put_stops, put_names}
 use Rattle.copy_tool.proofs.ReadLemmas.{reads_made, made_none, made_stop}

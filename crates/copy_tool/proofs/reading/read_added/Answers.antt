@@ -1,7 +1,7 @@
 use Rattle.std.proofs.Common.{◌≡◌, Ok, Some}
 use Rattle.tool_output.specs.declared.stops.Stop.TheVariants.{Memory}
-use Rattle.command_outcomes.specs.Copy.{changes_with}
-use Rattle.command_outcomes.specs.Files.{bytes_of_each}
+use Rattle.strip_tool.specs.command_outcomes.Copy.{changes_with}
+use Rattle.strip_tool.specs.command_outcomes.Files.{bytes_of_each}
 use Rattle.copy_changes.specs.Stated.{stated_changes}
 use Rattle.copy_tool.specs.Files.{lengths_named, pairs, seen_in}
 use Rattle.copy_tool.proofs.ReadLemmas.{seen_ok, seen_err, reads_made, made_none, made_stop}

@@ -1,4 +1,4 @@
-use Rattle.command_outcomes.specs.Files.{bytes_of_each}
+use Rattle.strip_tool.specs.command_outcomes.Files.{bytes_of_each}
 use Rattle.copy_changes.specs.Stated.{stated_changes}
 use Rattle.copy_tool.specs.Files.{lengths_named, pairs, seen_in}
 use Rattle.copy_tool.specs.Words.{added_changes}

@@ -1,5 +1,5 @@
 use Rattle.std.proofs.Common.{arith}
-use Rattle.update_plan.proofs.RowLaws.{ok_is}
+use Rattle.debug_half.proofs.update_plan.RowLaws.{ok_is}
 use Rattle.debug_contents.proofs.KeepLaws.{halves_none, halves_more, halves_stop, halves_all}
 use Rattle.debug_contents.proofs.keeping.add_sections.Goals as goal
 

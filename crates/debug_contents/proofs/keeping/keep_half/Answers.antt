@@ -1,7 +1,7 @@
 use Rattle.std.proofs.Common.{◌≡◌, None, length, sym, ap, ◌∙◌}
 use Rattle.elf_object.specs.Calls.{newphdr_refusal}
-use Rattle.update_plan.proofs.PlacingLaws.{passed_from}
-use Rattle.update_plan.proofs.RowLaws.{ok_is}
+use Rattle.debug_half.proofs.update_plan.PlacingLaws.{passed_from}
+use Rattle.debug_half.proofs.update_plan.RowLaws.{ok_is}
 use Rattle.debug_contents.proofs.KeepLaws.{too_many_segments, half_unkept, half_kept, half_index}
 use Rattle.debug_contents.proofs.keeping.keep_half.Goals as goal
 

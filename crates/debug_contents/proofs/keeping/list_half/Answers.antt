@@ -1,5 +1,5 @@
 use Rattle.std.proofs.Common.{sym, ◌∙◌}
-use Rattle.update_plan.proofs.RowLaws.{ok_is}
+use Rattle.debug_half.proofs.update_plan.RowLaws.{ok_is}
 use Rattle.debug_contents.proofs.KeepLaws.{half_none, half_listed, half_not_listed, half_wanted}
 use Rattle.debug_contents.proofs.keeping.list_half.Goals as goal
 

@@ -1,4 +1,4 @@
-use Rattle.update_plan.proofs.RowLaws.{ok_is}
+use Rattle.debug_half.proofs.update_plan.RowLaws.{ok_is}
 use Rattle.debug_contents.proofs.PlanLaws.{half_planned, half_unplanned}
 use Rattle.debug_contents.proofs.planning.plan_half.Goals as goal
 

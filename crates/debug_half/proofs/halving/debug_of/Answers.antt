@@ -1,8 +1,8 @@
 use Rattle.std.proofs.Common.{inl, ap, ◌∙◌}
 use Rattle.command_objects.specs.Followed.{kept_from_1}
 use Rattle.command_objects.specs.Split.{debug_of, debug_refusal}
-use Rattle.object_making.proofs.BaseLaws.{made_over_none}
-use Rattle.object_making.proofs.RefusedLaws.{unread_memory}
+use Rattle.strip_rebuild.proofs.object_making.BaseLaws.{made_over_none}
+use Rattle.strip_rebuild.proofs.object_making.RefusedLaws.{unread_memory}
 use Rattle.strip_rebuild.proofs.AskLaws.{asks_memory}
 use Rattle.strip_rebuild.proofs.RebuildLaws.{faults_answer}
 use Rattle.debug_half.specs.Half.{half_due}

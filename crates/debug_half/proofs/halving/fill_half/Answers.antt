@@ -1,6 +1,6 @@
 use Rattle.std.proofs.Common.{◌<◌, ◌≤◌, ◌-◌, ℕ, List, [], length, sym, subst}
 use Rattle.std.specs.Prelude.{All}
-use Rattle.update_plan.proofs.RowLaws.{ok_is}
+use Rattle.strip_rebuild.proofs.update_plan.RowLaws.{ok_is}
 use Rattle.strip_rebuild.proofs.NumberLaws.{kept_there, kept_few}
 use Rattle.strip_rebuild.proofs.RebuildLaws.{fresh}
 use Rattle.debug_half.proofs.HalfLaws.{halved, half_told}

@@ -1,4 +1,4 @@
-use Rattle.strip_removed.proofs.NameLaws.{ok_is}
+use Rattle.copy_edits.proofs.strip_removed.NameLaws.{ok_is}
 use Rattle.elf_copy.proofs.FinishLaws.{checked_usable, checked_unusable}
 use Rattle.elf_copy.proofs.copying.check_index.Goals as goal
 

@@ -1,6 +1,6 @@
 use Rattle.std.proofs.Common.{sym, ◌∙◌}
-use Rattle.elf_object.proofs.AnswerLaws.{answered_value}
-use Rattle.section_data.proofs.Loading.{warms_same}
+use Rattle.section_table.proofs.elf_object.AnswerLaws.{answered_value}
+use Rattle.section_table.proofs.section_data.Loading.{warms_same}
 use Rattle.elf_descriptor.proofs.ListedCells.{always, list_answers, list_due_is, list_hand, warms_kind}
 use Rattle.elf_descriptor.proofs.cells.fetch_list.Goals as goal
 

@@ -5,10 +5,10 @@ ghost use Rattle.elf_types.specs.Answers.{answered, refused_if};
 ghost use Rattle.elf_types.specs.declared.errors.ElfError.TheVariants.{FlagKept};
 ghost use Rattle.elf_types.specs.declared.records.Part.{Part};
 ghost use Rattle.elf_types.specs.declared.records.Part.TheVariants as part;
-ghost use Rattle.elf_object.specs.Answers.{has_dirty, has_layout};
-ghost use Rattle.elf_object.specs.Steps.{is_whole, with_mark, with_layout, with_flags};
-ghost use Rattle.elf_object.specs.Calls.{flag_refusal};
-ghost use Rattle.elf_object.specs.Calls as calls;
+ghost use Rattle.section_table.specs.elf_object.Answers.{has_dirty, has_layout};
+ghost use Rattle.section_table.specs.elf_object.Steps.{is_whole, with_mark, with_layout, with_flags};
+ghost use Rattle.section_table.specs.elf_object.Calls.{flag_refusal};
+ghost use Rattle.section_table.specs.elf_object.Calls as calls;
 ghost use Rattle.elf_descriptor.specs.Views.{HasCounts, object_of, scn_at, ready_of};
 ghost use Rattle.elf_descriptor.specs.Edits.{IsStepped, IsThere};
 

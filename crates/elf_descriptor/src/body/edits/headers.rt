@@ -4,17 +4,16 @@ ghost use Rattle.std.specs.Prelude.{◌≡◌, ◌<◌, ℕ, List, Option, lengt
 ghost use Rattle.elf_types.specs.Answers.{answered, refused_if, first_refusal};
 ghost use Rattle.elf_types.specs.declared.errors.ElfError.TheVariants.{NoSection, Unfit};
 ghost use Rattle.elf_types.specs.declared.records.Part.TheVariants as part;
-ghost use Rattle.elf_xlate.specs.Headers.{ehdr_fits, phdr_fits, shdr_fits};
-ghost use Rattle.elf_object.specs.Answers.{reserved, no_entry};
-ghost use Rattle.elf_object.specs.Steps.{stored_ehdr};
-ghost use Rattle.elf_object.specs.Calls as calls;
+ghost use Rattle.section_table.specs.elf_xlate.Headers.{ehdr_fits, phdr_fits, shdr_fits};
+ghost use Rattle.section_table.specs.elf_object.Answers.{reserved, no_entry};
+ghost use Rattle.section_table.specs.elf_object.Steps.{stored_ehdr};
+ghost use Rattle.section_table.specs.elf_object.Calls as calls;
 ghost use Rattle.elf_descriptor.specs.Views.{HasCounts, object_of, no_scn};
 ghost use Rattle.elf_descriptor.specs.Edits.{IsStepped};
 
 use crate::body::Body;
-use elf_object::stored_ehdr;
 use elf_types::{Ehdr, ElfError, Part, Phdr, Phdrs, Shdr};
-use elf_xlate::{ehdr_fits, phdr_fits, shdr_fits};
+use section_table::prelude::{ehdr_fits, phdr_fits, shdr_fits, stored_ehdr};
 
 /// Whether a section is not section 0; else `Reserved`.
 pub(super) fn check_reserved(s: u32) -> Result<(), ElfError>

@@ -2,17 +2,17 @@
 
 ghost use Rattle.std.specs.Prelude.{◌≡◌, ◌<◌, ◌∷◌, [], ℕ, List, Option, length, false, OnOk, OnErr, IfErr};
 ghost use Rattle.elf_types.specs.Answers.{answered, first_refusal, IsRefusal};
-ghost use Rattle.elf_object.specs.Answers.{reserved};
-ghost use Rattle.elf_object.specs.Words.{handing_back, result_map};
-ghost use Rattle.elf_object.specs.Calls as calls;
-ghost use Rattle.section_data.specs.Refused.{replace_refused, append_refused};
+ghost use Rattle.section_table.specs.elf_object.Answers.{reserved};
+ghost use Rattle.section_table.specs.elf_object.Words.{handing_back, result_map};
+ghost use Rattle.section_table.specs.elf_object.Calls as calls;
+ghost use Rattle.section_table.specs.section_data.Refused.{replace_refused, append_refused};
 ghost use Rattle.elf_descriptor.specs.Views.{HasCounts, object_of, scn_at, no_scn, ready_of};
 ghost use Rattle.elf_descriptor.specs.Edits.{IsStepped, IsNumbered, IsStatedWith, numbers_of};
 
 use super::headers::check_reserved;
 use crate::body::Body;
 use elf_types::{DataId, ElfError};
-use elf_xlate::Items;
+use section_table::prelude::Items;
 
 impl Body {
     /// Whether the pieces of a section can be edited; else `NoSection`, then `Reserved`.

@@ -4,9 +4,9 @@ ghost use Rattle.std.specs.Prelude.{◌≡◌, ◌≢◌, ◌<◌, ◌≤◌, �
 ghost use Rattle.elf_types.specs.Answers.{answered, refused_if, IsRefusal};
 ghost use Rattle.elf_types.specs.declared.constants.TheConstants.{MAX_SECTIONS};
 ghost use Rattle.elf_types.specs.declared.errors.ElfError.TheVariants.{Memory, TooMany};
-ghost use Rattle.elf_object.specs.Steps.{new_number};
-ghost use Rattle.elf_object.specs.Words.{result_map};
-ghost use Rattle.elf_object.specs.Calls as calls;
+ghost use Rattle.section_table.specs.elf_object.Steps.{new_number};
+ghost use Rattle.section_table.specs.elf_object.Words.{result_map};
+ghost use Rattle.section_table.specs.elf_object.Calls as calls;
 ghost use Rattle.elf_descriptor.specs.Views.{HasCounts, object_of, ready_of};
 ghost use Rattle.elf_descriptor.specs.Edits.{IsGrown, IsStated, IsStepped, new_scns, section_number, with_added};
 

@@ -5,9 +5,9 @@ ghost use Rattle.std.specs.Borrow.{sem};
 ghost use Rattle.std.proofs.Math.ListN.{replicate};
 ghost use Rattle.elf_types.specs.Answers.{answered, IsRefusal};
 ghost use Rattle.elf_types.specs.declared.errors.ElfError.TheVariants.{Memory};
-ghost use Rattle.elf_object.specs.Object.{no_phdr};
-ghost use Rattle.elf_object.specs.Calls.{newphdr_refusal};
-ghost use Rattle.elf_object.specs.Calls as calls;
+ghost use Rattle.section_table.specs.elf_object.Object.{no_phdr};
+ghost use Rattle.section_table.specs.elf_object.Calls.{newphdr_refusal};
+ghost use Rattle.section_table.specs.elf_object.Calls as calls;
 ghost use Rattle.elf_descriptor.specs.Views.{object_of, ready_of};
 ghost use Rattle.elf_descriptor.specs.Edits.{IsStated, IsStepped};
 

@@ -7,14 +7,14 @@ ghost use Rattle.elf_types.specs.contracts.records.Rel.{the_row as rel_row};
 ghost use Rattle.elf_types.specs.contracts.records.Rela.{the_row as rela_row};
 ghost use Rattle.elf_types.specs.contracts.records.Dyn.{the_row as dyn_row};
 ghost use Rattle.elf_types.specs.declared.records.Kind.TheVariants as kinds;
-ghost use Rattle.elf_xlate.specs.declared.content.Items.TheVariants as items;
-ghost use Rattle.elf_object.specs.Answers.{items_at, count_at, bytes_of, halves_of, words_of, addrs_of, syms_of, rels_of, relas_of, dyns_of};
+ghost use Rattle.section_table.specs.elf_xlate.declared.content.Items.TheVariants as items;
+ghost use Rattle.section_table.specs.elf_object.Answers.{items_at, count_at, bytes_of, halves_of, words_of, addrs_of, syms_of, rels_of, relas_of, dyns_of};
 
 use crate::descriptor::Elf;
-use elf_outside::Source;
 use elf_types::{
     Addrs, DataId, Dyn, Dyns, ElfError, Halves, Octets, Rel, Rela, Relas, Rels, Sym, Syms, Words,
 };
+use section_table::prelude::Source;
 
 impl<S: Source> Elf<S> {
     ghost use Rattle.elf_descriptor.specs.Lends.{LendsItems, LendAnswers};

@@ -1,6 +1,6 @@
 use Rattle.std.proofs.Common.{◌+◌, length, refl}
 use Rattle.elf_types.specs.declared.records.Part.TheVariants as part
-use Rattle.elf_object.specs.Image.{front_blocks}
+use Rattle.update_plan.specs.elf_object.Image.{front_blocks}
 use Rattle.elf_update.proofs.DataLaws.{some_there}
 use Rattle.elf_update.proofs.DescriptorLaws.{within_as, copied_as, front_piece_within, front_piece_copied, none_within}
 use Rattle.elf_update.proofs.copies.copy_at_hand.Goals as goal

@@ -1,6 +1,6 @@
 use Rattle.std.proofs.Common.{◌∙◌, arith}
 use Rattle.elf_types.specs.declared.records.Part.TheVariants as part
-use Rattle.elf_object.specs.Image.{front_blocks}
+use Rattle.update_plan.specs.elf_object.Image.{front_blocks}
 use Rattle.elf_update.proofs.DataLaws.{there_is}
 use Rattle.elf_update.proofs.DescriptorLaws.{there_as, extent_as, one_extent}
 use Rattle.elf_update.proofs.descriptors.extent_of.Goals as goal

@@ -1,5 +1,5 @@
 use Rattle.std.proofs.Common.{length}
-use Rattle.elf_xlate.specs.Headers.{shdr_size}
+use Rattle.update_plan.specs.elf_xlate.Headers.{shdr_size}
 use Rattle.update_plan.proofs.RowLaws.{ok_is}
 use Rattle.elf_update.proofs.FrontLaws.{sized, section_fit, section_put}
 use Rattle.elf_update.proofs.fronts.put_section.Goals as goal

@@ -1,7 +1,7 @@
 use Rattle.std.proofs.Common.{length, ◌∙◌}
 use Rattle.std.proofs.lemmas.List.{get_or_default}
-use Rattle.elf_xlate.specs.Headers.{phdr_size}
-use Rattle.elf_object.specs.Object.{no_phdr}
+use Rattle.update_plan.specs.elf_xlate.Headers.{phdr_size}
+use Rattle.update_plan.specs.elf_object.Object.{no_phdr}
 use Rattle.update_plan.proofs.RowLaws.{ok_is}
 use Rattle.elf_update.proofs.FrontLaws.{sized, segment_fit, segment_put}
 use Rattle.elf_update.proofs.fronts.put_segment.Goals as goal

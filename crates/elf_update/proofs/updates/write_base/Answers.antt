@@ -1,6 +1,6 @@
 use Rattle.std.proofs.Common.{◌∙◌, sym, refl, arith, length}
-use Rattle.object_laws.proofs.ImageLaws.{image-clean}
-use Rattle.writing_laws.specs.Plan.{places_below}
+use Rattle.update_plan.proofs.object_laws.ImageLaws.{image-clean}
+use Rattle.update_plan.specs.writing_laws.Plan.{places_below}
 use Rattle.update_plan.proofs.PlacingLaws.{clean_answer, same_state}
 use Rattle.elf_update.specs.Emits.{gap_text}
 use Rattle.elf_update.proofs.UpdateLaws.{clean_text, clean_due, updates_put}

@@ -1,6 +1,6 @@
 use Rattle.std.proofs.Common.{get_or, ◌∙◌, arith}
 use Rattle.std.proofs.lemmas.List.Elements.{All-get_or}
-use Rattle.writing_laws.specs.Plan.{places_below}
+use Rattle.update_plan.specs.writing_laws.Plan.{places_below}
 use Rattle.elf_update.specs.Pieces.{HasLength}
 use Rattle.update_plan.specs.Plans.{no_part}
 use Rattle.elf_update.proofs.WalkLaws.{image_starts, next_ends, gap_stops_image, part_stops_image, image_goes_on, last_gap, kept_ready, kept_base, kept_long, kept_gap, kept_part}

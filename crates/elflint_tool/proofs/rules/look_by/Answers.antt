@@ -1,5 +1,5 @@
 use Rattle.std.proofs.Common.{arith}
-use Rattle.object_output.proofs.ElfSteps.{elf_over}
+use Rattle.lint_findings.proofs.object_output.ElfSteps.{elf_over}
 use Rattle.elflint_tool.proofs.rules.look_by.Goals as goal
 
 -- the rules that do not go over the sections

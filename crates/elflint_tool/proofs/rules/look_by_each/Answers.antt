@@ -1,7 +1,7 @@
 use Rattle.std.proofs.Common.{◌+◌, drop, refl, rules}
 use Rattle.std.specs.List.{flat_map}
 use Rattle.std.proofs.lemmas.Result.{err_from_is_err_and}
-use Rattle.object_output.proofs.ElfSteps.{elf_begins, elf_goes_on, elf_stops_at, elf_is_given, elf_failed, over_more}
+use Rattle.lint_findings.proofs.object_output.ElfSteps.{elf_begins, elf_goes_on, elf_stops_at, elf_is_given, elf_failed, over_more}
 use Rattle.lint_findings.specs.Findings.{findings_shown}
 use Rattle.lint_findings.proofs.FindingLemmas.{findings_left, no_findings_left}
 use Rattle.elflint_tool.specs.Rules.{finds}

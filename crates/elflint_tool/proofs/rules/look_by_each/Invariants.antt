@@ -1,6 +1,6 @@
 use Rattle.std.proofs.Common.{length, take, drop}
 use Rattle.std.specs.List.{flat_map}
-use Rattle.object_output.specs.Steps.{ElfOver}
+use Rattle.lint_findings.specs.object_output.Steps.{ElfOver}
 use Rattle.lint_findings.specs.Findings.{findings_shown}
 use Rattle.elflint_tool.specs.Rules.{finds}
 use Rattle.elflint_tool.proofs.rules.look_by_each.Given as goal

@@ -1,5 +1,5 @@
 use Rattle.std.proofs.Common.{◌∙◌, rules}
-use Rattle.elf_object.specs.Answers.{count_at}
+use Rattle.elf_descriptor.specs.elf_object.Answers.{count_at}
 use Rattle.gelf_view.proofs.CountLemmas.{count_other, count_same}
 use Rattle.gelf_view.proofs.counts.count_of_kind.Goals as goal
 

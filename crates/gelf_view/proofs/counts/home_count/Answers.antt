@@ -1,5 +1,5 @@
 use Rattle.std.proofs.Common.{◌%◌, ◌/◌, ℕ, Ok, sym, ap, ◌∙◌}
-use Rattle.elf_xlate.specs.Items.{item_size}
+use Rattle.elf_descriptor.specs.elf_xlate.Items.{item_size}
 use Rattle.gelf_view.proofs.CountLemmas.{home_outside, home_is_ragged, home_is_whole}
 use Rattle.gelf_view.proofs.counts.home_count.Goals as goal
 

@@ -1,4 +1,4 @@
-use Rattle.elf_object.specs.Answers.{count_at}
+use Rattle.elf_descriptor.specs.elf_object.Answers.{count_at}
 use Rattle.gelf_view.proofs.CountLemmas.{count_missing}
 use Rattle.gelf_view.proofs.counts.item_count.Goals as goal
 

@@ -1,8 +1,8 @@
 use Rattle.std.proofs.Common.{true, Err, sym}
 use Rattle.elf_types.specs.declared.records.Kind.TheVariants as kinds
-use Rattle.elf_outside.proofs.AskLemmas.{read_rose_refused}
-use Rattle.elf_object.specs.Answers.{lend_refusal}
-use Rattle.elf_object.proofs.AnswerLaws.{answered_value, answered_refusal, answers_refused}
+use Rattle.elf_descriptor.proofs.elf_outside.AskLemmas.{read_rose_refused}
+use Rattle.elf_descriptor.specs.elf_object.Answers.{lend_refusal}
+use Rattle.elf_descriptor.proofs.elf_object.AnswerLaws.{answered_value, answered_refusal, answers_refused}
 use Rattle.elf_descriptor.specs.Reads.{wanted}
 use Rattle.gelf_view.specs.Calls.{bytes}
 use Rattle.gelf_view.proofs.FetchLemmas.{kind_refuses, queries_nothing}

@@ -1,9 +1,9 @@
 use Rattle.std.proofs.Common.{true, Ok, refl, sym, ◌∙◌}
 use Rattle.std.proofs.lemmas.Bool.{or_left}
 use Rattle.elf_types.specs.declared.records.Kind.TheVariants as kinds
-use Rattle.elf_object.specs.Object.{piece_at}
-use Rattle.elf_object.specs.Answers.{lend_refusal}
-use Rattle.elf_object.proofs.AnswerLaws.{answers_seen}
+use Rattle.elf_descriptor.specs.elf_object.Object.{piece_at}
+use Rattle.elf_descriptor.specs.elf_object.Answers.{lend_refusal}
+use Rattle.elf_descriptor.proofs.elf_object.AnswerLaws.{answers_seen}
 use Rattle.elf_descriptor.specs.Reads.{wanted}
 use Rattle.gelf_view.specs.Calls.{bytes}
 use Rattle.gelf_view.proofs.FetchLemmas.{edited_passes, not_some, hand_loaded, clean_answers, clean_queries, queries_nothing}

@@ -1,5 +1,5 @@
 use Rattle.std.proofs.Common.{is_some}
-use Rattle.elf_object.specs.Object.{piece_at}
+use Rattle.elf_descriptor.specs.elf_object.Object.{piece_at}
 use Rattle.gelf_view.proofs.FetchLemmas.{kind_missing}
 use Rattle.gelf_view.proofs.fetching.is_own.Goals as goal
 

@@ -1,6 +1,6 @@
-use Rattle.elf_object.specs.Answers.{raw_refusal}
-use Rattle.elf_object.specs.Calls.{raw_answer}
-use Rattle.elf_object.specs.Calls as calls
+use Rattle.elf_descriptor.specs.elf_object.Answers.{raw_refusal}
+use Rattle.elf_descriptor.specs.elf_object.Calls.{raw_answer}
+use Rattle.elf_descriptor.specs.elf_object.Calls as calls
 use Rattle.elf_descriptor.specs.Reads.{wanted}
 use Rattle.gelf_view.proofs.FetchLemmas.{passed_alone, refused_alone}
 use Rattle.gelf_view.proofs.fetching.load.Goals as goal

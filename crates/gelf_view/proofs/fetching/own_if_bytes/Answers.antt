@@ -1,5 +1,5 @@
 use Rattle.std.proofs.Common.{Ok, is_some, ap, ◌∙◌, sym}
-use Rattle.elf_object.specs.Object.{piece_at}
+use Rattle.elf_descriptor.specs.elf_object.Object.{piece_at}
 use Rattle.gelf_view.proofs.FetchLemmas.{kind_bytes, kind_other}
 use Rattle.gelf_view.proofs.fetching.own_if_bytes.Goals as goal
 

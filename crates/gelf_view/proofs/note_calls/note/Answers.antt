@@ -2,9 +2,9 @@ use Rattle.std.proofs.Common.{true, Err, ℕ, [], ◌≡◌, ◌==◌, IfOk, IfS
 use Rattle.std.specs.Prelude.{is_none}
 use Rattle.elf_types.specs.declared.records.Order.{Order}
 use Rattle.elf_types.specs.declared.records.Kind.TheVariants as kinds
-use Rattle.elf_object.specs.Object.{Object, section_at}
-use Rattle.elf_object.specs.Answers.{lend_refusal, no_section, count_at}
-use Rattle.elf_object.proofs.AnswerLaws.{lend_passed}
+use Rattle.elf_descriptor.specs.elf_object.Object.{Object, section_at}
+use Rattle.elf_descriptor.specs.elf_object.Answers.{lend_refusal, no_section, count_at}
+use Rattle.elf_descriptor.proofs.elf_object.AnswerLaws.{lend_passed}
 use Rattle.elf_descriptor.specs.Reads.{Queries, wanted}
 use Rattle.elf_descriptor.proofs.Refusals.{answers_passed}
 use Rattle.gelf_view.specs.Calls.{bytes, note, note_found, note_answer, note_refusals}

@@ -1,5 +1,5 @@
 use Rattle.std.proofs.Common.{◌+◌, ℕ, min, sym, ap, refl, ◌∙◌, arith}
-use Rattle.elf_layout.specs.Layout.{rounded_up}
+use Rattle.elf_descriptor.specs.elf_layout.Layout.{rounded_up}
 use Rattle.gelf_view.proofs.NoteLemmas.{rounded_up_le, name_passes, desc_passes, both_lie}
 use Rattle.gelf_view.proofs.notes.note_with.Goals as goal
 

@@ -1,8 +1,8 @@
 use Rattle.std.proofs.Common.{true, [], refl, sym, ap, ◌∙◌}
 use Rattle.elf_types.specs.declared.records.Kind.TheVariants as kinds
-use Rattle.elf_object.specs.Words.{AlikeBytes}
-use Rattle.elf_object.specs.Object.{Object}
-use Rattle.elf_object.specs.Answers.{bytes_of, items_at, count_at, lend_refusal}
+use Rattle.elf_descriptor.specs.elf_object.Words.{AlikeBytes}
+use Rattle.elf_descriptor.specs.elf_object.Object.{Object}
+use Rattle.elf_descriptor.specs.elf_object.Answers.{bytes_of, items_at, count_at, lend_refusal}
 use Rattle.elf_descriptor.specs.Reads.{wanted}
 use Rattle.elf_descriptor.proofs.Refusals.{answers_passed}
 use Rattle.elf_descriptor.proofs.Handing.{handed, handed_like, refused_step, queries_ok, queries_err}

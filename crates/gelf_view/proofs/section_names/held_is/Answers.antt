@@ -1,5 +1,5 @@
 use Rattle.std.proofs.Common.{List, ℕ, Option, ap, ◌∙◌}
-use Rattle.elf_object.specs.Strings.{is_name}
+use Rattle.elf_descriptor.specs.elf_object.Strings.{is_name}
 use Rattle.gelf_view.proofs.TableStrings.{held_string}
 use Rattle.gelf_view.proofs.section_names.held_is.Goals as goal
 

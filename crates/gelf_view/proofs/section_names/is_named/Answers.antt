@@ -1,5 +1,5 @@
 use Rattle.std.proofs.Common.{List, ℕ, Option, Ok, refl, sym, ap, ◌∙◌}
-use Rattle.elf_object.specs.Strings.{is_name}
+use Rattle.elf_descriptor.specs.elf_object.Strings.{is_name}
 use Rattle.gelf_view.specs.SectionNames as names
 use Rattle.gelf_view.proofs.FetchLemmas.{queries_nothing}
 use Rattle.gelf_view.proofs.NameCalls.{ok_is, same_name}

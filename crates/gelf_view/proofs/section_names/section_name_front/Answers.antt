@@ -1,5 +1,5 @@
 use Rattle.std.proofs.Common.{◌+◌, List, ℕ, Option, Ok, Err, refl, sym, ap, ◌∙◌}
-use Rattle.elf_object.specs.Strings as strings
+use Rattle.elf_descriptor.specs.elf_object.Strings as strings
 use Rattle.elf_descriptor.specs.Reads.{wanted}
 use Rattle.gelf_view.specs.Records.{front_of}
 use Rattle.gelf_view.specs.SectionNames as names

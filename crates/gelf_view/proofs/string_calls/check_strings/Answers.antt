@@ -1,9 +1,9 @@
 use Rattle.std.proofs.Common.{Ok, refl, sym, ap, ◌∙◌}
 use Rattle.std.proofs.lemmas.Result.{err_from_is_err_and}
 use Rattle.elf_types.specs.declared.records.Shdr.{Shdr}
-use Rattle.elf_object.specs.Object.{section_at}
-use Rattle.elf_object.specs.Calls.{shdr_answer}
-use Rattle.elf_object.proofs.AnswerLaws.{shdr_value}
+use Rattle.elf_descriptor.specs.elf_object.Object.{section_at}
+use Rattle.elf_descriptor.specs.elf_object.Calls.{shdr_answer}
+use Rattle.elf_descriptor.proofs.elf_object.AnswerLaws.{shdr_value}
 use Rattle.gelf_view.proofs.StringLemmas.{section_refused, other_type, other_pieces, are_strings}
 use Rattle.gelf_view.proofs.string_calls.check_strings.Goals as goal
 use Rattle.gelf_view.proofs.string_calls.check_strings.Goals.{then-header-ne-SHT_STRTAB-via-then-header-ne-SHT_STRTAB, then-header-ne-SHT_STRTAB-via-else-header-ne-SHT_STRTAB+then-not-are_of_bytes}

@@ -1,5 +1,5 @@
 use Rattle.std.proofs.Common.{Ok, Err}
-use Rattle.elf_outside.proofs.AskLemmas.{read_rose_on}
+use Rattle.elf_descriptor.proofs.elf_outside.AskLemmas.{read_rose_on}
 use Rattle.gelf_view.specs.declared.string_places.Start.{Start}
 use Rattle.gelf_view.proofs.StringCalls.{string_queries, string_unread}
 use Rattle.gelf_view.proofs.string_calls.fetch_piece.Goals as goal

@@ -1,4 +1,4 @@
-use Rattle.elf_object.specs.Strings.{strptr}
+use Rattle.elf_descriptor.specs.elf_object.Strings.{strptr}
 use Rattle.elf_descriptor.specs.Reads.{wanted}
 use Rattle.gelf_view.proofs.StringCalls.{unread_refused}
 use Rattle.gelf_view.proofs.string_calls.fetch_start.Goals as goal

@@ -1,7 +1,7 @@
 use Rattle.std.proofs.Common.{Err, subst}
 use Rattle.std.specs.Prelude.{IfErr}
-use Rattle.elf_object.specs.Words.{AnswersRead}
-use Rattle.elf_object.specs.Strings.{strptr, strptr_refusals}
+use Rattle.elf_descriptor.specs.elf_object.Words.{AnswersRead}
+use Rattle.elf_descriptor.specs.elf_object.Strings.{strptr, strptr_refusals}
 use Rattle.elf_descriptor.specs.State.{State}
 use Rattle.elf_descriptor.specs.Reads.{wanted}
 use Rattle.gelf_view.proofs.string_calls.note_and_fetch.Goals as goal

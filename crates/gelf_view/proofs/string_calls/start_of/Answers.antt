@@ -1,6 +1,6 @@
 use Rattle.std.proofs.Common.{sym}
 use Rattle.std.proofs.lemmas.Result.{err_from_is_err_and, IfOk-weaker, IfErr-weaker}
-use Rattle.elf_object.proofs.AnswerLaws.{answered_value, answered_refusal}
+use Rattle.elf_descriptor.proofs.elf_object.AnswerLaws.{answered_value, answered_refusal}
 use Rattle.gelf_view.proofs.StringLemmas.{unread_strings, unread_home, unread_string, strings_hold, begins_is}
 use Rattle.gelf_view.proofs.string_calls.start_of.Goals as goal
 

@@ -1,9 +1,9 @@
 use Rattle.std.proofs.Common.{◌∙◌, Bool, sym, subst}
 use Rattle.std.specs.Prelude.{IsTrue, ◌||◌}
-use Rattle.elf_object.specs.Object.{piece_at}
-use Rattle.elf_object.specs.Due.{is_loaded}
+use Rattle.elf_descriptor.specs.elf_object.Object.{piece_at}
+use Rattle.elf_descriptor.specs.elf_object.Due.{is_loaded}
 use Rattle.gelf_view.proofs.PieceBytes.{piece_there}
-use Rattle.section_data.proofs.Holdings.{none_of}
+use Rattle.elf_descriptor.proofs.section_data.Holdings.{none_of}
 use Rattle.gelf_view.proofs.string_calls.string_there.Goals as goal
 
 pub is_edited-requires : goal.is_edited-requires

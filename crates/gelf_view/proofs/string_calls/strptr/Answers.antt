@@ -1,8 +1,8 @@
 use Rattle.std.proofs.Common.{[], drop, Ok, refl, ap, ◌∙◌}
-use Rattle.elf_object.specs.Object.{Object}
+use Rattle.elf_descriptor.specs.elf_object.Object.{Object}
 use Rattle.elf_types.specs.declared.errors.ElfError.TheVariants.{Unended}
 use Rattle.elf_types.specs.Answers.{or_refused}
-use Rattle.elf_object.specs.Strings.{strptr}
+use Rattle.elf_descriptor.specs.elf_object.Strings.{strptr}
 use Rattle.elf_descriptor.proofs.EntryCalls.{queries_then}
 use Rattle.gelf_view.specs.declared.string_places.Start.{Start}
 use Rattle.gelf_view.specs.Records.{string_front}

@@ -1,6 +1,6 @@
 use Rattle.std.proofs.Common.{◌+◌, ◌-◌, List, ℕ, Option, drop, take, length, ap, ◌∙◌, arith}
 use Rattle.std.proofs.lemmas.List.{take_all, length-drop}
-use Rattle.elf_object.specs.Strings.{is_name}
+use Rattle.elf_descriptor.specs.elf_object.Strings.{is_name}
 use Rattle.gelf_view.specs.Records.{string_front}
 use Rattle.gelf_view.proofs.EndedStrings.{no_string, short_name}
 use Rattle.gelf_view.proofs.strings.is_string_at.Goals as goal

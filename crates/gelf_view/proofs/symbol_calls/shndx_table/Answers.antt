@@ -1,5 +1,5 @@
 use Rattle.std.proofs.Common.{◌≡◌, length, sym, ◌∙◌, below_more, arith}
-use Rattle.elf_object.specs.Object.{section_at}
+use Rattle.elf_descriptor.specs.elf_object.Object.{section_at}
 use Rattle.gelf_view.proofs.IndexTables.{table_found, table_absent}
 use Rattle.gelf_view.proofs.symbol_calls.shndx_table.Goals as goal
 

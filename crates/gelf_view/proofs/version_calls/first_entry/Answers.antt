@@ -1,6 +1,6 @@
 use Rattle.std.proofs.Common.{true, length, ap, ◌∙◌}
-use Rattle.elf_object.specs.Object.{Object}
-use Rattle.elf_object.specs.Answers.{count_at}
+use Rattle.elf_descriptor.specs.elf_object.Object.{Object}
+use Rattle.elf_descriptor.specs.elf_object.Answers.{count_at}
 use Rattle.elf_descriptor.specs.Reads.{wanted}
 use Rattle.elf_descriptor.proofs.Refusals.{answers_passed}
 use Rattle.gelf_view.specs.Calls.{bytes}

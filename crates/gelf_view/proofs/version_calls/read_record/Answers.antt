@@ -1,12 +1,12 @@
 use Rattle.std.proofs.Common.{arith}
-use Rattle.elf_object.specs.Answers.{count_at}
+use Rattle.elf_descriptor.specs.elf_object.Answers.{count_at}
 use Rattle.gelf_view.proofs.ChainCalls.{found_lies}
 use Rattle.std.proofs.Common.{true, [], sym, ap, ◌∙◌, subst}
 use Rattle.elf_types.specs.declared.records.Order.{Order}
 use Rattle.elf_types.specs.declared.records.Kind.TheVariants as kinds
-use Rattle.elf_object.specs.Words.{result_map}
-use Rattle.elf_object.specs.Object.{Object}
-use Rattle.elf_object.specs.Answers.{lend_refusal}
+use Rattle.elf_descriptor.specs.elf_object.Words.{result_map}
+use Rattle.elf_descriptor.specs.elf_object.Object.{Object}
+use Rattle.elf_descriptor.specs.elf_object.Answers.{lend_refusal}
 use Rattle.elf_descriptor.specs.Reads.{Queries, wanted}
 use Rattle.elf_descriptor.proofs.Refusals.{answers_passed}
 use Rattle.gelf_view.specs.Calls.{bytes, in_bytes, record_found}

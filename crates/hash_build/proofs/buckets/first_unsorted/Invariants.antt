@@ -1,5 +1,5 @@
 use Rattle.std.proofs.Common.{◌≡◌}
-use Rattle.hash_model.specs.BuiltHashes.{first_unsorted}
+use Rattle.symbol_lookup.specs.hash_model.BuiltHashes.{first_unsorted}
 use Rattle.hash_build.specs.Hashed.{buckets_by}
 use Rattle.hash_build.proofs.GnuLaws.{left_from}
 use Rattle.hash_build.proofs.buckets.first_unsorted.Given as goal

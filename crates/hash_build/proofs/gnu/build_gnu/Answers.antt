@@ -1,7 +1,7 @@
 use Rattle.std.proofs.Common.{ℕ, subst}
-use Rattle.elf_object.specs.Words.{AnswersRead}
-use Rattle.elf_descriptor.specs.Reads.{Looks, wanted}
-use Rattle.hash_model.specs.BuiltHashes.{build_gnu_answer, hash_refusal}
+use Rattle.symbol_lookup.specs.elf_object.Words.{AnswersRead}
+use Rattle.symbol_lookup.specs.elf_descriptor.Reads.{Looks, wanted}
+use Rattle.symbol_lookup.specs.hash_model.BuiltHashes.{build_gnu_answer, hash_refusal}
 use Rattle.hash_build.specs.declared.hashing.Hashing.TheVariants.{Gnu}
 use Rattle.hash_build.specs.Calls.{build_gnu, order_refusals, stated}
 use Rattle.hash_build.specs.Hashed.{listed_hashes}

@@ -1,5 +1,5 @@
 use Rattle.std.proofs.Common.{ℕ, List, ◌++◌, ap, ◌∙◌}
-use Rattle.hash_model.specs.HashSections.{gnu_bytes}
+use Rattle.symbol_lookup.specs.hash_model.HashSections.{gnu_bytes}
 use Rattle.hash_build.specs.Gnu.{gnu_of}
 use Rattle.hash_build.proofs.gnu.section_of.Goals as goal
 

@@ -1,6 +1,6 @@
 use Rattle.std.proofs.Common.{◌≡◌, ◌<◌, ◌++◌, ◌∷◌, ℕ, List, [], None, Option, Ok, Err, length, get_or, sym, ap, ◌∙◌, subst, arith}
 use Rattle.std.specs.Prelude.{IsTrue, Bool}
-use Rattle.elf_object.specs.Object.{Object}
+use Rattle.symbol_lookup.specs.elf_object.Object.{Object}
 use Rattle.hash_build.specs.Hashed.{listed_hashes}
 use Rattle.hash_build.specs.Tables.{IsSymbolTable}
 use Rattle.hash_build.proofs.ReadLaws.{table_nothing, table_both}

@@ -1,7 +1,7 @@
 use Rattle.std.proofs.Common.{◌==◌, ◌&&◌, ℕ, not, None, Ok, sym, ◌∙◌, subst}
 use Rattle.elf_types.specs.Answers.{Follows}
-use Rattle.elf_object.specs.Strings.{readable, string_answer}
-use Rattle.hash_model.specs.Listed.{is_defined_global, not_empty}
+use Rattle.symbol_lookup.specs.elf_object.Strings.{readable, string_answer}
+use Rattle.symbol_lookup.specs.hash_model.Listed.{is_defined_global, not_empty}
 use Rattle.hash_build.proofs.ReadLaws.{table_nothing}
 use Rattle.hash_build.proofs.ListedLaws.{name_hash, listed_when, listed_not, first_unlisted}
 use Rattle.hash_build.proofs.listed.hash_if_listed.Goals as goal

@@ -1,7 +1,7 @@
 use Rattle.std.proofs.Common.{ℕ, Option, Result, sym, subst}
 use Rattle.elf_types.specs.declared.errors.ElfError.{ElfError}
 use Rattle.elf_types.specs.Answers.{Follows}
-use Rattle.elf_object.specs.Strings.{string_answer, strptr_refusals}
+use Rattle.symbol_lookup.specs.elf_object.Strings.{string_answer, strptr_refusals}
 use Rattle.hash_build.specs.Tables.{ReadsTable}
 use Rattle.hash_build.proofs.ReadLaws.{string_found, string_lost}
 use Rattle.hash_build.proofs.ListedLaws.{of_answer, string_hashed, string_unhashed}

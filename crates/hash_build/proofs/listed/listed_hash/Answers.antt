@@ -2,8 +2,8 @@ use Rattle.std.proofs.Common.{◌≡◌, ℕ, Option, None, Result, Ok, get_or, 
 use Rattle.std.specs.Prelude.{IfOk}
 use Rattle.elf_types.specs.declared.errors.ElfError.{ElfError}
 use Rattle.elf_types.specs.Answers.{Follows}
-use Rattle.elf_object.specs.Object.{Object}
-use Rattle.elf_object.specs.Calls.{sym_answer}
+use Rattle.symbol_lookup.specs.elf_object.Object.{Object}
+use Rattle.symbol_lookup.specs.elf_object.Calls.{sym_answer}
 use Rattle.hash_build.specs.Hashed.{listed_hashes}
 use Rattle.hash_build.specs.Tables.{IsSymbolTable, ReadsTable}
 use Rattle.hash_build.proofs.ReadLaws.{symbol_found, symbol_lost, table_both}

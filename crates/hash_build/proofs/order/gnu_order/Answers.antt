@@ -1,10 +1,10 @@
 use Rattle.std.proofs.Common.{ℕ, length, subst}
 use Rattle.std.specs.Prelude.{IfOk}
-use Rattle.elf_object.specs.Words.{Answers}
-use Rattle.elf_object.proofs.AnswerLaws.{answers_refused}
-use Rattle.elf_descriptor.specs.Reads.{Looks, wanted}
-use Rattle.hash_model.specs.BuiltHashes.{gnu_order_answer, gnu_order_of, hash_refusal}
-use Rattle.hash_model.specs.Listed.{listed_names}
+use Rattle.symbol_lookup.specs.elf_object.Words.{Answers}
+use Rattle.symbol_lookup.proofs.elf_object.AnswerLaws.{answers_refused}
+use Rattle.symbol_lookup.specs.elf_descriptor.Reads.{Looks, wanted}
+use Rattle.symbol_lookup.specs.hash_model.BuiltHashes.{gnu_order_answer, gnu_order_of, hash_refusal}
+use Rattle.symbol_lookup.specs.hash_model.Listed.{listed_names}
 use Rattle.hash_build.specs.Calls.{gnu_order}
 use Rattle.hash_build.specs.Rows.{IsOrder}
 use Rattle.hash_build.proofs.CallLaws.{hash_answers, hash_looks, refused_looks}

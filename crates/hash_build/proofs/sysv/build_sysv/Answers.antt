@@ -1,11 +1,11 @@
 use Rattle.std.proofs.Common.{◌≡◌, ◌+◌, ℕ, length, subst}
 use Rattle.std.specs.Prelude.{IfOk}
-use Rattle.elf_object.specs.Words.{Answers}
-use Rattle.elf_object.proofs.AnswerLaws.{answers_refused}
-use Rattle.elf_descriptor.specs.Reads.{Looks, wanted}
-use Rattle.hash_model.specs.BuiltHashes.{build_sysv_answer, hash_refusal, sysv_built}
-use Rattle.hash_model.specs.HashSections.{sysv_words}
-use Rattle.hash_model.specs.Listed.{listed_names}
+use Rattle.symbol_lookup.specs.elf_object.Words.{Answers}
+use Rattle.symbol_lookup.proofs.elf_object.AnswerLaws.{answers_refused}
+use Rattle.symbol_lookup.specs.elf_descriptor.Reads.{Looks, wanted}
+use Rattle.symbol_lookup.specs.hash_model.BuiltHashes.{build_sysv_answer, hash_refusal, sysv_built}
+use Rattle.symbol_lookup.specs.hash_model.HashSections.{sysv_words}
+use Rattle.symbol_lookup.specs.hash_model.Listed.{listed_names}
 use Rattle.hash_build.specs.Calls.{build_sysv}
 use Rattle.hash_build.proofs.CallLaws.{hash_answers, hash_looks, refused_looks}
 use Rattle.hash_build.proofs.SysvLaws.{sysv_stated}

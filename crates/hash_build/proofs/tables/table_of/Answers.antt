@@ -1,5 +1,5 @@
 use Rattle.std.proofs.Common.{sym}
-use Rattle.elf_object.proofs.AnswerLaws.{answered_value, answered_refusal}
+use Rattle.symbol_lookup.proofs.elf_object.AnswerLaws.{answered_value, answered_refusal}
 use Rattle.hash_build.proofs.CallLaws.{refused_lend}
 use Rattle.hash_build.proofs.tables.table_of.Goals as goal
 

@@ -1,7 +1,7 @@
 use Rattle.std.proofs.Common.{ap, arith}
 use Rattle.elf_types.specs.declared.records.Kind.TheVariants as kinds
 use Rattle.elf_types.specs.declared.records.Shdr.{Shdr}
-use Rattle.elf_descriptor.proofs.LendLaws.{lend_there}
+use Rattle.symbol_lookup.proofs.elf_descriptor.LendLaws.{lend_there}
 use Rattle.hash_build.proofs.CallLaws.{too_many, not_too_many, counted}
 use Rattle.hash_build.proofs.tables.table_with.Goals as goal
 

@@ -1,5 +1,5 @@
 use Rattle.std.proofs.Common.{sym}
-use Rattle.elf_object.proofs.AnswerLaws.{answered_value}
+use Rattle.symbol_lookup.proofs.elf_object.AnswerLaws.{answered_value}
 use Rattle.hash_order.proofs.CheckLaws.{order_refused}
 use Rattle.hash_order.proofs.checks.check_order.Goals as goal
 

@@ -1,5 +1,5 @@
 use Rattle.std.proofs.Common.{length, arith}
-use Rattle.hash_model.specs.Reordered.{reorder_refusal_of}
+use Rattle.symbol_lookup.specs.hash_model.Reordered.{reorder_refusal_of}
 use Rattle.hash_order.proofs.CheckLaws.{check_begins, goes_on, ends_refused, ends_passed, count_is}
 use Rattle.hash_order.proofs.checks.check_sections.Goals as goal
 

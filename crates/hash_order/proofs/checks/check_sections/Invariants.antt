@@ -1,7 +1,7 @@
 use Rattle.std.proofs.Common.{◌≡◌, length, map}
 use Rattle.std.specs.List.{range_with_len}
 use Rattle.elf_types.specs.Answers.{first_refusal}
-use Rattle.hash_model.specs.Reordered.{reorder_refusal_of}
+use Rattle.symbol_lookup.specs.hash_model.Reordered.{reorder_refusal_of}
 use Rattle.hash_order.proofs.CheckLaws.{left_to_check}
 use Rattle.hash_order.proofs.checks.check_sections.Given as goal
 

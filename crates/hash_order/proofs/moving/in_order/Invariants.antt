@@ -1,5 +1,5 @@
 use Rattle.std.proofs.Common.{◌≡◌, take}
-use Rattle.hash_model.specs.Reordered.{in_order}
+use Rattle.symbol_lookup.specs.hash_model.Reordered.{in_order}
 use Rattle.hash_order.proofs.moving.in_order.Given as goal
 
 abbrev pub invariant-loop-k : goal.invariant-loop-k

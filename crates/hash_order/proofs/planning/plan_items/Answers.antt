@@ -1,6 +1,6 @@
-use Rattle.elf_object.specs.Answers.{items_at}
-use Rattle.elf_object.specs.Words.{result_map}
-use Rattle.elf_object.proofs.AnswerLaws.{lend_kind}
+use Rattle.symbol_lookup.specs.elf_object.Answers.{items_at}
+use Rattle.symbol_lookup.specs.elf_object.Words.{result_map}
+use Rattle.symbol_lookup.proofs.elf_object.AnswerLaws.{lend_kind}
 use Rattle.hash_order.specs.declared.nexts.Next.TheVariants as nexts
 use Rattle.hash_order.proofs.DataLaws.{data_alike, data_told, data_hand, data_reads, data_end}
 use Rattle.hash_order.proofs.ItemLaws.{moves_of, moves_too, made_next, made_ready, mapped_err}

@@ -1,6 +1,6 @@
 use Rattle.std.proofs.Common.{ℕ, Some, None, sym, ◌∙◌, subst}
 use Rattle.std.specs.Prelude.{IfOk}
-use Rattle.elf_object.specs.Answers.{count_at}
+use Rattle.symbol_lookup.specs.elf_object.Answers.{count_at}
 use Rattle.hash_order.specs.declared.nexts.Next.{Next}
 use Rattle.hash_order.specs.declared.nexts.Next.TheVariants as nexts
 use Rattle.hash_order.specs.Kinds.{CanFollow}

@@ -1,7 +1,7 @@
 use Rattle.std.proofs.Common.{◌≡◌, ◌-◌, ℕ, Ok, Err, None, length, sym, ap, subst, arith}
-use Rattle.elf_object.specs.Object.{Object}
-use Rattle.elf_object.specs.Answers.{count_at}
-use Rattle.hash_model.specs.Reordered.{reorder_refusal}
+use Rattle.symbol_lookup.specs.elf_object.Object.{Object}
+use Rattle.symbol_lookup.specs.elf_object.Answers.{count_at}
+use Rattle.symbol_lookup.specs.hash_model.Reordered.{reorder_refusal}
 use Rattle.hash_build.specs.Rows.{IsOrder}
 use Rattle.hash_order.specs.Calls.{all_homes}
 use Rattle.hash_order.specs.Reading.{ReadsHomes}

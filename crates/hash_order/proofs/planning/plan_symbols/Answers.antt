@@ -1,6 +1,6 @@
 use Rattle.std.proofs.Common.{refl}
 use Rattle.elf_types.specs.declared.records.Kind.TheVariants.{Sym}
-use Rattle.elf_descriptor.proofs.LendLaws.{lend_there}
+use Rattle.symbol_lookup.proofs.elf_descriptor.LendLaws.{lend_there}
 use Rattle.hash_order.specs.Calls.{all_homes}
 use Rattle.hash_order.proofs.DataLaws.{data_alike, data_told, data_hand, data_reads, data_end}
 use Rattle.hash_order.proofs.FollowLaws.{symbols_passed, table_home}

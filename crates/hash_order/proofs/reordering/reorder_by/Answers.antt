@@ -1,7 +1,7 @@
 use Rattle.std.proofs.Common.{◌≡◌, None, sym, subst}
-use Rattle.elf_object.specs.Object.{Object}
-use Rattle.elf_object.specs.Answers.{count_at}
-use Rattle.hash_model.specs.Reordered.{reorder_refusal}
+use Rattle.symbol_lookup.specs.elf_object.Object.{Object}
+use Rattle.symbol_lookup.specs.elf_object.Answers.{count_at}
+use Rattle.symbol_lookup.specs.hash_model.Reordered.{reorder_refusal}
 use Rattle.hash_build.specs.Rows.{IsOrder}
 use Rattle.hash_order.proofs.EndLaws.{reorders_end, reorders_then, symbols_then, ended_then}
 use Rattle.hash_order.proofs.reordering.reorder_by.Goals as goal

@@ -2,7 +2,7 @@ use Rattle.std.proofs.Common.{arith}
 use Rattle.std.proofs.lemmas.Bool.{leb-true, le-leb}
 use Rattle.image_ranges.specs.Images.{ArePlanned}
 use Rattle.image_ranges.specs.Ranges.{kept_of_parts}
-use Rattle.update_plan.specs.Plans.{no_part}
+use Rattle.elf_update.specs.update_plan.Plans.{no_part}
 use Rattle.image_ranges.proofs.CheckLaws.{no_by, plan_begins, plan_goes_on, plan_stops, plan_ends, plan_within}
 use Rattle.image_ranges.proofs.checks.are_planned.Goals as goal
 

@@ -1,5 +1,5 @@
 use Rattle.std.proofs.Common.{◌≡◌, length, arith}
-use Rattle.update_plan.proofs.RowLaws.{ok_is}
+use Rattle.unstrip_join.proofs.update_plan.RowLaws.{ok_is}
 use Rattle.join_contents.proofs.AddLaws.{none_below, more_below, stop_below, all_below}
 use Rattle.join_contents.proofs.adding.add_all.Goals as goal
 

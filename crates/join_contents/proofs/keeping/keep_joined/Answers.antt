@@ -1,7 +1,7 @@
 use Rattle.std.proofs.Common.{◌≡◌, None, length, sym, ap, ◌∙◌}
 use Rattle.elf_object.specs.Calls.{newphdr_refusal}
-use Rattle.update_plan.proofs.PlacingLaws.{passed_from}
-use Rattle.update_plan.proofs.RowLaws.{ok_is}
+use Rattle.unstrip_join.proofs.update_plan.PlacingLaws.{passed_from}
+use Rattle.unstrip_join.proofs.update_plan.RowLaws.{ok_is}
 use Rattle.join_contents.proofs.KeepLaws.{many_segments, not_kept, joined_kept, no_index}
 use Rattle.join_contents.proofs.keeping.keep_joined.Goals as goal
 

@@ -1,5 +1,5 @@
 use Rattle.std.proofs.Common.{sym, ◌∙◌, arith}
-use Rattle.update_plan.proofs.RowLaws.{ok_is}
+use Rattle.unstrip_join.proofs.update_plan.RowLaws.{ok_is}
 use Rattle.join_contents.proofs.KeepLaws.{none_listed, some_listed, not_listed, list_wanted}
 use Rattle.join_contents.proofs.keeping.list_joined.Goals as goal
 

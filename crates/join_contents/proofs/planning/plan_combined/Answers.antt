@@ -1,6 +1,6 @@
 use Rattle.std.proofs.Common.{ap, ◌∙◌}
 use Rattle.command_objects.specs.Rebuilt.{rebuilt_tail}
-use Rattle.update_plan.proofs.RowLaws.{ok_is}
+use Rattle.unstrip_join.proofs.update_plan.RowLaws.{ok_is}
 use Rattle.join_contents.proofs.PlanLaws.{combined_planned, combined_unplanned}
 use Rattle.join_contents.proofs.planning.plan_combined.Goals as goal
 

@@ -1,6 +1,6 @@
 use Rattle.std.proofs.Common.{ℕ, sym}
-use Rattle.elf_object.specs.Due.{all_sections}
-use Rattle.object_output.proofs.ElfSteps.{elf_as}
+use Rattle.lint_findings.specs.elf_object.Due.{all_sections}
+use Rattle.lint_findings.proofs.object_output.ElfSteps.{elf_as}
 use Rattle.lint_findings.proofs.FindingLemmas.{findings_of}
 use Rattle.lint_chains.specs.Chains.{at_bad_chains, chain_found}
 use Rattle.lint_chains.proofs.by_chain.each_bad_chain.Goals as goal

@@ -1,14 +1,14 @@
 use Rattle.std.proofs.Common.{ℕ, true, Option, Some, None, refl, ap, sym}
 use Rattle.std.specs.Prelude.{length}
-use Rattle.gelf_view.specs.Calls.{first_place}
-use Rattle.object_output.proofs.AnswerLemmas.{answers_stated}
-use Rattle.object_output.proofs.LearnLemmas.{learns_as, learns_by, learns_after}
-use Rattle.object_output.proofs.QueryLemmas.{queried, is_refusal}
+use Rattle.lint_findings.specs.gelf_view.Calls.{first_place}
+use Rattle.lint_findings.proofs.object_output.AnswerLemmas.{answers_stated}
+use Rattle.lint_findings.proofs.object_output.LearnLemmas.{learns_as, learns_by, learns_after}
+use Rattle.lint_findings.proofs.object_output.QueryLemmas.{queried, is_refusal}
 use Rattle.lint_findings.specs.Looking.{data_bytes}
 use Rattle.lint_chains.specs.Chains.{entries_bad, from_first}
 use Rattle.lint_chains.proofs.ChainLemmas.{first_there, first_refused}
-use Rattle.object_output.proofs.OnceReads.{once_read}
-use Rattle.object_output.proofs.ElfSteps.{settled_elf}
+use Rattle.lint_findings.proofs.object_output.OnceReads.{once_read}
+use Rattle.lint_findings.proofs.object_output.ElfSteps.{settled_elf}
 use Rattle.lint_chains.proofs.entries.walk_entries.Goals as goal
 
 pub returns-in-Ok-Some : goal.returns-in-Ok-Some

@@ -1,12 +1,12 @@
 use Rattle.std.proofs.Common.{sym, ap, ◌∙◌, arith}
 use Rattle.std.proofs.lemmas.Result.{err_from_is_err_and}
-use Rattle.elf_object.specs.Object.{Object}
-use Rattle.elf_object.specs.Answers.{count_at}
-use Rattle.object_output.proofs.AnswerLemmas.{led_broken}
-use Rattle.object_output.proofs.LearnLemmas.{learns_stop, learns_after}
-use Rattle.object_output.proofs.QueryLemmas.{queried, looked_by}
-use Rattle.object_output.proofs.OnceReads.{once_read}
-use Rattle.gelf_view.proofs.ChainLemmas.{next_behind}
+use Rattle.lint_findings.specs.elf_object.Object.{Object}
+use Rattle.lint_findings.specs.elf_object.Answers.{count_at}
+use Rattle.lint_findings.proofs.object_output.AnswerLemmas.{led_broken}
+use Rattle.lint_findings.proofs.object_output.LearnLemmas.{learns_stop, learns_after}
+use Rattle.lint_findings.proofs.object_output.QueryLemmas.{queried, looked_by}
+use Rattle.lint_findings.proofs.object_output.OnceReads.{once_read}
+use Rattle.lint_findings.proofs.gelf_view.ChainLemmas.{next_behind}
 use Rattle.lint_chains.specs.Chains.{entries_bad}
 use Rattle.lint_chains.proofs.ChainLemmas.{entries_broken}
 use Rattle.lint_chains.proofs.EntryWalks.{names_end, entries_end, entries_go}

@@ -1,5 +1,5 @@
 use Rattle.std.proofs.Common.{◌-◌}
-use Rattle.elf_object.specs.Answers.{count_at}
+use Rattle.lint_findings.specs.elf_object.Answers.{count_at}
 use Rattle.lint_chains.specs.Chains.{entries_bad}
 use Rattle.lint_chains.proofs.WalkLemmas.{Walking}
 use Rattle.lint_chains.proofs.entries.walk_from.Given as goal

@@ -1,8 +1,8 @@
 use Rattle.std.proofs.Common.{Option, None, ap, sym}
-use Rattle.object_output.proofs.AnswerLemmas.{led_broken}
-use Rattle.object_output.proofs.LearnLemmas.{learns_by}
-use Rattle.object_output.proofs.QueryLemmas.{queried, looked_by}
-use Rattle.object_output.proofs.OnceReads.{once_read}
+use Rattle.lint_findings.proofs.object_output.AnswerLemmas.{led_broken}
+use Rattle.lint_findings.proofs.object_output.LearnLemmas.{learns_by}
+use Rattle.lint_findings.proofs.object_output.QueryLemmas.{queried, looked_by}
+use Rattle.lint_findings.proofs.object_output.OnceReads.{once_read}
 use Rattle.lint_chains.specs.Chains.{bad_place}
 use Rattle.lint_chains.proofs.WalkLemmas.{met_bad, walk_begins, walk_goes, walk_ends}
 use Rattle.lint_chains.proofs.ChainLemmas.{chain_bad}

@@ -1,6 +1,6 @@
 use Rattle.std.proofs.Common.{ℕ, List, [], sym, ◌∙◌, subst}
-use Rattle.elf_object.specs.Object.{Object}
-use Rattle.object_output.proofs.LearnLemmas.{learns_after, learns_stop}
+use Rattle.lint_findings.specs.elf_object.Object.{Object}
+use Rattle.lint_findings.proofs.object_output.LearnLemmas.{learns_after, learns_stop}
 use Rattle.lint_findings.specs.Looking.{data_bytes}
 use Rattle.lint_chains.specs.Chains.{entries_bad}
 use Rattle.lint_chains.specs.Reach.{IsReach}

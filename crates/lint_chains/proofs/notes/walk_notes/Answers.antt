@@ -1,15 +1,15 @@
 use Rattle.std.proofs.Common.{Option, None, ap, sym, arith}
-use Rattle.elf_object.specs.Object.{Object}
-use Rattle.elf_object.specs.Answers.{count_at}
-use Rattle.gelf_view.specs.declared.notes.NoteAt.{NoteAt}
-use Rattle.gelf_view.specs.Chains.{notes}
-use Rattle.object_output.proofs.AnswerLemmas.{led_broken}
-use Rattle.object_output.proofs.LearnLemmas.{learns_by}
-use Rattle.object_output.proofs.QueryLemmas.{queried, looked_by}
+use Rattle.lint_findings.specs.elf_object.Object.{Object}
+use Rattle.lint_findings.specs.elf_object.Answers.{count_at}
+use Rattle.lint_findings.specs.gelf_view.declared.notes.NoteAt.{NoteAt}
+use Rattle.lint_findings.specs.gelf_view.Chains.{notes}
+use Rattle.lint_findings.proofs.object_output.AnswerLemmas.{led_broken}
+use Rattle.lint_findings.proofs.object_output.LearnLemmas.{learns_by}
+use Rattle.lint_findings.proofs.object_output.QueryLemmas.{queried, looked_by}
 use Rattle.lint_chains.specs.Chains.{bad_place}
 use Rattle.lint_chains.proofs.WalkLemmas.{met_bad, walk_begins, walk_goes, walk_ends}
 use Rattle.lint_chains.proofs.ChainLemmas.{chain_bad}
-use Rattle.object_output.proofs.OnceReads.{once_read}
+use Rattle.lint_findings.proofs.object_output.OnceReads.{once_read}
 use Rattle.lint_chains.proofs.notes.walk_notes.Goals as goal
 
 pub notes-init : goal.notes-init

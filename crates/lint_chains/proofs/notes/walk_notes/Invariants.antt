@@ -1,6 +1,6 @@
 use Rattle.std.proofs.Common.{◌-◌}
-use Rattle.elf_object.specs.Answers.{count_at}
-use Rattle.gelf_view.specs.Chains.{notes}
+use Rattle.lint_findings.specs.elf_object.Answers.{count_at}
+use Rattle.lint_findings.specs.gelf_view.Chains.{notes}
 use Rattle.lint_chains.specs.Chains.{bad_place}
 use Rattle.lint_chains.proofs.WalkLemmas.{Walking}
 use Rattle.lint_chains.proofs.notes.walk_notes.Given as goal

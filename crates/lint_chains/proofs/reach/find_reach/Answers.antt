@@ -1,10 +1,10 @@
 use Rattle.std.proofs.Common.{ℕ, List, sym, subst}
 use Rattle.std.specs.Prelude.{IfOk}
 use Rattle.elf_types.specs.declared.records.Order.{Order}
-use Rattle.elf_descriptor.specs.Reads.{wanted}
-use Rattle.gelf_view.specs.Calls as calls
-use Rattle.object_output.proofs.OnceReads.{once_read}
-use Rattle.object_output.proofs.QueryLemmas.{reads_on, reads_stop, settled_by, settled_ok, settled_none}
+use Rattle.lint_findings.specs.elf_descriptor.Reads.{wanted}
+use Rattle.lint_findings.specs.gelf_view.Calls as calls
+use Rattle.lint_findings.proofs.object_output.OnceReads.{once_read}
+use Rattle.lint_findings.proofs.object_output.QueryLemmas.{reads_on, reads_stop, settled_by, settled_ok, settled_none}
 use Rattle.lint_findings.specs.Looking.{data_bytes}
 use Rattle.lint_findings.proofs.LentLemmas.{bytes_told}
 use Rattle.lint_chains.specs.Reach.{IsReach}

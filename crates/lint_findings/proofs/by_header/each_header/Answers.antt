@@ -1,6 +1,6 @@
 use Rattle.std.proofs.Common.{ℕ, length, refl, rules, arith}
 use Rattle.std.proofs.lemmas.Result.{err_from_is_err_and}
-use Rattle.tool_output.proofs.UnderWayLemmas.{begins, goes_on, stops_at, is_given}
+use Rattle.object_output.proofs.tool_output.UnderWayLemmas.{begins, goes_on, stops_at, is_given}
 use Rattle.object_output.proofs.SectionLemmas.{ok_is}
 use Rattle.lint_findings.specs.declared.places.Place.TheVariants.{Section}
 use Rattle.lint_findings.specs.Findings.{at_sections, finding, found_if}

@@ -1,8 +1,8 @@
 use Rattle.std.proofs.Common.{drop}
 use Rattle.std.specs.List.{flat_map}
-use Rattle.elf_object.specs.Due.{all_sections}
-use Rattle.tool_output.specs.Reports.{UnderWay}
-use Rattle.tool_output.specs.Steps.{KeepsSinks}
+use Rattle.object_output.specs.elf_object.Due.{all_sections}
+use Rattle.object_output.specs.tool_output.Reports.{UnderWay}
+use Rattle.object_output.specs.tool_output.Steps.{KeepsSinks}
 use Rattle.lint_findings.specs.declared.places.Place.TheVariants.{Section}
 use Rattle.lint_findings.specs.Findings.{at_sections, finding, findings_shown, found_if}
 use Rattle.lint_findings.proofs.by_header.each_header.Given as goal

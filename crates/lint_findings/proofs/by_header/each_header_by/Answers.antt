@@ -1,5 +1,5 @@
 use Rattle.std.proofs.Common.{arith}
-use Rattle.elf_object.specs.Due.{all_sections}
+use Rattle.object_output.specs.elf_object.Due.{all_sections}
 use Rattle.object_output.proofs.ElfSteps.{elf_left, elf_says, elf_over}
 use Rattle.lint_findings.specs.Findings.{at_sections, findings_shown}
 use Rattle.lint_findings.proofs.by_header.each_header_by.Goals as goal

@@ -1,5 +1,5 @@
 use Rattle.std.proofs.Common.{ℕ, sym}
-use Rattle.elf_object.specs.Due.{all_sections}
+use Rattle.object_output.specs.elf_object.Due.{all_sections}
 use Rattle.lint_findings.specs.declared.places.Place.TheVariants.{Section}
 use Rattle.lint_findings.specs.Findings.{at_sections, finding, found_if}
 use Rattle.object_output.proofs.ElfSteps.{elf_as}

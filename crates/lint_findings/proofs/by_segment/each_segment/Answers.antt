@@ -1,7 +1,7 @@
 use Rattle.std.proofs.Common.{ℕ, refl, rules, arith}
 use Rattle.std.proofs.lemmas.Result.{err_from_is_err_and}
 use Rattle.elf_types.specs.declared.records.Phdr.{Phdr}
-use Rattle.tool_output.proofs.UnderWayLemmas.{begins, goes_on, stops_at, is_given}
+use Rattle.object_output.proofs.tool_output.UnderWayLemmas.{begins, goes_on, stops_at, is_given}
 use Rattle.object_output.proofs.SectionLemmas.{ok_is}
 use Rattle.lint_findings.specs.declared.places.Place.TheVariants.{Segment}
 use Rattle.lint_findings.specs.Findings.{at_segments, finding, found_if}

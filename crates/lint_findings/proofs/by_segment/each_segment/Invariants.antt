@@ -1,7 +1,7 @@
 use Rattle.std.proofs.Common.{drop}
 use Rattle.std.specs.List.{flat_map, enumerate_from}
-use Rattle.tool_output.specs.Reports.{UnderWay}
-use Rattle.tool_output.specs.Steps.{KeepsSinks}
+use Rattle.object_output.specs.tool_output.Reports.{UnderWay}
+use Rattle.object_output.specs.tool_output.Steps.{KeepsSinks}
 use Rattle.lint_findings.specs.declared.places.Place.TheVariants.{Segment}
 use Rattle.lint_findings.specs.Findings.{at_segments, finding, findings_shown, found_if}
 use Rattle.lint_findings.proofs.by_segment.each_segment.Given as goal

@@ -1,8 +1,8 @@
 use Rattle.std.proofs.Common.{◌≡◌, Option, IfOk, subst}
-use Rattle.elf_object.specs.Answers.{items_at, lend_refusal, entry_answer}
-use Rattle.elf_descriptor.specs.Entries.{entry}
-use Rattle.elf_descriptor.specs.Reads.{wanted}
-use Rattle.tool_output.specs.Stops.{value_or_stop}
+use Rattle.object_output.specs.elf_object.Answers.{items_at, lend_refusal, entry_answer}
+use Rattle.object_output.specs.elf_descriptor.Entries.{entry}
+use Rattle.object_output.specs.elf_descriptor.Reads.{wanted}
+use Rattle.object_output.specs.tool_output.Stops.{value_or_stop}
 use Rattle.object_output.proofs.OnceReads.{once_read}
 use Rattle.object_output.proofs.QueryLemmas.{learns_unless, unless_stated}
 use Rattle.lint_findings.proofs.LentLemmas.{lent_value}

@@ -1,6 +1,6 @@
 use Rattle.lint_findings.specs.Findings.{finding}
 use Rattle.lint_findings.proofs.FindingLemmas.{none_if}
-use Rattle.tool_output.proofs.ReportLemmas.{reports_none}
+use Rattle.object_output.proofs.tool_output.ReportLemmas.{reports_none}
 use Rattle.lint_findings.proofs.findings.find_if.Goals as goal
 
 pub returns-else-holds-clause-reports : goal.returns-else-holds-clause-reports

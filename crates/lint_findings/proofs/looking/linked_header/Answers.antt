@@ -1,7 +1,7 @@
 use Rattle.std.proofs.Common.{sym, ap, ◌∙◌}
 use Rattle.elf_types.specs.declared.records.Shdr.{Shdr}
-use Rattle.elf_ident.specs.Front.{zero_shdr}
-use Rattle.elf_object.specs.Sections.{header_at}
+use Rattle.object_output.specs.elf_ident.Front.{zero_shdr}
+use Rattle.object_output.specs.elf_object.Sections.{header_at}
 use Rattle.lint_findings.specs.Looking.{linked_header}
 use Rattle.lint_findings.proofs.HeaderLemmas.{no_header}
 use Rattle.lint_findings.proofs.looking.linked_header.Goals as goal

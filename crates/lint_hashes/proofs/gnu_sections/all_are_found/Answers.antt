@@ -1,7 +1,7 @@
 use Rattle.std.proofs.Common.{ℕ, List, true, false, Some, None, Ok, Err, IsTrue, arith}
-use Rattle.elf_object.specs.Object.{Object}
-use Rattle.object_output.proofs.ElfSteps.{elf_left}
-use Rattle.object_output.proofs.LearnLemmas.{learns_by, learns_after, learns_stop}
+use Rattle.hash_model.specs.elf_object.Object.{Object}
+use Rattle.bytes_at_hand.proofs.object_output.ElfSteps.{elf_left}
+use Rattle.bytes_at_hand.proofs.object_output.LearnLemmas.{learns_by, learns_after, learns_stop}
 use Rattle.hash_model.specs.HashSections.{is_found_gnu}
 use Rattle.hash_model.specs.Listed.{listed_names}
 use Rattle.lint_findings.specs.Looking.{data_bytes}

@@ -2,7 +2,7 @@ use Rattle.std.proofs.Common.{◌≡◌, ◌≤◌, ℕ, Bool, true, Option, Som
 use Rattle.std.specs.List.{list_all, enumerate_from}
 use Rattle.hash_model.specs.HashSections.{is_found_gnu}
 use Rattle.hash_model.specs.Listed.{listed_names}
-use Rattle.object_output.specs.Steps.{LeavesElf}
+use Rattle.bytes_at_hand.specs.object_output.Steps.{LeavesElf}
 use Rattle.lint_findings.specs.Looking.{data_bytes}
 use Rattle.lint_hashes.specs.Gnu.{section_of, IsRun}
 use Rattle.lint_hashes.proofs.gnu_sections.all_are_found.Given as goal

@@ -1,8 +1,8 @@
 use Rattle.std.proofs.Common.{◌≡◌, length, true, false, IsTrue, sym, ◌∙◌, subst}
-use Rattle.elf_object.specs.Object.{Object}
+use Rattle.hash_model.specs.elf_object.Object.{Object}
 use Rattle.hash_model.specs.HashSections.{is_whole_gnu}
 use Rattle.hash_model.specs.Listed.{listed_names}
-use Rattle.object_output.proofs.LearnLemmas.{learns_by, learns_after, learns_as}
+use Rattle.bytes_at_hand.proofs.object_output.LearnLemmas.{learns_by, learns_after, learns_as}
 use Rattle.lint_findings.specs.Looking.{data_bytes}
 use Rattle.lint_hashes.specs.Gnu.{section_of, chains_end, all_are_found, LiesIn}
 use Rattle.lint_hashes.proofs.GnuWhole.{whole_where, ends_where, not_whole}

@@ -1,15 +1,15 @@
 use Rattle.std.proofs.Common.{ℕ, List, sym, ap, ◌∙◌, subst}
 use Rattle.elf_types.specs.declared.records.Kind.TheVariants as kinds
-use Rattle.elf_object.specs.Answers.{items_at, bytes_of, lend_refusal}
-use Rattle.elf_descriptor.specs.Reads.{wanted}
-use Rattle.gelf_view.specs.Calls as calls
-use Rattle.object_output.proofs.QueryLemmas.{reads_on, reads_stop, settled_ok, settled_none}
+use Rattle.hash_model.specs.elf_object.Answers.{items_at, bytes_of, lend_refusal}
+use Rattle.bytes_at_hand.specs.elf_descriptor.Reads.{wanted}
+use Rattle.bytes_at_hand.specs.gelf_view.Calls as calls
+use Rattle.bytes_at_hand.proofs.object_output.QueryLemmas.{reads_on, reads_stop, settled_ok, settled_none}
 use Rattle.lint_findings.specs.Looking.{data_bytes}
 use Rattle.lint_findings.proofs.LentLemmas.{bytes_told, no_bytes}
 use Rattle.lint_hashes.proofs.LentLemmas.{as_many_bytes}
 use Rattle.lint_hashes.specs.Gnu.{section_of, run_after, LiesIn}
 use Rattle.lint_hashes.proofs.GnuWhole.{no_room}
-use Rattle.object_output.proofs.OnceReads.{once_read}
+use Rattle.bytes_at_hand.proofs.object_output.OnceReads.{once_read}
 use Rattle.lint_hashes.proofs.gnu_sections.run_by.Goals as goal
 
 pub run_after-requires-clause-lies : goal.run_after-requires-clause-lies

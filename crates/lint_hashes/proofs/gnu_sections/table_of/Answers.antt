@@ -3,16 +3,16 @@ use Rattle.std.specs.Prelude.{IfSome}
 use Rattle.elf_types.specs.declared.records.Class.{Class}
 use Rattle.elf_types.specs.declared.records.Order.{Order}
 use Rattle.elf_types.specs.declared.records.Kind.TheVariants as kinds
-use Rattle.elf_object.specs.Answers.{items_at, bytes_of, lend_refusal}
-use Rattle.elf_descriptor.specs.Reads.{wanted}
-use Rattle.gelf_view.specs.Calls as calls
-use Rattle.object_output.proofs.QueryLemmas.{reads_on, reads_stop, settled_ok, settled_none}
+use Rattle.hash_model.specs.elf_object.Answers.{items_at, bytes_of, lend_refusal}
+use Rattle.bytes_at_hand.specs.elf_descriptor.Reads.{wanted}
+use Rattle.bytes_at_hand.specs.gelf_view.Calls as calls
+use Rattle.bytes_at_hand.proofs.object_output.QueryLemmas.{reads_on, reads_stop, settled_ok, settled_none}
 use Rattle.lint_findings.specs.Looking.{data_bytes}
 use Rattle.lint_findings.proofs.LentLemmas.{bytes_told, no_bytes}
 use Rattle.lint_hashes.proofs.LentLemmas.{as_many_bytes}
 use Rattle.lint_hashes.specs.Gnu.{IsSoundIn, LiesIn}
 use Rattle.lint_hashes.proofs.GnuWhole.{sound_of_none}
-use Rattle.object_output.proofs.OnceReads.{once_read}
+use Rattle.bytes_at_hand.proofs.object_output.OnceReads.{once_read}
 use Rattle.lint_hashes.proofs.gnu_sections.table_of.Goals as goal
 
 pub returns-in-Ok-clause-is : goal.returns-in-Ok-clause-is

@@ -1,6 +1,6 @@
 use Rattle.std.proofs.Common.{◌≡◌, ℕ, List, Option, None, sym, ◌∙◌, subst}
-use Rattle.elf_object.specs.Strings.{readable, string_answer}
-use Rattle.object_output.proofs.LearnLemmas.{learns_now}
+use Rattle.hash_model.specs.elf_object.Strings.{readable, string_answer}
+use Rattle.bytes_at_hand.proofs.object_output.LearnLemmas.{learns_now}
 use Rattle.bytes_at_hand.proofs.Ends.{unreadable_past}
 use Rattle.lint_hashes.proofs.ListedLemmas.{unread_name}
 use Rattle.lint_hashes.proofs.listed.hash_if_listed.Goals as goal

@@ -1,6 +1,6 @@
 use Rattle.std.proofs.Common.{sym, ap, ◌∙◌}
 use Rattle.elf_types.specs.declared.records.Shdr.{Shdr}
-use Rattle.elf_object.specs.Sections.{header_at}
+use Rattle.hash_model.specs.elf_object.Sections.{header_at}
 use Rattle.lint_findings.specs.Looking.{linked_header}
 use Rattle.lint_hashes.proofs.ListedLemmas.{names_counted}
 use Rattle.lint_hashes.proofs.listed.linked_symbols.Goals as goal

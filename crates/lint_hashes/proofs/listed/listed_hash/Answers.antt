@@ -1,11 +1,11 @@
 use Rattle.std.proofs.Common.{Some, None, sym, subst}
-use Rattle.elf_object.specs.Object.{Object}
+use Rattle.hash_model.specs.elf_object.Object.{Object}
 use Rattle.bytes_at_hand.proofs.Ends.{end_stays}
 use Rattle.std.specs.Prelude.{slice_get}
 use Rattle.std.specs.Option.{option_map}
 use Rattle.hash_model.specs.Listed.{listed_name}
 use Rattle.lint_findings.specs.Looking.{symbols}
-use Rattle.object_output.proofs.LearnLemmas.{learns_map, learns_then}
+use Rattle.bytes_at_hand.proofs.object_output.LearnLemmas.{learns_map, learns_then}
 use Rattle.lint_hashes.specs.Listed.{hash_by, listed_hash, AreListed}
 use Rattle.lint_hashes.proofs.ListedLemmas.{listed_at, listed_none}
 use Rattle.lint_hashes.proofs.listed.listed_hash.Goals as goal

@@ -1,7 +1,7 @@
 use Rattle.std.proofs.Common.{ℕ, List, true, false, Some, Ok, sym, ◌∙◌, arith}
 use Rattle.bytes_at_hand.proofs.Ends.{end_stays}
-use Rattle.object_output.proofs.ElfSteps.{elf_left}
-use Rattle.object_output.proofs.LearnLemmas.{learns_by, learns_after}
+use Rattle.bytes_at_hand.proofs.object_output.ElfSteps.{elf_left}
+use Rattle.bytes_at_hand.proofs.object_output.LearnLemmas.{learns_by, learns_after}
 use Rattle.hash_model.specs.Hashes.{elf_hash}
 use Rattle.hash_model.specs.Listed.{listed_names}
 use Rattle.lint_hashes.specs.declared.listed.NameHash.TheVariants.{Sysv}

@@ -2,7 +2,7 @@ use Rattle.std.proofs.Common.{◌≡◌, ◌≤◌, ℕ, Bool, true, Option, Som
 use Rattle.std.specs.List.{list_all, enumerate_from}
 use Rattle.hash_model.specs.Hashes.{elf_hash}
 use Rattle.hash_model.specs.Listed.{listed_names}
-use Rattle.object_output.specs.Steps.{LeavesElf}
+use Rattle.bytes_at_hand.specs.object_output.Steps.{LeavesElf}
 use Rattle.lint_hashes.specs.Sysv.{is_found}
 use Rattle.lint_hashes.proofs.sysv.all_are_found.Given as goal
 

@@ -1,7 +1,7 @@
 use Rattle.std.proofs.Common.{sym, subst}
-use Rattle.elf_object.specs.Object.{Object}
+use Rattle.hash_model.specs.elf_object.Object.{Object}
 use Rattle.hash_model.specs.Listed.{listed_names}
-use Rattle.object_output.proofs.LearnLemmas.{learns_after}
+use Rattle.bytes_at_hand.proofs.object_output.LearnLemmas.{learns_after}
 use Rattle.bytes_at_hand.proofs.Ends.{end_stays}
 use Rattle.lint_hashes.specs.Listed.{AreListed}
 use Rattle.lint_hashes.specs.Sysv.{all_are_found}

@@ -1,9 +1,9 @@
 use Rattle.std.proofs.Common.{false}
 use Rattle.elf_types.specs.declared.records.Kind.TheVariants as kinds
-use Rattle.elf_object.specs.Answers.{words_of}
+use Rattle.hash_model.specs.elf_object.Answers.{words_of}
 use Rattle.hash_model.specs.HashSections.{is_whole_sysv}
 use Rattle.hash_model.specs.Listed.{listed_names}
-use Rattle.object_output.proofs.LearnLemmas.{learns_now}
+use Rattle.bytes_at_hand.proofs.object_output.LearnLemmas.{learns_now}
 use Rattle.lint_findings.specs.Looking.{words}
 use Rattle.lint_findings.proofs.LentLemmas.{no_count}
 use Rattle.lint_hashes.proofs.LentLemmas.{words_counted}

@@ -3,7 +3,7 @@ use Rattle.elf_types.specs.declared.records.ScnId.{ScnId}
 use Rattle.hash_model.specs.HashSections.{is_whole_sysv}
 use Rattle.hash_model.specs.Listed.{listed_names}
 use Rattle.lint_findings.specs.Looking.{words}
-use Rattle.object_output.proofs.LearnLemmas.{learns_map, learns_then}
+use Rattle.bytes_at_hand.proofs.object_output.LearnLemmas.{learns_map, learns_then}
 use Rattle.lint_hashes.specs.Sysv.{table_in, is_whole_table}
 use Rattle.lint_hashes.proofs.SysvWhole.{whole_is, whole_none}
 use Rattle.lint_hashes.proofs.sysv.is_whole_with.Goals as goal

@@ -1,5 +1,5 @@
 use Rattle.std.proofs.Common.{take, arith}
-use Rattle.object_output.proofs.LearnLemmas.{learns_now, learns_then, learns_as}
+use Rattle.bytes_at_hand.proofs.object_output.LearnLemmas.{learns_now, learns_then, learns_as}
 use Rattle.lint_findings.specs.Looking.{words}
 use Rattle.lint_hashes.proofs.SysvWords.{word_more, words_all}
 use Rattle.lint_hashes.proofs.sysv.read_words.Goals as goal

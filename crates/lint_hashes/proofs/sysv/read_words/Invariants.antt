@@ -1,5 +1,5 @@
 use Rattle.std.proofs.Common.{Ok, take}
-use Rattle.object_output.specs.Steps.{Learns}
+use Rattle.bytes_at_hand.specs.object_output.Steps.{Learns}
 use Rattle.lint_findings.specs.Looking.{words}
 use Rattle.lint_hashes.proofs.sysv.read_words.Given as goal
 

@@ -1,4 +1,4 @@
-use Rattle.object_output.proofs.ElfSteps.{elf_left, elf_says}
+use Rattle.bytes_at_hand.proofs.object_output.ElfSteps.{elf_left, elf_says}
 use Rattle.lint_findings.specs.Findings.{findings_shown}
 use Rattle.lint_headers.specs.Headers.{segments_outside_the_file}
 use Rattle.lint_headers.proofs.headers.segments_outside_the_file.Goals as goal

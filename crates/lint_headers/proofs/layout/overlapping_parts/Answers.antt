@@ -3,7 +3,7 @@ use Rattle.elf_types.specs.declared.records.Part.{Part}
 use Rattle.tool_output.specs.declared.stops.Stop.TheVariants.{Memory}
 use Rattle.lint_findings.specs.Findings.{findings_shown}
 use Rattle.lint_findings.proofs.FindingLemmas.{no_findings}
-use Rattle.object_output.proofs.ElfSteps.{elf_left, left_as, elf_says_none, elf_unread}
+use Rattle.bytes_at_hand.proofs.object_output.ElfSteps.{elf_left, left_as, elf_says_none, elf_unread}
 use Rattle.lint_headers.specs.Layout.{overlapping_parts, overlap_found}
 use Rattle.lint_headers.proofs.layout.overlapping_parts.Goals as goal
 

@@ -1,5 +1,5 @@
 use Rattle.std.proofs.Common.{arith}
-use Rattle.object_output.proofs.SectionLemmas.{ok_is}
+use Rattle.bytes_at_hand.proofs.object_output.SectionLemmas.{ok_is}
 use Rattle.lint_headers.proofs.PartLemmas.{homes_more, homes_all}
 use Rattle.lint_headers.proofs.layout.push_homes.Goals as goal
 

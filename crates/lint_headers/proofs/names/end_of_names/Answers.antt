@@ -1,5 +1,5 @@
 use Rattle.std.proofs.Common.{ℕ, IfOk, IfSome, subst}
-use Rattle.object_output.proofs.SectionLemmas.{ok_is}
+use Rattle.bytes_at_hand.proofs.object_output.SectionLemmas.{ok_is}
 use Rattle.bytes_at_hand.specs.Strings.{EndsAt}
 use Rattle.lint_headers.specs.Names.{HasNames}
 use Rattle.lint_headers.proofs.NameLemmas.{in_any_case}

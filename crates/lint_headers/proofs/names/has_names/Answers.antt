@@ -1,5 +1,5 @@
 use Rattle.std.proofs.Common.{sym, ◌∙◌, arith}
-use Rattle.object_output.proofs.SectionLemmas.{ok_is}
+use Rattle.bytes_at_hand.proofs.object_output.SectionLemmas.{ok_is}
 use Rattle.lint_headers.proofs.names.has_names.Goals as goal
 
 pub returns : goal.returns

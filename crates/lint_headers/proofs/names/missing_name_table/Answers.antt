@@ -1,4 +1,4 @@
-use Rattle.object_output.proofs.ElfSteps.{elf_left, elf_says}
+use Rattle.bytes_at_hand.proofs.object_output.ElfSteps.{elf_left, elf_says}
 use Rattle.lint_findings.specs.Findings.{findings_shown}
 use Rattle.lint_headers.specs.Names.{missing_name_table}
 use Rattle.lint_headers.proofs.names.missing_name_table.Goals as goal

@@ -1,6 +1,6 @@
 use Rattle.std.proofs.Common.{ap}
 use Rattle.std.specs.Prelude.{codes}
-use Rattle.object_output.proofs.ElfSteps.{elf_as}
+use Rattle.bytes_at_hand.proofs.object_output.ElfSteps.{elf_as}
 use Rattle.lint_findings.specs.Findings.{findings_shown}
 use Rattle.lint_headers.specs.Names.{unreadable_section_names}
 use Rattle.lint_headers.proofs.NameLemmas.{names_found}

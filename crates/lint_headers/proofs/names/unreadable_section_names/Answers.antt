@@ -1,6 +1,6 @@
 use Rattle.std.proofs.Common.{Bool, ℕ, Option, IsTrue, refl, sym, subst}
-use Rattle.elf_object.specs.Object.{Object}
-use Rattle.object_output.proofs.ElfSteps.{elf_after, elf_failed, elf_unread}
+use Rattle.bytes_at_hand.specs.elf_object.Object.{Object}
+use Rattle.bytes_at_hand.proofs.object_output.ElfSteps.{elf_after, elf_failed, elf_unread}
 use Rattle.bytes_at_hand.specs.Strings.{EndsAt}
 use Rattle.lint_headers.specs.Names.{HasNames}
 use Rattle.lint_headers.proofs.names.unreadable_section_names.Goals as goal

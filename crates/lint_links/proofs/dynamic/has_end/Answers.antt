@@ -1,5 +1,5 @@
 use Rattle.std.specs.List.{list_any}
-use Rattle.object_output.proofs.LearnLemmas.{learns_now}
+use Rattle.lint_findings.proofs.object_output.LearnLemmas.{learns_now}
 use Rattle.lint_findings.specs.Looking.{dyns}
 use Rattle.lint_links.proofs.DynamicLemmas.{ends, dyns_count, no_dyns}
 use Rattle.lint_links.proofs.dynamic.has_end.Goals as goal

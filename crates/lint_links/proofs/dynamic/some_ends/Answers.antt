@@ -2,10 +2,10 @@ use Rattle.std.proofs.Common.{true, false, Ok, below_more, arith}
 use Rattle.std.specs.Prelude.{slice_get}
 use Rattle.std.specs.List.{list_any}
 use Rattle.std.proofs.lemmas.Result.{err_from_is_err_and}
-use Rattle.elf_object.specs.Object.{Object}
-use Rattle.object_output.proofs.ElfSteps.{elf_left}
+use Rattle.lint_findings.specs.elf_object.Object.{Object}
+use Rattle.lint_findings.proofs.object_output.ElfSteps.{elf_left}
 use Rattle.lint_findings.specs.Looking.{dyns}
-use Rattle.object_output.proofs.LearnLemmas.{learns_map, learns_stop, learns_after}
+use Rattle.lint_findings.proofs.object_output.LearnLemmas.{learns_map, learns_stop, learns_after}
 use Rattle.lint_links.specs.Dynamic.{is_end}
 use Rattle.lint_links.proofs.DynamicLemmas.{ends, any_ends, none_ends}
 use Rattle.lint_links.proofs.dynamic.some_ends.Goals as goal

@@ -1,6 +1,6 @@
 use Rattle.std.proofs.Common.{◌≡◌, ◌<◌, ℕ, false, IsTrue}
 use Rattle.std.specs.Prelude.{slice_get}
-use Rattle.object_output.specs.Steps.{LeavesElf}
+use Rattle.lint_findings.specs.object_output.Steps.{LeavesElf}
 use Rattle.lint_findings.specs.Looking.{dyns}
 use Rattle.lint_links.specs.Dynamic.{is_end}
 use Rattle.lint_links.proofs.dynamic.some_ends.Given as goal

@@ -1,12 +1,12 @@
 use Rattle.std.proofs.Common.{◌≡◌, ℕ, [], Option, None, refl, sym, ap, ◌∙◌}
-use Rattle.elf_descriptor.specs.Reads.{wanted}
-use Rattle.gelf_view.specs.Calls as calls
-use Rattle.object_output.proofs.QueryLemmas.{reads_on, reads_stop, settled_ok, settled_none}
+use Rattle.lint_findings.specs.elf_descriptor.Reads.{wanted}
+use Rattle.lint_findings.specs.gelf_view.Calls as calls
+use Rattle.lint_findings.proofs.object_output.QueryLemmas.{reads_on, reads_stop, settled_ok, settled_none}
 use Rattle.lint_findings.proofs.LentLemmas.{bytes_told, no_bytes}
 use Rattle.lint_links.specs.declared.string_tables.End.{End}
 use Rattle.lint_links.specs.declared.string_tables.End.TheVariants.{First, Last}
 use Rattle.lint_links.specs.StringTables.{byte_at_end}
-use Rattle.object_output.proofs.OnceReads.{once_read}
+use Rattle.lint_findings.proofs.object_output.OnceReads.{once_read}
 use Rattle.lint_links.proofs.string_tables.end_byte.Goals as goal
 
 no_byte : (end : End) → ◌≡◌ {A = Option ℕ} None (byte_at_end end [])

@@ -1,7 +1,7 @@
 use Rattle.std.proofs.Common.{List, ap, sym, subst}
-use Rattle.elf_object.specs.Answers.{items_at}
+use Rattle.bytes_at_hand.specs.elf_object.Answers.{items_at}
 use Rattle.tool_output.specs.Reports.{Reports}
-use Rattle.object_output.proofs.ElfSteps.{elf_left, elf_says}
+use Rattle.bytes_at_hand.proofs.object_output.ElfSteps.{elf_left, elf_says}
 use Rattle.lint_findings.specs.Findings.{Finding, at_items, findings_shown}
 use Rattle.lint_symbols.specs.Relocations.{passes_bound}
 use Rattle.lint_symbols.proofs.by_relocation.each_loaded.Goals as goal

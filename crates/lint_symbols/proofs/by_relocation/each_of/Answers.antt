@@ -1,8 +1,8 @@
 use Rattle.std.proofs.Common.{◌≡◌, ◌<◌, ℕ, length, None, refl, sym, subst, arith}
 use Rattle.std.proofs.lemmas.Result.{err_from_is_err_and}
-use Rattle.elf_object.specs.Object.{Object}
-use Rattle.elf_object.specs.Answers.{items_at, lend_refusal}
-use Rattle.object_output.proofs.ElfSteps.{elf_left, elf_begins, elf_is_given, elf_says}
+use Rattle.bytes_at_hand.specs.elf_object.Object.{Object}
+use Rattle.bytes_at_hand.specs.elf_object.Answers.{items_at, lend_refusal}
+use Rattle.bytes_at_hand.proofs.object_output.ElfSteps.{elf_left, elf_begins, elf_is_given, elf_says}
 use Rattle.lint_findings.specs.declared.places.Place.TheVariants.{Item}
 use Rattle.lint_findings.specs.Findings.{at_items, finding, findings_shown, found_if}
 use Rattle.lint_findings.proofs.FindingLemmas.{no_rows_left}

@@ -1,7 +1,7 @@
 use Rattle.std.proofs.Common.{drop}
 use Rattle.std.specs.List.{flat_map, enumerate_from}
-use Rattle.elf_object.specs.Answers.{items_at}
-use Rattle.object_output.specs.Steps.{ElfUnderWay}
+use Rattle.bytes_at_hand.specs.elf_object.Answers.{items_at}
+use Rattle.bytes_at_hand.specs.object_output.Steps.{ElfUnderWay}
 use Rattle.lint_findings.specs.declared.places.Place.TheVariants.{Item}
 use Rattle.lint_findings.specs.Findings.{at_items, finding, findings_shown, found_if}
 use Rattle.lint_symbols.specs.Relocations.{passes_bound}

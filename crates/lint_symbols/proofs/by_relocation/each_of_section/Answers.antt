@@ -1,7 +1,7 @@
 use Rattle.std.proofs.Common.{◌≡◌, length, None, refl, sym, subst}
-use Rattle.elf_object.specs.Object.{Object}
-use Rattle.elf_object.specs.Answers.{items_at, lend_refusal}
-use Rattle.object_output.proofs.ElfSteps.{elf_after, elf_unread}
+use Rattle.bytes_at_hand.specs.elf_object.Object.{Object}
+use Rattle.bytes_at_hand.specs.elf_object.Answers.{items_at, lend_refusal}
+use Rattle.bytes_at_hand.proofs.object_output.ElfSteps.{elf_after, elf_unread}
 use Rattle.lint_symbols.proofs.by_relocation.each_of_section.Goals as goal
 
 pub each_loaded-requires-clause-passed : goal.each_loaded-requires-clause-passed

@@ -1,6 +1,6 @@
 use Rattle.std.proofs.Common.{ap, ◌∙◌}
-use Rattle.elf_object.specs.Answers.{items_at, lend_refusal}
-use Rattle.object_output.proofs.ElfSteps.{elf_left, elf_as, elf_says_none}
+use Rattle.bytes_at_hand.specs.elf_object.Answers.{items_at, lend_refusal}
+use Rattle.bytes_at_hand.proofs.object_output.ElfSteps.{elf_left, elf_as, elf_says_none}
 use Rattle.lint_findings.specs.Findings.{at_items, findings_shown}
 use Rattle.lint_findings.specs.Looking.{if_lent}
 use Rattle.lint_findings.proofs.FindingLemmas.{no_findings}

@@ -1,8 +1,8 @@
 use Rattle.std.proofs.Common.{◌≡◌, ℕ, length, None, Some, ap, sym, ◌∙◌, subst}
 use Rattle.elf_types.specs.declared.records.Shdr.{Shdr}
 use Rattle.elf_types.specs.declared.records.Kind.TheVariants as kinds
-use Rattle.elf_object.specs.Answers.{count_at, lend_refusal}
-use Rattle.elf_object.proofs.AnswerLaws.{answered_refusal}
+use Rattle.bytes_at_hand.specs.elf_object.Answers.{count_at, lend_refusal}
+use Rattle.bytes_at_hand.proofs.elf_object.AnswerLaws.{answered_refusal}
 use Rattle.lint_findings.specs.Looking.{is_symbol_table, symbols}
 use Rattle.lint_findings.proofs.LentLemmas.{symbols_counted}
 use Rattle.lint_symbols.proofs.RelocationLemmas.{bound_one, bound_counted, bound_no_table, bound_refused}

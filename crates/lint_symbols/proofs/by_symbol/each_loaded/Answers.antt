@@ -1,9 +1,9 @@
 use Rattle.std.proofs.Common.{List, ap, sym, ◌∙◌, subst}
 use Rattle.elf_types.specs.declared.records.Kind.TheVariants as kinds
 use Rattle.elf_types.specs.declared.records.Sym.{Sym}
-use Rattle.elf_object.specs.Answers.{syms_of}
+use Rattle.bytes_at_hand.specs.elf_object.Answers.{syms_of}
 use Rattle.tool_output.specs.Reports.{Reports}
-use Rattle.object_output.proofs.ElfSteps.{elf_left, elf_says}
+use Rattle.bytes_at_hand.proofs.object_output.ElfSteps.{elf_left, elf_says}
 use Rattle.bytes_at_hand.specs.Items.{held_items}
 use Rattle.lint_findings.specs.Findings.{Finding, at_items, findings_shown}
 use Rattle.lint_findings.specs.Looking.{symbols}

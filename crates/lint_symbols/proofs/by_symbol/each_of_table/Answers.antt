@@ -1,6 +1,6 @@
 use Rattle.std.proofs.Common.{length, refl, ap, sym, ◌∙◌, subst}
-use Rattle.elf_object.specs.Object.{Object}
-use Rattle.object_output.proofs.ElfSteps.{elf_after, elf_unread}
+use Rattle.bytes_at_hand.specs.elf_object.Object.{Object}
+use Rattle.bytes_at_hand.proofs.object_output.ElfSteps.{elf_after, elf_unread}
 use Rattle.bytes_at_hand.proofs.Ends.{end_stays}
 use Rattle.lint_findings.proofs.LentLemmas.{symbols_are}
 use Rattle.lint_symbols.specs.Symbols.{IsTable}

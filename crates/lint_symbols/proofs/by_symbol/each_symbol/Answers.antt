@@ -3,9 +3,9 @@ use Rattle.std.specs.Prelude.{slice_get}
 use Rattle.std.proofs.lemmas.Result.{err_from_is_err_and}
 use Rattle.elf_types.specs.declared.records.Kind.TheVariants as kinds
 use Rattle.elf_types.specs.declared.records.Sym.{Sym}
-use Rattle.elf_object.specs.Object.{Object}
-use Rattle.elf_object.specs.Answers.{items_at, syms_of, lend_refusal}
-use Rattle.object_output.proofs.ElfSteps.{elf_begins, elf_is_given, elf_left_then}
+use Rattle.bytes_at_hand.specs.elf_object.Object.{Object}
+use Rattle.bytes_at_hand.specs.elf_object.Answers.{items_at, syms_of, lend_refusal}
+use Rattle.bytes_at_hand.proofs.object_output.ElfSteps.{elf_begins, elf_is_given, elf_left_then}
 use Rattle.lint_findings.specs.declared.places.Place.TheVariants.{Item}
 use Rattle.lint_findings.specs.Findings.{at_items, finding, found_if}
 use Rattle.lint_findings.specs.Looking.{symbols}

@@ -1,6 +1,6 @@
 use Rattle.std.proofs.Common.{drop}
 use Rattle.std.specs.List.{flat_map, enumerate_from}
-use Rattle.object_output.specs.Steps.{ElfUnderWay}
+use Rattle.bytes_at_hand.specs.object_output.Steps.{ElfUnderWay}
 use Rattle.lint_findings.specs.declared.places.Place.TheVariants.{Item}
 use Rattle.lint_findings.specs.Findings.{at_items, finding, findings_shown, found_if}
 use Rattle.lint_findings.specs.Looking.{symbols}

@@ -1,6 +1,6 @@
 use Rattle.std.proofs.Common.{sym}
-use Rattle.elf_object.specs.Due.{all_sections}
-use Rattle.object_output.proofs.ElfSteps.{elf_as}
+use Rattle.bytes_at_hand.specs.elf_object.Due.{all_sections}
+use Rattle.bytes_at_hand.proofs.object_output.ElfSteps.{elf_as}
 use Rattle.lint_findings.proofs.FindingLemmas.{findings_of}
 use Rattle.lint_symbols.specs.Symbols.{at_symbols, at_symbols_of}
 use Rattle.lint_symbols.proofs.by_symbol.each_symbol_by.Goals as goal

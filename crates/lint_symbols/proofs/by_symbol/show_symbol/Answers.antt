@@ -1,6 +1,6 @@
 use Rattle.std.proofs.Common.{Bool}
-use Rattle.elf_object.specs.Object.{Object}
-use Rattle.object_output.proofs.ElfSteps.{elf_left, elf_says, elf_learns, elf_learns_none}
+use Rattle.bytes_at_hand.specs.elf_object.Object.{Object}
+use Rattle.bytes_at_hand.proofs.object_output.ElfSteps.{elf_left, elf_says, elf_learns, elf_learns_none}
 use Rattle.lint_findings.specs.declared.places.Place.TheVariants.{Item}
 use Rattle.lint_findings.specs.Findings.{finding, findings_shown, found_if}
 use Rattle.lint_symbols.proofs.by_symbol.show_symbol.Goals as goal

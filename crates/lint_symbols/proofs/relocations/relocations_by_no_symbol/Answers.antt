@@ -1,7 +1,7 @@
 use Rattle.std.proofs.Common.{sym}
 use Rattle.std.specs.Prelude.{codes}
-use Rattle.elf_object.specs.Due.{all_sections}
-use Rattle.object_output.proofs.ElfSteps.{elf_as}
+use Rattle.bytes_at_hand.specs.elf_object.Due.{all_sections}
+use Rattle.bytes_at_hand.proofs.object_output.ElfSteps.{elf_as}
 use Rattle.lint_findings.proofs.FindingLemmas.{findings_of}
 use Rattle.lint_symbols.specs.Relocations.{relocations_at, relocations_by_no_symbol}
 use Rattle.lint_symbols.proofs.relocations.relocations_by_no_symbol.Goals as goal

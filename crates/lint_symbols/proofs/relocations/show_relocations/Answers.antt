@@ -1,6 +1,6 @@
 use Rattle.std.proofs.Common.{ap, sym, ◌∙◌}
 use Rattle.elf_types.specs.declared.records.Shdr.{Shdr}
-use Rattle.object_output.proofs.ElfSteps.{elf_as}
+use Rattle.bytes_at_hand.proofs.object_output.ElfSteps.{elf_as}
 use Rattle.lint_findings.specs.Findings.{findings_shown}
 use Rattle.lint_symbols.proofs.RelocationLemmas.{relas_found, rels_found}
 use Rattle.lint_symbols.proofs.relocations.show_relocations.Goals as goal

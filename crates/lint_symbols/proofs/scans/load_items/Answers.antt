@@ -1,5 +1,5 @@
 use Rattle.std.proofs.Common.{arith}
-use Rattle.object_output.proofs.ElfSteps.{elf_left}
+use Rattle.bytes_at_hand.proofs.object_output.ElfSteps.{elf_left}
 use Rattle.lint_symbols.proofs.scans.load_items.Goals as goal
 
 pub returns-then-count-eq0 : goal.returns-then-count-eq0

@@ -1,7 +1,7 @@
 use Rattle.std.proofs.Common.{List, length, ap, sym, ◌∙◌, arith}
 use Rattle.std.specs.Prelude.{codes, slice_get}
 use Rattle.elf_types.specs.declared.records.Sym.{Sym}
-use Rattle.object_output.proofs.ElfSteps.{elf_left, elf_after, elf_says, elf_says_none, elf_unread}
+use Rattle.bytes_at_hand.proofs.object_output.ElfSteps.{elf_left, elf_after, elf_says, elf_says_none, elf_unread}
 use Rattle.lint_findings.specs.declared.places.Place.TheVariants.{Item}
 use Rattle.lint_findings.specs.Findings.{finding, findings_shown, found_if}
 use Rattle.lint_findings.specs.Looking.{symbols}

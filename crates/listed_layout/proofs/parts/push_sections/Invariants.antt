@@ -1,6 +1,6 @@
 use Rattle.std.proofs.Common.{◌≡◌, ◌≤◌, ◌++◌, ◌+◌, ◌-◌, map}
 use Rattle.std.specs.List.{range_with_len}
-use Rattle.elf_object.specs.Object.{Object}
+use Rattle.update_plan.specs.elf_object.Object.{Object}
 use Rattle.update_plan.specs.Sections.{capped_section}
 use Rattle.listed_layout.specs.Listing.{IsListed}
 use Rattle.listed_layout.proofs.parts.push_sections.Given as goal

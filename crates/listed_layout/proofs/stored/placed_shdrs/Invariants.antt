@@ -1,6 +1,6 @@
 use Rattle.std.proofs.Common.{◌≡◌}
-use Rattle.elf_object.specs.Object.{Object}
-use Rattle.elf_object.specs.Layout.{placed_header}
+use Rattle.update_plan.specs.elf_object.Object.{Object}
+use Rattle.update_plan.specs.elf_object.Layout.{placed_header}
 use Rattle.listed_layout.specs.Listing.{IsListed}
 use Rattle.listed_layout.proofs.StoreLaws.{StoredBelow}
 use Rattle.listed_layout.proofs.stored.placed_shdrs.Given as goal

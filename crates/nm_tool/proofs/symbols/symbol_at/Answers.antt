@@ -2,8 +2,8 @@ use Rattle.std.proofs.Common.{◌≡◌, Option, IfOk, subst}
 use Rattle.elf_types.specs.declared.records.Kind.TheVariants as kinds
 use Rattle.elf_types.specs.declared.records.Sym.{Sym}
 use Rattle.elf_object.specs.Answers.{items_at, syms_of, lend_refusal, entry_answer}
-use Rattle.elf_descriptor.specs.Entries.{entry}
-use Rattle.elf_descriptor.specs.Reads.{wanted}
+use Rattle.object_output.specs.elf_descriptor.Entries.{entry}
+use Rattle.object_output.specs.elf_descriptor.Reads.{wanted}
 use Rattle.tool_output.specs.Stops.{value_or_stop}
 use Rattle.object_output.proofs.OnceReads.{once_read}
 use Rattle.object_output.proofs.QueryLemmas.{learns_unless, unless_stated, value_there}

@@ -1,5 +1,5 @@
 use Rattle.std.proofs.Common.{Ok}
-use Rattle.elf_outside.proofs.AskLemmas.{asks_then}
+use Rattle.command_objects.proofs.elf_outside.AskLemmas.{asks_then}
 use Rattle.object_making.proofs.BaseLaws.{made_over, made_over_none, asks_on, asks_nothing}
 use Rattle.object_making.proofs.bases.create_over_base.Goals as goal
 

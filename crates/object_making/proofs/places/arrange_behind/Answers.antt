@@ -1,6 +1,6 @@
 use Rattle.std.proofs.Common.{◌<◌, ◌≤◌, ℕ, length, sym, ap, ◌∙◌, subst, arith}
 use Rattle.elf_types.specs.declared.errors.ElfError.TheVariants.{TooLarge}
-use Rattle.elf_layout.specs.Layout.{limit_of}
+use Rattle.command_objects.specs.elf_layout.Layout.{limit_of}
 use Rattle.command_objects.specs.Arranged.{tail_refusal}
 use Rattle.update_plan.proofs.RowLaws.{ok_is, class_is}
 use Rattle.object_making.proofs.PlaceLaws.{empty_passes, empty_stays, tail_passes, tail_refused, passes_answer, refused_answer}

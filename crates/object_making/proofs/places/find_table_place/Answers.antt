@@ -1,5 +1,5 @@
 use Rattle.std.proofs.Common.{◌∙◌, ◌≡◌, length, true, false, sym, ap, arith}
-use Rattle.elf_object.specs.Layout.{table_alignment}
+use Rattle.command_objects.specs.elf_object.Layout.{table_alignment}
 use Rattle.update_plan.proofs.RowLaws.{ok_is, class_is}
 use Rattle.object_making.proofs.TailLaws.{walk_begins, walk_goes_on, walk_stops, table_found}
 use Rattle.object_making.proofs.places.find_table_place.Goals as goal

@@ -1,6 +1,6 @@
 use Rattle.std.proofs.Common.{sym}
-use Rattle.elf_object.specs.Answers.{no_section}
-use Rattle.elf_object.proofs.AnswerLaws.{answered_value}
+use Rattle.command_objects.specs.elf_object.Answers.{no_section}
+use Rattle.command_objects.proofs.elf_object.AnswerLaws.{answered_value}
 use Rattle.object_making.proofs.PlaceLaws.{section_known}
 use Rattle.object_making.proofs.StoreLaws.{never_refused}
 use Rattle.object_making.proofs.places.size_of_data.Goals as goal

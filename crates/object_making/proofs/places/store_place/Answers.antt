@@ -1,8 +1,8 @@
 use Rattle.std.proofs.Common.{◌∙◌, ap}
 use Rattle.elf_types.specs.declared.records.Shdr.{Shdr}
-use Rattle.elf_object.specs.Calls.{update_shdr_refusal}
-use Rattle.elf_object.specs.Calls as calls
-use Rattle.elf_descriptor.specs.Edits.{stepped}
+use Rattle.command_objects.specs.elf_object.Calls.{update_shdr_refusal}
+use Rattle.command_objects.specs.elf_object.Calls as calls
+use Rattle.update_plan.specs.elf_descriptor.Edits.{stepped}
 use Rattle.object_making.proofs.StoreLaws.{never_refused, shdr_passes}
 use Rattle.object_making.proofs.places.store_place.Goals as goal
 

@@ -1,4 +1,4 @@
-use Rattle.elf_object.specs.Calls.{update_ehdr_refusal}
+use Rattle.command_objects.specs.elf_object.Calls.{update_ehdr_refusal}
 use Rattle.object_making.proofs.StoreLaws.{never_refused, ehdr_passes, table_put}
 use Rattle.object_making.proofs.places.store_table_place.Goals as goal
 

@@ -1,5 +1,5 @@
-use Rattle.elf_object.specs.Calls.{newscn_refusal}
-use Rattle.elf_object.specs.Steps.{new_number}
+use Rattle.command_objects.specs.elf_object.Calls.{newscn_refusal}
+use Rattle.command_objects.specs.elf_object.Steps.{new_number}
 use Rattle.object_making.proofs.RefusedLaws.{edits_refused}
 use Rattle.object_making.proofs.AddLaws.{newscn_states, bare_first, bare_number, bare_made, bare_passed, bare_refused}
 use Rattle.object_making.proofs.sections.add_bare.Goals as goal

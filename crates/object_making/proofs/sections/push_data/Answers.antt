@@ -1,9 +1,9 @@
 use Rattle.std.proofs.Common.{Ok, Err, sym, ◌∙◌}
-use Rattle.elf_object.specs.Answers.{piece_count}
-use Rattle.elf_object.specs.Calls.{newdata_refusal}
-use Rattle.elf_object.specs.Calls as calls
-use Rattle.elf_object.proofs.AnswerLaws.{answered_value}
-use Rattle.elf_descriptor.specs.Edits.{stepped, numbers_of}
+use Rattle.command_objects.specs.elf_object.Answers.{piece_count}
+use Rattle.command_objects.specs.elf_object.Calls.{newdata_refusal}
+use Rattle.command_objects.specs.elf_object.Calls as calls
+use Rattle.command_objects.proofs.elf_object.AnswerLaws.{answered_value}
+use Rattle.update_plan.specs.elf_descriptor.Edits.{stepped, numbers_of}
 use Rattle.object_making.proofs.RefusedLaws.{edits_refused}
 use Rattle.object_making.proofs.AddLaws.{newdata_states, data_edits}
 use Rattle.object_making.proofs.sections.push_data.Goals as goal

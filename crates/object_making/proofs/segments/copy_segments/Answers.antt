@@ -1,6 +1,6 @@
 use Rattle.std.proofs.Common.{sym, ap, ◌∙◌}
-use Rattle.elf_object.specs.Calls.{newphdr_refusal}
-use Rattle.elf_object.proofs.AnswerLaws.{answered_value}
+use Rattle.command_objects.specs.elf_object.Calls.{newphdr_refusal}
+use Rattle.command_objects.proofs.elf_object.AnswerLaws.{answered_value}
 use Rattle.update_plan.proofs.RowLaws.{ok_is}
 use Rattle.object_making.proofs.RefusedLaws.{edits_refused, refused_as}
 use Rattle.object_making.proofs.AddLaws.{newphdr_states}

@@ -1,5 +1,5 @@
 use Rattle.std.proofs.Common.{refl, arith}
-use Rattle.elf_descriptor.proofs.Settling.{item_copied}
+use Rattle.update_plan.proofs.elf_descriptor.Settling.{item_copied}
 use Rattle.update_plan.proofs.RowLaws.{ok_is}
 use Rattle.object_making.proofs.HeaderLaws.{copied_all}
 use Rattle.object_making.proofs.segments.fill_segments.Goals as goal

@@ -1,4 +1,4 @@
-use Rattle.elf_descriptor.proofs.Settling.{IsCopying}
+use Rattle.update_plan.proofs.elf_descriptor.Settling.{IsCopying}
 use Rattle.object_making.proofs.segments.fill_segments.Given as goal
 
 abbrev pub invariant-loop-i : goal.invariant-loop-i

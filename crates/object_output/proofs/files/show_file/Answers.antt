@@ -1,4 +1,4 @@
-use Rattle.elf_ident.specs.declared.file_kinds.FileKind.TheVariants.{Archive, Elf, Other}
+use Rattle.gelf_view.specs.elf_ident.declared.file_kinds.FileKind.TheVariants.{Archive, Elf, Other}
 use Rattle.tool_output.specs.Names.{file_name}
 use Rattle.tool_output.proofs.SourceLemmas.{refuses_after}
 use Rattle.object_output.specs.Images.{image_report, image_asks}

@@ -1,7 +1,7 @@
 use Rattle.std.proofs.Common.{Ok, sym}
-use Rattle.elf_object.specs.Answers.{items_at, lend_refusal}
-use Rattle.elf_descriptor.specs.Entries.{entry}
-use Rattle.elf_descriptor.specs.Reads.{wanted}
+use Rattle.gelf_view.specs.elf_object.Answers.{items_at, lend_refusal}
+use Rattle.gelf_view.specs.elf_descriptor.Entries.{entry}
+use Rattle.gelf_view.specs.elf_descriptor.Reads.{wanted}
 use Rattle.object_output.proofs.QueryLemmas.{reads_on, reads_stop}
 use Rattle.object_output.proofs.OnceReads.{once_read}
 use Rattle.object_output.proofs.AnswerLemmas.{item_is, item_stops}

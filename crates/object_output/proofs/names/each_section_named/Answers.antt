@@ -1,5 +1,5 @@
-use Rattle.elf_object.specs.Due.{all_sections}
-use Rattle.elf_object.specs.Strings as strings
+use Rattle.gelf_view.specs.elf_object.Due.{all_sections}
+use Rattle.gelf_view.specs.elf_object.Strings as strings
 use Rattle.object_output.specs.Sections.{sections_named}
 use Rattle.object_output.proofs.ElfSteps.{elf_as}
 use Rattle.object_output.proofs.NameLemmas.{reports_where}

@@ -1,5 +1,5 @@
 use Rattle.gelf_view.specs.SectionNames as names
-use Rattle.elf_descriptor.specs.Reads.{wanted}
+use Rattle.gelf_view.specs.elf_descriptor.Reads.{wanted}
 use Rattle.object_output.proofs.OnceReads.{once_name}
 use Rattle.object_output.proofs.QueryLemmas.{reads_on, reads_stop, plain_is, plain_stops}
 use Rattle.object_output.proofs.names.is_named.Goals as goal

@@ -1,5 +1,5 @@
 use Rattle.std.proofs.Common.{refl, sym, ap}
-use Rattle.elf_object.specs.Strings.{readable, strptr_refusals}
+use Rattle.gelf_view.specs.elf_object.Strings.{readable, strptr_refusals}
 use Rattle.object_output.proofs.QueryLemmas.{reads_on, settled_ok, settled_none}
 use Rattle.object_output.proofs.OnceReads.{once_unless, once_clean}
 use Rattle.object_output.proofs.NameLemmas.{read_refused}

@@ -1,7 +1,7 @@
 use Rattle.std.proofs.Common.{◌+◌, ◌<◌, length, drop, refl, sym, subst, arith}
 use Rattle.std.proofs.lemmas.Result.{err_from_is_err_and}
-use Rattle.elf_object.specs.Object.{Object}
-use Rattle.elf_object.specs.Due.{all_sections}
+use Rattle.gelf_view.specs.elf_object.Object.{Object}
+use Rattle.gelf_view.specs.elf_object.Due.{all_sections}
 use Rattle.tool_output.specs.Reports.{reports_of}
 use Rattle.object_output.proofs.ElfSteps.{elf_stops_at, elf_is_given}
 use Rattle.object_output.proofs.PassSteps.{pass_begins, pass_goes_on}

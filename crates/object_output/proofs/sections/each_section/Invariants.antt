@@ -1,5 +1,5 @@
 use Rattle.std.proofs.Common.{drop}
-use Rattle.elf_object.specs.Due.{all_sections}
+use Rattle.gelf_view.specs.elf_object.Due.{all_sections}
 use Rattle.tool_output.specs.Reports.{reports_of}
 use Rattle.object_output.proofs.PassSteps.{PassOnWay}
 use Rattle.object_output.proofs.sections.each_section.Given as goal

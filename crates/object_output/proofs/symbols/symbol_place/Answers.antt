@@ -1,5 +1,5 @@
-use Rattle.elf_object.specs.SymbolSections.{place_of_symbol}
-use Rattle.elf_descriptor.specs.Reads.{wanted}
+use Rattle.gelf_view.specs.elf_object.SymbolSections.{place_of_symbol}
+use Rattle.gelf_view.specs.elf_descriptor.Reads.{wanted}
 use Rattle.gelf_view.specs.Calls as calls
 use Rattle.gelf_view.specs.declared.symbols.SymPlace.TheVariants.{Special, Section}
 use Rattle.object_output.specs.Symbols.{symbol_place}

@@ -3,7 +3,7 @@ use Rattle.elf_types.specs.declared.records.Kind.TheVariants as kinds
 use Rattle.elf_types.specs.Text.{error_text}
 use Rattle.elf_object.specs.Object.{Object}
 use Rattle.elf_object.specs.Answers.{lend_refusal}
-use Rattle.gelf_view.specs.Calls.{first_entry_answer}
+use Rattle.object_output.specs.gelf_view.Calls.{first_entry_answer}
 use Rattle.object_output.proofs.ElfSteps.{elf_refuses, elf_after}
 use Rattle.object_output.proofs.QueryLemmas.{queried}
 use Rattle.object_output.proofs.AnswerLemmas.{answers_stated}

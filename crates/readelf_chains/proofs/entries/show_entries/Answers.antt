@@ -1,5 +1,5 @@
 use Rattle.std.proofs.Common.{None, refl}
-use Rattle.gelf_view.specs.Chains.{ended}
+use Rattle.object_output.specs.gelf_view.Chains.{ended}
 use Rattle.object_output.proofs.ElfSteps.{elf_left, elf_says_none}
 use Rattle.readelf_chains.specs.Entries.{entries_by, entries_report}
 use Rattle.readelf_chains.proofs.EntryLemmas.{entries_ended}

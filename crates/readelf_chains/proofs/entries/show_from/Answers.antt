@@ -12,7 +12,7 @@ use Rattle.object_output.proofs.OnceReads.{once_read}
 use Rattle.readelf_rows.specs.Data.{refused}
 use Rattle.readelf_chains.specs.Entries.{entries_report}
 use Rattle.readelf_chains.proofs.ChainLemmas.{elf_ends_with}
-use Rattle.gelf_view.proofs.ChainLemmas.{next_behind}
+use Rattle.object_output.proofs.gelf_view.ChainLemmas.{next_behind}
 use Rattle.readelf_chains.proofs.EntryLemmas.{entries_broken, entry_stopped, entry_ends, entry_last, entry_goes}
 use Rattle.readelf_chains.proofs.entries.show_from.Goals as goal
 

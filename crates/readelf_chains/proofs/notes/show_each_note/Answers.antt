@@ -4,8 +4,8 @@ use Rattle.elf_types.specs.declared.records.Kind.TheVariants as kinds
 use Rattle.elf_types.specs.Text.{error_text}
 use Rattle.elf_object.specs.Object.{Object}
 use Rattle.elf_object.specs.Answers.{lend_refusal, count_at}
-use Rattle.gelf_view.specs.declared.notes.NoteAt.{NoteAt}
-use Rattle.gelf_view.specs.Notes.{IsNoteWithin}
+use Rattle.object_output.specs.gelf_view.declared.notes.NoteAt.{NoteAt}
+use Rattle.object_output.specs.gelf_view.Notes.{IsNoteWithin}
 use Rattle.tool_output.specs.Messages.{in_section}
 use Rattle.tool_output.specs.Reports.{no_report, shown, joined}
 use Rattle.object_output.proofs.ElfSteps.{elf_begins, elf_stops_at, elf_says_none, elf_refuses, elf_after}

@@ -1,6 +1,6 @@
 use Rattle.std.proofs.Common.{Bool, arith}
-use Rattle.elf_descriptor.specs.Reads.{wanted}
-use Rattle.gelf_view.specs.Calls as calls
+use Rattle.object_output.specs.elf_descriptor.Reads.{wanted}
+use Rattle.object_output.specs.gelf_view.Calls as calls
 use Rattle.tool_output.specs.Reports.{shown}
 use Rattle.object_output.proofs.ElfSteps.{elf_says, elf_unread}
 use Rattle.object_output.proofs.QueryLemmas.{settled_by, settled_ok, reads_stop}

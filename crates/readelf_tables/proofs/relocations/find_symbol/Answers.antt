@@ -1,4 +1,4 @@
-use Rattle.elf_descriptor.specs.Reads.{wanted}
+use Rattle.object_output.specs.elf_descriptor.Reads.{wanted}
 use Rattle.elf_object.specs.Calls as calls
 use Rattle.elf_object.specs.Calls.{sym_answer}
 use Rattle.object_output.proofs.OnceReads.{once_read}

@@ -2,7 +2,7 @@ use Rattle.std.proofs.Common.{ap, ◌∙◌}
 use Rattle.elf_types.specs.declared.records.Class.{Class}
 use Rattle.elf_types.specs.declared.records.Order.{Order}
 use Rattle.elf_object.specs.Calls as calls
-use Rattle.elf_descriptor.specs.Reads.{wanted}
+use Rattle.object_writing.specs.elf_descriptor.Reads.{wanted}
 use Rattle.elf_object.specs.Answers.{bytes_of}
 use Rattle.command_objects.specs.Rehashed.{shape_of}
 use Rattle.hash_build.specs.declared.shape.GnuShape.{GnuShape}

@@ -1,5 +1,5 @@
 use Rattle.std.proofs.Common.{◌≡◌, ℕ, ◌*◌, ◌/◌, ◌%◌, ◌<◌, length, take, drop, sym, ap, ◌∙◌, subst, Ok}
-use Rattle.elf_xlate.specs.Items.{item_size}
+use Rattle.elf_object.specs.elf_xlate.Items.{item_size}
 use Rattle.section_data.proofs.Items.{entry_there, whole_kind}
 use Rattle.section_data.proofs.item.item_of_class.Goals as goal
 

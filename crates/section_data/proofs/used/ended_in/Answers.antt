@@ -1,6 +1,6 @@
 use Rattle.std.proofs.Common.{Option, inl, ap, sym, subst}
 use Rattle.std.specs.Option.{option_map}
-use Rattle.elf_xlate.specs.declared.content.Items.{Items}
+use Rattle.elf_object.specs.elf_xlate.declared.content.Items.{Items}
 use Rattle.elf_object.specs.Answers.{bytes_of}
 use Rattle.section_data.specs.Leaves.{bytes_or_none}
 use Rattle.section_data.specs.Nuls.{IsEndedFront}

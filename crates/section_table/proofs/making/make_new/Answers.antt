@@ -1,6 +1,6 @@
 use Rattle.std.proofs.Common.{◌∷◌, ◌++◌, [], inr, refl, ap, ◌∙◌, arith}
 use Rattle.elf_types.specs.declared.records.Shdr.{Shdr}
-use Rattle.elf_object.specs.Open.{home_of}
+use Rattle.section_data.specs.elf_object.Open.{home_of}
 use Rattle.section_data.specs.Views.{CellView, opened_cell}
 use Rattle.section_table.proofs.making.make_new.Goals as goal
 

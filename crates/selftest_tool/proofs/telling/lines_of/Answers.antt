@@ -1,4 +1,4 @@
-use Rattle.object_output.proofs.SectionLemmas.{ok_is}
+use Rattle.command_outcomes.proofs.object_output.SectionLemmas.{ok_is}
 use Rattle.selftest_tool.proofs.telling.lines_of.Goals as goal
 
 pub returns-clause-sections : goal.returns-clause-sections

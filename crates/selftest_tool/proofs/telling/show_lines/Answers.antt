@@ -4,7 +4,7 @@ use Rattle.elf_types.specs.declared.records.Kind.TheVariants as kinds
 use Rattle.elf_object.specs.Object.{Object}
 use Rattle.elf_object.specs.Answers.{lend_refusal}
 use Rattle.tool_output.specs.Reports.{shown}
-use Rattle.object_output.proofs.ElfSteps.{elf_left, elf_says, elf_learns, elf_learns_none}
+use Rattle.command_outcomes.proofs.object_output.ElfSteps.{elf_left, elf_says, elf_learns, elf_learns_none}
 use Rattle.selftest_tool.specs.Told.{lines_text, value_sum, symbols_told, first_named}
 use Rattle.selftest_tool.proofs.telling.show_lines.Goals as goal
 

@@ -1,6 +1,6 @@
 use Rattle.std.proofs.Common.{ℕ, List, length, sym, ap, ◌∙◌}
 use Rattle.tool_output.specs.Reports.{shown}
-use Rattle.object_output.proofs.ElfSteps.{elf_as, elf_left, elf_says}
+use Rattle.command_outcomes.proofs.object_output.ElfSteps.{elf_as, elf_left, elf_says}
 use Rattle.selftest_tool.specs.Told.{lines_text, value_sum, symbols_told, first_named, told_report}
 use Rattle.selftest_tool.proofs.ToldLemmas.{symbols_counted, told_refused, told_shown}
 use Rattle.selftest_tool.proofs.telling.show_told.Goals as goal

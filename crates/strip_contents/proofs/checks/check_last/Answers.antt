@@ -1,5 +1,5 @@
 use Rattle.std.proofs.Common.{inl}
-use Rattle.update_plan.proofs.PlacingLaws.{passed_from, refused_from}
+use Rattle.strip_tables.proofs.update_plan.PlacingLaws.{passed_from, refused_from}
 use Rattle.strip_contents.specs.Checks.{index_beyond}
 use Rattle.strip_contents.proofs.CheckLaws.{last_checked}
 use Rattle.strip_contents.proofs.checks.check_last.Goals as goal

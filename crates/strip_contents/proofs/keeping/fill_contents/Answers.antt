@@ -1,4 +1,4 @@
-use Rattle.strip_rebuild.specs.Keepers.{header_by}
+use Rattle.strip_tables.specs.strip_rebuild.Keepers.{header_by}
 use Rattle.strip_contents.specs.Ranges.{bytes_by}
 use Rattle.strip_contents.proofs.KeepingLaws.{not_begun}
 use Rattle.strip_contents.proofs.keeping.fill_contents.Goals as goal

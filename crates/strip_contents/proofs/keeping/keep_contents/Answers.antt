@@ -1,7 +1,7 @@
 use Rattle.std.proofs.Common.{◌<◌, ℕ, List, length, sym, ◌∙◌, subst}
 use Rattle.std.specs.Prelude.{All}
-use Rattle.update_plan.proofs.RowLaws.{ok_is}
-use Rattle.strip_rebuild.proofs.NumberLaws.{kept_there}
+use Rattle.strip_tables.proofs.update_plan.RowLaws.{ok_is}
+use Rattle.strip_tables.proofs.strip_rebuild.NumberLaws.{kept_there}
 use Rattle.strip_contents.proofs.KeepingLaws.{none_kept, all_kept, none_kept_refused}
 use Rattle.strip_contents.proofs.keeping.keep_contents.Goals as goal
 

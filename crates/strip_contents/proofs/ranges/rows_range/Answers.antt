@@ -1,7 +1,7 @@
 use Rattle.std.proofs.Common.{Ok}
-use Rattle.image_ranges.specs.declared.ranges.ByteRange.{ByteRange}
+use Rattle.strip_tables.specs.image_ranges.declared.ranges.ByteRange.{ByteRange}
 use Rattle.elf_xlate.specs.Translation.{encoded}
-use Rattle.strip_rebuild.proofs.AskLaws.{asks_as, asks_stop}
+use Rattle.strip_tables.proofs.strip_rebuild.AskLaws.{asks_as, asks_stop}
 use Rattle.strip_tables.specs.Rows.{rows_made, tables_due}
 use Rattle.strip_contents.proofs.RowLaws.{begins_before, made_behind}
 use Rattle.strip_contents.proofs.ranges.rows_range.Goals as goal

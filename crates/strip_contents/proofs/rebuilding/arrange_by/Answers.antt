@@ -1,8 +1,8 @@
 use Rattle.std.proofs.Common.{◌≡◌, None, length, sym, ap, ◌∙◌}
-use Rattle.elf_object.specs.Calls.{newphdr_refusal}
-use Rattle.update_plan.proofs.PlacingLaws.{passed_from}
-use Rattle.update_plan.proofs.RowLaws.{ok_is}
-use Rattle.strip_rebuild.proofs.WholeLaws.{object_stays, clean_stays, removable_stays, keeps_stays}
+use Rattle.strip_laws.specs.elf_object.Calls.{newphdr_refusal}
+use Rattle.strip_tables.proofs.update_plan.PlacingLaws.{passed_from}
+use Rattle.strip_tables.proofs.update_plan.RowLaws.{ok_is}
+use Rattle.strip_tables.proofs.strip_rebuild.WholeLaws.{object_stays, clean_stays, removable_stays, keeps_stays}
 use Rattle.strip_contents.proofs.WholeLaws.{fits_stays, segments_stay, sections_stay, contents_stay, too_many, sections_fail, sections_arranged}
 use Rattle.strip_contents.proofs.rebuilding.arrange_by.Goals as goal
 

@@ -1,6 +1,6 @@
 use Rattle.std.proofs.Common.{ap, ◌∙◌}
-use Rattle.command_objects.specs.Followed.{followed}
-use Rattle.update_plan.proofs.RowLaws.{ok_is}
+use Rattle.strip_laws.specs.command_objects.Followed.{followed}
+use Rattle.strip_tables.proofs.update_plan.RowLaws.{ok_is}
 use Rattle.strip_contents.proofs.AnswerLaws.{kept_arranged, kept_refused}
 use Rattle.strip_contents.proofs.rebuilding.arrange_kept.Goals as goal
 

@@ -1,8 +1,8 @@
 use Rattle.std.proofs.Common.{ℕ, List, sym, ap, ◌∙◌, subst}
-use Rattle.command_objects.specs.Followed.{kept_from_1}
-use Rattle.strip_removed.specs.Steps.{IsRemovable}
-use Rattle.strip_rebuild.proofs.NumberLaws.{zero_stays}
-use Rattle.strip_rebuild.proofs.WholeLaws.{object_stays, clean_stays, removable_stays, keeps_stays}
+use Rattle.strip_laws.specs.command_objects.Followed.{kept_from_1}
+use Rattle.strip_tables.specs.strip_removed.Steps.{IsRemovable}
+use Rattle.strip_tables.proofs.strip_rebuild.NumberLaws.{zero_stays}
+use Rattle.strip_tables.proofs.strip_rebuild.WholeLaws.{object_stays, clean_stays, removable_stays, keeps_stays}
 use Rattle.strip_contents.proofs.WholeLaws.{tied_stays, fits_stays, keeper_stops, numbers_stop, all_arranged}
 use Rattle.strip_contents.proofs.rebuilding.arrange_rebuilt.Goals as goal
 

@@ -1,5 +1,5 @@
 use Rattle.std.proofs.Common.{arith}
-use Rattle.update_plan.proofs.RowLaws.{ok_is}
+use Rattle.strip_tables.proofs.update_plan.RowLaws.{ok_is}
 use Rattle.strip_contents.proofs.SegmentLaws.{segment_listed, segments_listed}
 use Rattle.strip_contents.proofs.segments.fill_segments.Goals as goal
 

@@ -1,5 +1,5 @@
 use Rattle.std.proofs.Common.{◌≡◌, take}
-use Rattle.command_objects.specs.Followed.{followed_group}
+use Rattle.strip_removed.specs.command_objects.Followed.{followed_group}
 use Rattle.strip_items.proofs.groups.fill_group.Given as goal
 
 abbrev pub invariant-loop-i : goal.invariant-loop-i

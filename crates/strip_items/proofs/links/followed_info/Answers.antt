@@ -1,6 +1,6 @@
 use Rattle.std.proofs.Common.{Bool, sym, ap, ◌∙◌}
 use Rattle.std.specs.Prelude.{if◌then◌else◌}
-use Rattle.command_objects.specs.Followed.{followed}
+use Rattle.strip_removed.specs.command_objects.Followed.{followed}
 use Rattle.strip_items.proofs.links.followed_info.Goals as goal
 
 pub returns-then-info_is_section : goal.returns-then-info_is_section

@@ -1,7 +1,7 @@
 use Rattle.std.proofs.Common.{ℕ, ◌∙◌}
 use Rattle.std.specs.Prelude.{slice_get}
 use Rattle.elf_types.specs.declared.records.Sym.{Sym}
-use Rattle.command_objects.specs.Followed.{followed_by_word, followed_syms}
+use Rattle.strip_removed.specs.command_objects.Followed.{followed_by_word, followed_syms}
 use Rattle.strip_items.proofs.RowLaws.{rows_more, rows_all}
 use Rattle.strip_items.proofs.symbols.fill_syms.Goals as goal
 

@@ -2,7 +2,7 @@ use Rattle.std.proofs.Common.{◌≡◌, ℕ, map, take}
 use Rattle.std.specs.Prelude.{slice_get}
 use Rattle.std.specs.List.{enumerate_from}
 use Rattle.elf_types.specs.declared.records.Sym.{Sym}
-use Rattle.command_objects.specs.Followed.{followed_by_word}
+use Rattle.strip_removed.specs.command_objects.Followed.{followed_by_word}
 use Rattle.strip_items.proofs.symbols.fill_syms.Given as goal
 
 abbrev pub invariant-loop-i : goal.invariant-loop-i

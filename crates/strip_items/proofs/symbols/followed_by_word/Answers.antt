@@ -1,5 +1,5 @@
 use Rattle.std.proofs.Common.{ℕ, Option, sym, ap, ◌∙◌}
-use Rattle.command_objects.specs.Followed.{followed_by_word}
+use Rattle.strip_removed.specs.command_objects.Followed.{followed_by_word}
 use Rattle.strip_items.proofs.symbols.followed_by_word.Goals as goal
 
 pub returns-in-Some : goal.returns-in-Some

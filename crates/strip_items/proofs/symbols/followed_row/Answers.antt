@@ -1,5 +1,5 @@
 use Rattle.std.proofs.Common.{ℕ, Option, ap, ◌∙◌}
-use Rattle.command_objects.specs.Followed.{followed_by_word}
+use Rattle.strip_removed.specs.command_objects.Followed.{followed_by_word}
 use Rattle.strip_items.proofs.symbols.followed_row.Goals as goal
 
 pub returns : goal.returns

@@ -1,5 +1,5 @@
 use Rattle.std.proofs.Common.{ℕ, Some, None, ap, ◌∙◌, arith}
-use Rattle.command_objects.specs.Followed.{is_section_number}
+use Rattle.strip_removed.specs.command_objects.Followed.{is_section_number}
 use Rattle.strip_items.proofs.SymLaws.{sym_renumbered}
 use Rattle.strip_items.proofs.symbols.renumbered_sym.Goals as goal
 

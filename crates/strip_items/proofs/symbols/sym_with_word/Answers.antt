@@ -1,7 +1,7 @@
 use Rattle.std.proofs.Common.{◌==◌, sym, ◌∙◌}
 use Rattle.std.proofs.lemmas.Bool.{and_parts}
 use Rattle.elf_types.specs.declared.constants.TheConstants.{SHN_XINDEX}
-use Rattle.command_objects.specs.Followed.{is_section_number}
+use Rattle.strip_removed.specs.command_objects.Followed.{is_section_number}
 use Rattle.strip_items.proofs.SymLaws.{with_word_counts, with_word_other}
 use Rattle.strip_items.proofs.symbols.sym_with_word.Goals as goal
 

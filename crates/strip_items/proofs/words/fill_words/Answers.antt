@@ -1,6 +1,6 @@
 use Rattle.std.proofs.Common.{ℕ, ◌∙◌}
 use Rattle.std.specs.Prelude.{slice_get}
-use Rattle.command_objects.specs.Followed.{word_of_sym, followed_words}
+use Rattle.strip_removed.specs.command_objects.Followed.{word_of_sym, followed_words}
 use Rattle.strip_items.proofs.RowLaws.{rows_more, rows_all}
 use Rattle.strip_items.proofs.words.fill_words.Goals as goal
 

@@ -1,7 +1,7 @@
 use Rattle.std.proofs.Common.{◌≡◌, ℕ, map, take}
 use Rattle.std.specs.Prelude.{slice_get}
 use Rattle.std.specs.List.{enumerate_from}
-use Rattle.command_objects.specs.Followed.{word_of_sym}
+use Rattle.strip_removed.specs.command_objects.Followed.{word_of_sym}
 use Rattle.strip_items.proofs.words.fill_words.Given as goal
 
 abbrev pub invariant-loop-i : goal.invariant-loop-i

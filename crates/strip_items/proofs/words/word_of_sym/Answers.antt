@@ -1,6 +1,6 @@
 use Rattle.std.proofs.Common.{Option, sym, ap, ◌∙◌}
 use Rattle.elf_types.specs.declared.records.Sym.{Sym}
-use Rattle.command_objects.specs.Followed.{word_of_sym}
+use Rattle.strip_removed.specs.command_objects.Followed.{word_of_sym}
 use Rattle.strip_items.proofs.words.word_of_sym.Goals as goal
 
 pub returns-in-Some : goal.returns-in-Some

@@ -1,7 +1,7 @@
 use Rattle.std.proofs.Common.{◌==◌, sym, ◌∙◌}
 use Rattle.std.proofs.lemmas.Bool.{and_parts}
 use Rattle.elf_types.specs.declared.constants.TheConstants.{SHN_XINDEX}
-use Rattle.command_objects.specs.Followed.{is_section_number}
+use Rattle.strip_removed.specs.command_objects.Followed.{is_section_number}
 use Rattle.strip_items.proofs.SymLaws.{word_moves, word_stays}
 use Rattle.strip_items.proofs.words.word_with_sym.Goals as goal
 

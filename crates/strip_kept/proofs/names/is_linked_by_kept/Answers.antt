@@ -1,7 +1,7 @@
 use Rattle.std.proofs.Common.{◌-◌, ℕ, not, length, refl, sym, ap, ◌∙◌, arith}
 use Rattle.std.specs.List.{range_with_len, list_any}
 use Rattle.std.proofs.lemmas.Bool.{or_from}
-use Rattle.elf_object.specs.Sections.{is_among}
+use Rattle.strip_removed.specs.elf_object.Sections.{is_among}
 use Rattle.strip_removed.specs.Steps.{links_to}
 use Rattle.strip_removed.proofs.LinkLaws.{any_next}
 use Rattle.strip_removed.proofs.NameLaws.{ok_is}

@@ -1,6 +1,6 @@
 use Rattle.std.proofs.Common.{◌≡◌, ◌≤◌, ◌+◌, ◌-◌, false, not}
 use Rattle.std.specs.List.{range_with_len, list_any}
-use Rattle.elf_object.specs.Sections.{is_among}
+use Rattle.strip_removed.specs.elf_object.Sections.{is_among}
 use Rattle.strip_removed.specs.Steps.{links_to}
 use Rattle.strip_kept.proofs.names.is_linked_by_kept.Given as goal
 

@@ -1,6 +1,6 @@
 -- The front is computed, and then each fact of it.
 use Rattle.std.proofs.Common.{refl, get_or, lit<, lit≤}
-use Rattle.elf_object.specs.Object.{no_phdr}
+use Rattle.hash_model.specs.elf_object.Object.{no_phdr}
 use Rattle.command_objects.specs.Executable.{executable_phdrs}
 use Rattle.strip_laws.proofs.Computing.{all_words}
 use Rattle.strip_laws.proofs.tests.executables_are_usual.Goals as goal

@@ -1,5 +1,5 @@
 use Rattle.std.proofs.Common.{◌++◌, [], ◌∷◌, length}
-use Rattle.strtab_build.specs.Table.{table}
+use Rattle.shared_strings.specs.strtab_build.Table.{table}
 use Rattle.strip_names.proofs.AddLaws.{fits_ok, err_added, err_memory}
 use Rattle.strip_names.proofs.adding.add_name.Goals as goal
 

@@ -1,9 +1,9 @@
 use Rattle.std.proofs.Common.{◌≡◌, ◌<◌, ℕ, Bool, true, false, length, Ok, Err, sym, subst, arith}
 use Rattle.std.specs.Prelude.{IsTrue}
-use Rattle.elf_object.specs.Object.{Object}
-use Rattle.strip_removed.specs.Calls.{ReadsNames}
+use Rattle.strip_kept.specs.elf_object.Object.{Object}
+use Rattle.strip_kept.specs.strip_removed.Calls.{ReadsNames}
 use Rattle.strip_names.specs.Names.{AddsSection, AreAdded, KnowsNames, old_name}
-use Rattle.strip_removed.proofs.NameLaws.{ok_is, names_nothing, names_value, names_both}
+use Rattle.strip_kept.proofs.strip_removed.NameLaws.{ok_is, names_nothing, names_value, names_both}
 use Rattle.strip_names.proofs.KnownLaws.{none_known}
 use Rattle.strip_names.proofs.BelowLaws.{added_none, added_more, too_large}
 use Rattle.strip_names.proofs.building.add_all.Goals as goal

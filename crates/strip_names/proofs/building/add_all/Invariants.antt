@@ -1,6 +1,6 @@
 use Rattle.std.proofs.Common.{Ok}
 use Rattle.std.specs.Prelude.{IsTrue}
-use Rattle.strip_removed.specs.Calls.{ReadsNames}
+use Rattle.strip_kept.specs.strip_removed.Calls.{ReadsNames}
 use Rattle.strip_names.specs.Names.{AreAdded, KnowsNames}
 use Rattle.strip_names.proofs.building.add_all.Given as goal
 

@@ -1,8 +1,8 @@
 use Rattle.std.proofs.Common.{ℕ, List, subst}
-use Rattle.elf_object.specs.Strings.{section_name, or_empty_name}
-use Rattle.strtab_build.specs.Names.{IsHeld}
+use Rattle.strip_kept.specs.elf_object.Strings.{section_name, or_empty_name}
+use Rattle.shared_strings.specs.strtab_build.Names.{IsHeld}
 use Rattle.strip_names.specs.Names.{old_name}
-use Rattle.strip_removed.proofs.NameLaws.{names_nothing, names_push}
+use Rattle.strip_kept.proofs.strip_removed.NameLaws.{names_nothing, names_push}
 use Rattle.strip_names.proofs.KnownLaws.{held_placed, known_held, known_after, still_ok, old_name_is}
 use Rattle.strip_names.proofs.building.add_kept.Goals as goal
 

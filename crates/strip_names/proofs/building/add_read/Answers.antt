@@ -2,7 +2,7 @@ use Rattle.std.proofs.Common.{ℕ, List, subst}
 use Rattle.std.specs.Prelude.{IfOk}
 use Rattle.strip_names.specs.Known.{NotesName}
 use Rattle.strip_names.specs.Names.{IsAddedAt}
-use Rattle.strip_removed.proofs.NameLaws.{names_push, names_end}
+use Rattle.strip_kept.proofs.strip_removed.NameLaws.{names_push, names_end}
 use Rattle.strip_names.proofs.building.add_read.Goals as goal
 
 pub place_copied-requires : goal.place_copied-requires

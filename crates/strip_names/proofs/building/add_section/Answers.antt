@@ -1,7 +1,7 @@
 use Rattle.std.proofs.Common.{Bool, true, refl, sym, ◌∙◌, subst}
 use Rattle.std.specs.Prelude.{IfOk}
 use Rattle.strip_names.specs.Names.{AddsBy}
-use Rattle.strip_removed.proofs.NameLaws.{names_nothing, names_memory}
+use Rattle.strip_kept.proofs.strip_removed.NameLaws.{names_nothing, names_memory}
 use Rattle.strip_names.proofs.building.add_section.Goals as goal
 
 pub returns-then-is_kept-clause-told : goal.returns-then-is_kept-clause-told

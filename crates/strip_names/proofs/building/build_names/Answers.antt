@@ -1,4 +1,4 @@
-use Rattle.strip_removed.proofs.NameLaws.{names_end}
+use Rattle.strip_kept.proofs.strip_removed.NameLaws.{names_end}
 use Rattle.strip_names.proofs.BuildLaws.{names_answer, names_stopped, names_read, names_then}
 use Rattle.strip_names.proofs.building.build_names.Goals as goal
 

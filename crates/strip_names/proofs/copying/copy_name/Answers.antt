@@ -1,6 +1,6 @@
 use Rattle.std.specs.Option.{option_copied}
-use Rattle.elf_object.specs.Strings.{section_name}
-use Rattle.strip_removed.proofs.NameLaws.{ok_is, name_value, name_ends, name_end, names_push}
+use Rattle.strip_kept.specs.elf_object.Strings.{section_name}
+use Rattle.strip_kept.proofs.strip_removed.NameLaws.{ok_is, name_value, name_ends, name_end, names_push}
 use Rattle.strip_names.proofs.CopyLaws.{told_copied, plain_copied}
 use Rattle.strip_names.proofs.copying.copy_name.Goals as goal
 

@@ -1,7 +1,7 @@
 use Rattle.std.proofs.Common.{[], Ok}
 use Rattle.std.specs.List.{flat_map}
-use Rattle.elf_object.specs.Calls.{update_ehdr_refusal}
-use Rattle.elf_object.specs.Due.{homes_due}
+use Rattle.object_making.specs.elf_object.Calls.{update_ehdr_refusal}
+use Rattle.object_making.specs.elf_object.Due.{homes_due}
 use Rattle.strip_rebuild.specs.Answers.{filled_sections}
 use Rattle.strip_rebuild.proofs.AskLaws.{asks_as}
 use Rattle.strip_rebuild.proofs.FillLaws.{segments_refused, sections_refused, segments_empty, segments_count, segments_class, last_refused, header_states, filled_on, passed_on, refused_on, rose_on}

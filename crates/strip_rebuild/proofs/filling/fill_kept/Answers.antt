@@ -1,7 +1,7 @@
 use Rattle.std.proofs.Common.{◌≡◌, ◌<◌, ◌≤◌, ◌-◌, ℕ, List, length, Option, None, sym, ap, ◌∙◌, subst}
 use Rattle.std.specs.Prelude.{All, OnOk, IfErr}
 use Rattle.elf_types.specs.declared.errors.ElfError.{ElfError}
-use Rattle.command_objects.specs.Followed.{followed}
+use Rattle.object_making.specs.command_objects.Followed.{followed}
 use Rattle.object_making.specs.Refused.{UnreadBy}
 use Rattle.update_plan.proofs.RowLaws.{ok_is}
 use Rattle.strip_rebuild.proofs.NumberLaws.{kept_there, kept_few}

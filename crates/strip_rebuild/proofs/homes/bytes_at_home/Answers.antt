@@ -1,5 +1,5 @@
-use Rattle.elf_object.specs.Calls as calls
-use Rattle.elf_descriptor.specs.Reads.{wanted}
+use Rattle.object_making.specs.elf_object.Calls as calls
+use Rattle.update_plan.specs.elf_descriptor.Reads.{wanted}
 use Rattle.strip_rebuild.specs.Makes.{FitsAs}
 use Rattle.strip_rebuild.specs.Homes.{bytes_at_home}
 use Rattle.strip_rebuild.proofs.HomeLaws.{bytes_found, home_unread}

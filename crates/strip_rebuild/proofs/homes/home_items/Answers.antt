@@ -1,5 +1,5 @@
-use Rattle.elf_object.specs.Calls as calls
-use Rattle.elf_descriptor.specs.Reads.{wanted}
+use Rattle.object_making.specs.elf_object.Calls as calls
+use Rattle.update_plan.specs.elf_descriptor.Reads.{wanted}
 use Rattle.strip_rebuild.specs.Makes.{FitsAs}
 use Rattle.strip_rebuild.specs.Homes.{home_items}
 use Rattle.strip_rebuild.proofs.HomeLaws.{class_told, order_told, home_found, home_refused}

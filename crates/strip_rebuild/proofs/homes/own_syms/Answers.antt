@@ -1,8 +1,8 @@
 use Rattle.std.proofs.Common.{◌≡◌, List, [], ◌∷◌, None, Ok, sym, ap, ◌∙◌, subst}
 use Rattle.elf_types.specs.declared.records.Sym.{Sym}
-use Rattle.elf_xlate.specs.declared.content.Items.TheVariants as items
-use Rattle.elf_xlate.specs.Translation.{first_unfit}
-use Rattle.elf_object.specs.Answers.{syms_of}
+use Rattle.strip_names.specs.elf_xlate.declared.content.Items.TheVariants as items
+use Rattle.strip_names.specs.elf_xlate.Translation.{first_unfit}
+use Rattle.object_making.specs.elf_object.Answers.{syms_of}
 use Rattle.strip_rebuild.specs.Makes.{FitsAs, SymsFit}
 use Rattle.strip_rebuild.specs.Homes.{home_items, home_refusal}
 use Rattle.strip_rebuild.proofs.FitLaws.{among_fit}

@@ -1,5 +1,5 @@
 use Rattle.std.proofs.Common.{[], ◌∷◌}
-use Rattle.elf_object.specs.Answers.{syms_of}
+use Rattle.object_making.specs.elf_object.Answers.{syms_of}
 use Rattle.strip_rebuild.specs.Makes.{SymsFit}
 use Rattle.strip_rebuild.specs.Homes.{home_items, home_refusal}
 use Rattle.strip_rebuild.proofs.MakeLaws.{makes_none}

@@ -1,5 +1,5 @@
 use Rattle.std.proofs.Common.{[], ◌∷◌}
-use Rattle.elf_object.specs.Answers.{words_of}
+use Rattle.object_making.specs.elf_object.Answers.{words_of}
 use Rattle.strip_rebuild.specs.Makes.{FitsAny}
 use Rattle.strip_rebuild.specs.Homes.{home_items, home_refusal}
 use Rattle.strip_rebuild.proofs.MakeLaws.{makes_none}

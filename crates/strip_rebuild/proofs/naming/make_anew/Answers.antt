@@ -1,4 +1,4 @@
-use Rattle.elf_descriptor.specs.Reads.{wanted}
+use Rattle.update_plan.specs.elf_descriptor.Reads.{wanted}
 use Rattle.strip_names.specs.Calls.{new_names}
 use Rattle.strip_rebuild.proofs.NameLaws.{names_made, error_told, error_renews, error_stops, error_asks}
 use Rattle.strip_rebuild.proofs.naming.make_anew.Goals as goal

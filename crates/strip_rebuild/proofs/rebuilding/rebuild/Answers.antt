@@ -1,8 +1,8 @@
 use Rattle.std.proofs.Common.{ℕ, List, [], Ok, sym, ap, ◌∙◌, subst}
-use Rattle.elf_object.specs.Due.{homes_due}
-use Rattle.command_objects.specs.Followed.{kept_from_1}
-use Rattle.strip_removed.specs.Calls.{names_home}
-use Rattle.strip_removed.specs.Steps.{IsRemovable}
+use Rattle.object_making.specs.elf_object.Due.{homes_due}
+use Rattle.object_making.specs.command_objects.Followed.{kept_from_1}
+use Rattle.strip_items.specs.strip_removed.Calls.{names_home}
+use Rattle.strip_items.specs.strip_removed.Steps.{IsRemovable}
 use Rattle.strip_rebuild.specs.declared.rebuilding.Rebuilt.{Rebuilt}
 use Rattle.strip_rebuild.specs.Answers.{rebuild_due}
 use Rattle.strip_rebuild.proofs.NumberLaws.{zero_stays}

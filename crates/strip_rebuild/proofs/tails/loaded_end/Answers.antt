@@ -1,7 +1,7 @@
 use Rattle.std.proofs.Common.{sym, ap, ◌∙◌}
 use Rattle.elf_types.specs.declared.records.Shdr.{Shdr}
-use Rattle.elf_object.specs.Object.{section_at}
-use Rattle.elf_object.proofs.AnswerLaws.{home_value}
+use Rattle.object_making.specs.elf_object.Object.{section_at}
+use Rattle.object_making.proofs.elf_object.AnswerLaws.{home_value}
 use Rattle.strip_rebuild.specs.Ends.{at_most_word, home_end}
 use Rattle.strip_rebuild.proofs.EndLaws.{home_is, home_never}
 use Rattle.strip_rebuild.proofs.tails.loaded_end.Goals as goal

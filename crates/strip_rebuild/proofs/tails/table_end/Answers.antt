@@ -1,5 +1,5 @@
 use Rattle.std.proofs.Common.{◌≡◌, ◌*◌, ◌+◌, ℕ, length, ap, ◌∙◌}
-use Rattle.elf_xlate.specs.Headers.{phdr_size}
+use Rattle.strip_names.specs.elf_xlate.Headers.{phdr_size}
 use Rattle.update_plan.proofs.RowLaws.{ok_is, class_is}
 use Rattle.strip_rebuild.specs.Ends.{at_most_word}
 use Rattle.strip_rebuild.proofs.EndLaws.{table_place}

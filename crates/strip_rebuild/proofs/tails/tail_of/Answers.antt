@@ -1,5 +1,5 @@
 use Rattle.std.proofs.Common.{ap, sym, ◌∙◌, arith}
-use Rattle.elf_xlate.specs.Headers.{ehdr_size}
+use Rattle.strip_names.specs.elf_xlate.Headers.{ehdr_size}
 use Rattle.update_plan.proofs.RowLaws.{ok_is, class_is}
 use Rattle.strip_rebuild.proofs.EndLaws.{tail_none, tail_is}
 use Rattle.strip_rebuild.proofs.tails.tail_of.Goals as goal

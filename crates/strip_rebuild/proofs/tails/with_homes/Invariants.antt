@@ -1,5 +1,5 @@
 use Rattle.std.proofs.Common.{◌≡◌, max}
-use Rattle.elf_object.specs.Sections.{greatest}
+use Rattle.object_making.specs.elf_object.Sections.{greatest}
 use Rattle.strip_rebuild.specs.Ends.{at_most_word}
 use Rattle.strip_rebuild.proofs.EndLaws.{ends_below}
 use Rattle.strip_rebuild.proofs.tails.with_homes.Given as goal

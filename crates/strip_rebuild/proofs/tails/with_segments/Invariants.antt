@@ -1,6 +1,6 @@
 use Rattle.std.proofs.Common.{◌≡◌, map, max, take}
-use Rattle.command_objects.specs.Arranged.{segment_end}
-use Rattle.elf_object.specs.Sections.{greatest}
+use Rattle.object_making.specs.command_objects.Arranged.{segment_end}
+use Rattle.object_making.specs.elf_object.Sections.{greatest}
 use Rattle.strip_rebuild.specs.Ends.{at_most_word}
 use Rattle.strip_rebuild.proofs.tails.with_segments.Given as goal
 

@@ -1,7 +1,7 @@
 use Rattle.std.proofs.Common.{◌≡◌, ◌<◌, ℕ, Bool, [], length, map, Ok, Err, sym, ap, ◌∙◌, subst, arith}
 use Rattle.std.specs.Prelude.{IsTrue}
 use Rattle.std.specs.List.{range_with_len}
-use Rattle.elf_object.specs.Object.{Object}
+use Rattle.command_objects.specs.elf_object.Object.{Object}
 use Rattle.strip_removed.specs.Steps.{goes, goes_by_name, AreApart}
 use Rattle.strip_removed.proofs.FoundLaws.{mark_told, mark_apart, marks_none}
 use Rattle.strip_removed.proofs.NameLaws.{ok_is, names_nothing, names_both}

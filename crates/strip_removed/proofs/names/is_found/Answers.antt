@@ -1,6 +1,6 @@
 use Rattle.std.proofs.Common.{option_copied}
-use Rattle.elf_object.specs.Strings.{section_name}
-use Rattle.elf_descriptor.specs.Reads.{wanted}
+use Rattle.command_objects.specs.elf_object.Strings.{section_name}
+use Rattle.gelf_view.specs.elf_descriptor.Reads.{wanted}
 use Rattle.strip_removed.specs.Calls.{found}
 use Rattle.strip_removed.proofs.FrontLaws.{front_told}
 use Rattle.strip_removed.proofs.names.is_found.Goals as goal

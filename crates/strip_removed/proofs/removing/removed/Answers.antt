@@ -1,6 +1,6 @@
 use Rattle.std.proofs.Common.{◌≡◌, not, subst}
 use Rattle.std.specs.Prelude.{IfOk}
-use Rattle.elf_object.specs.Object.{Object}
+use Rattle.command_objects.specs.elf_object.Object.{Object}
 use Rattle.command_objects.specs.Removed.{with_followers}
 use Rattle.strip_removed.proofs.TopLaws.{strip_answers, are_removable}
 use Rattle.strip_removed.proofs.removing.removed.Goals as goal

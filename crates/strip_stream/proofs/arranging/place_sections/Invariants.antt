@@ -1,6 +1,6 @@
 use Rattle.std.proofs.Common.{◌≡◌, ◌≤◌, length}
 use Rattle.elf_layout.specs.Layout.{limit_of}
-use Rattle.elf_object.specs.Object.{Object}
+use Rattle.command_objects.specs.elf_object.Object.{Object}
 use Rattle.listed_layout.specs.Listing.{IsListed}
 use Rattle.strip_stream.specs.Arranging.{ArePlacedBehind}
 use Rattle.strip_stream.proofs.arranging.place_sections.Given as goal

@@ -1,6 +1,6 @@
 use Rattle.elf_xlate.specs.Headers.{shdr_bytes}
-use Rattle.elf_ident.specs.Front.{zero_shdr}
-use Rattle.elf_object.specs.Open.{shdrs_bytes}
+use Rattle.command_objects.specs.elf_ident.Front.{zero_shdr}
+use Rattle.command_objects.specs.elf_object.Open.{shdrs_bytes}
 use Rattle.strip_stream.proofs.FrontLaws.{no_rows, more_rows, all_rows, appended, behind}
 use Rattle.strip_stream.proofs.fronts.hold_sections.Goals as goal
 

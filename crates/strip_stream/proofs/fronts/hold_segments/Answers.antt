@@ -1,6 +1,6 @@
 use Rattle.elf_xlate.specs.Headers.{phdr_bytes}
-use Rattle.elf_object.specs.Object.{no_phdr}
-use Rattle.elf_object.specs.Open.{phdrs_bytes}
+use Rattle.command_objects.specs.elf_object.Object.{no_phdr}
+use Rattle.command_objects.specs.elf_object.Open.{phdrs_bytes}
 use Rattle.strip_stream.proofs.FrontLaws.{no_rows, more_rows, all_rows, appended, behind}
 use Rattle.strip_stream.proofs.fronts.hold_segments.Goals as goal
 

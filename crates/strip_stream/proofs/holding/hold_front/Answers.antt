@@ -2,7 +2,7 @@ use Rattle.std.proofs.Common.{sym, ap, subst}
 use Rattle.std.specs.Prelude.{IsTrue}
 use Rattle.elf_types.specs.declared.records.Ehdr.{Ehdr}
 use Rattle.elf_xlate.specs.Headers.{ehdr_fits, ehdr_bytes}
-use Rattle.elf_object.specs.Open.{shdrs_bytes}
+use Rattle.command_objects.specs.elf_object.Open.{shdrs_bytes}
 use Rattle.elf_update.proofs.FrontLaws.{written_fits}
 use Rattle.strip_stream.specs.Fronts.{HoldsMore}
 use Rattle.strip_stream.proofs.HoldLaws.{holds_front}

@@ -1,5 +1,5 @@
 use Rattle.std.proofs.Common.{◌∙◌, inl, inr, sym}
-use Rattle.elf_object.specs.Layout.{placed}
+use Rattle.command_objects.specs.elf_object.Layout.{placed}
 use Rattle.strip_stream.specs.declared.holding.FrontRanges.{FrontRanges}
 use Rattle.strip_stream.proofs.StoredLaws.{no_unfit_header, placed_object, stored_class}
 use Rattle.strip_stream.proofs.UnreadLaws.{wanted_unread}

@@ -2,7 +2,7 @@ use Rattle.std.proofs.Common.{sym, ap, ◌∙◌}
 use Rattle.std.proofs.lemmas.Bool.{ne_eqb}
 use Rattle.std.proofs.lemmas.Option.{IfSome_then}
 use Rattle.elf_types.specs.declared.records.Shdr.{Shdr}
-use Rattle.update_plan.proofs.RowLaws.{ok_is}
+use Rattle.strip_rebuild.proofs.update_plan.RowLaws.{ok_is}
 use Rattle.strip_rebuild.proofs.KeeperLaws.{symbols_told, members_told}
 use Rattle.strip_tables.proofs.FindLaws.{symbols_are_rows, indexes_are_rows}
 use Rattle.strip_tables.proofs.finding.find_rows.Goals as goal

@@ -1,7 +1,7 @@
 use Rattle.std.proofs.Common.{◌<◌, ℕ, sym, subst}
 use Rattle.elf_types.specs.declared.records.Kind.TheVariants as kinds
 use Rattle.elf_xlate.proofs.ListedItems.{sym_sized}
-use Rattle.update_plan.proofs.RowLaws.{class_is}
+use Rattle.strip_rebuild.proofs.update_plan.RowLaws.{class_is}
 use Rattle.strip_tables.proofs.FindLaws.{items_found}
 use Rattle.strip_tables.proofs.finding.find_syms.Goals as goal
 

@@ -1,5 +1,5 @@
 use Rattle.std.proofs.Common.{refl, sym, ◌∙◌}
-use Rattle.update_plan.proofs.RowLaws.{class_is}
+use Rattle.strip_rebuild.proofs.update_plan.RowLaws.{class_is}
 use Rattle.strip_rebuild.proofs.HomeLaws.{order_told, there_below}
 use Rattle.strip_tables.proofs.finding.index_rows.Goals as goal
 

@@ -1,5 +1,5 @@
 use Rattle.std.proofs.Common.{ℕ, refl, subst}
-use Rattle.update_plan.proofs.RowLaws.{class_is}
+use Rattle.strip_rebuild.proofs.update_plan.RowLaws.{class_is}
 use Rattle.strip_rebuild.proofs.HomeLaws.{order_told}
 use Rattle.strip_tables.specs.Finding.{AreWordsAt}
 use Rattle.strip_tables.proofs.finding.symbol_rows.Goals as goal

@@ -1,5 +1,5 @@
 use Rattle.std.proofs.Common.{sym}
-use Rattle.elf_object.proofs.AnswerLaws.{home_value}
+use Rattle.strip_stream.proofs.elf_object.AnswerLaws.{home_value}
 use Rattle.strip_rebuild.proofs.EndLaws.{home_never}
 use Rattle.strip_tables.proofs.homes.extent.Goals as goal
 

@@ -3,7 +3,7 @@ use Rattle.std.specs.Prelude.{min}
 use Rattle.std.proofs.lemmas.Result.{IfOk-weaker}
 use Rattle.elf_types.specs.declared.records.Kind.TheVariants as kinds
 use Rattle.elf_xlate.specs.Translation.{between}
-use Rattle.elf_object.specs.Answers.{syms_of}
+use Rattle.strip_stream.specs.elf_object.Answers.{syms_of}
 use Rattle.strip_rebuild.specs.Homes.{decoded_items}
 use Rattle.strip_tables.specs.Rows.{items_within, syms_in_base}
 use Rattle.strip_tables.proofs.ReadLaws.{syms_read}

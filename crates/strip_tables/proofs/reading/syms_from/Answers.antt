@@ -3,7 +3,7 @@ use Rattle.elf_types.specs.declared.records.Kind.TheVariants as kinds
 use Rattle.elf_types.specs.declared.records.Sym.{Sym}
 use Rattle.elf_xlate.specs.declared.content.Items.TheVariants as items
 use Rattle.elf_xlate.specs.Translation.{first_unfit}
-use Rattle.elf_object.specs.Answers.{syms_of}
+use Rattle.strip_stream.specs.elf_object.Answers.{syms_of}
 use Rattle.strip_rebuild.proofs.DecodeLaws.{decodes_value}
 use Rattle.strip_rebuild.proofs.FitLaws.{among_fit}
 use Rattle.strip_tables.proofs.reading.syms_from.Goals as goal

@@ -1,6 +1,6 @@
 use Rattle.std.proofs.Common.{ap, ◌∙◌}
 use Rattle.elf_types.specs.declared.records.Kind.TheVariants as kinds
-use Rattle.elf_object.specs.Answers.{words_of}
+use Rattle.strip_stream.specs.elf_object.Answers.{words_of}
 use Rattle.strip_rebuild.proofs.DecodeLaws.{decodes_value}
 use Rattle.strip_tables.proofs.reading.words_from.Goals as goal
 

@@ -1,6 +1,6 @@
-use Rattle.elf_descriptor.specs.Reads.{wanted}
-use Rattle.strip_removed.specs.Calls as calls
-use Rattle.strip_rebuild.proofs.WholeLaws.{clean_stays, removable_stays}
+use Rattle.object_writing.specs.elf_descriptor.Reads.{wanted}
+use Rattle.strip_contents.specs.strip_removed.Calls as calls
+use Rattle.strip_contents.proofs.strip_rebuild.WholeLaws.{clean_stays, removable_stays}
 use Rattle.strip_contents.proofs.WholeLaws.{tied_stays, fits_stays}
 use Rattle.strip_tool.proofs.StripLemmas.{planned_without, unplanned}
 use Rattle.strip_tool.proofs.planning.plan_stripped.Goals as goal

@@ -1,8 +1,8 @@
 use Rattle.std.proofs.Common.{ℕ, Err, sym, subst}
 use Rattle.elf_types.specs.declared.errors.ElfError.{ElfError}
 use Rattle.elf_types.specs.Answers.{Follows}
-use Rattle.elf_object.specs.Answers.{items_at, words_of}
-use Rattle.elf_object.proofs.AnswerLaws.{word_value}
+use Rattle.hash_model.specs.elf_object.Answers.{items_at, words_of}
+use Rattle.hash_model.proofs.elf_object.AnswerLaws.{word_value}
 use Rattle.symbol_lookup.specs.Walks.{hash_word}
 use Rattle.symbol_lookup.specs.Searches.{Searches}
 use Rattle.symbol_lookup.proofs.CallLaws.{word_there, word_ends, word_found, word_lost}

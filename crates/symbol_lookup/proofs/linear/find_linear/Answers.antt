@@ -1,8 +1,8 @@
 use Rattle.std.proofs.Common.{sym}
-use Rattle.elf_object.proofs.AnswerLaws.{answered_value, answered_refusal, answers_refused}
+use Rattle.hash_model.proofs.elf_object.AnswerLaws.{answered_value, answered_refusal, answers_refused}
 use Rattle.hash_model.specs.Listed.{find_linear_answer}
 use Rattle.elf_types.specs.declared.records.Kind.TheVariants as kinds
-use Rattle.elf_object.specs.Answers.{lend_refusal}
+use Rattle.hash_model.specs.elf_object.Answers.{lend_refusal}
 use Rattle.symbol_lookup.specs.Lookups.{find_linear}
 use Rattle.symbol_lookup.proofs.TopLaws.{linear_answers, linear_looks, refused_looks}
 use Rattle.symbol_lookup.proofs.linear.find_linear.Goals as goal

@@ -1,7 +1,7 @@
 use Rattle.std.proofs.Common.{Ok, Err, Some, ap, ◌∙◌, below_more, arith}
 use Rattle.std.proofs.lemmas.Result.{err_from_is_err_and}
 use Rattle.elf_types.specs.declared.records.Kind.TheVariants as kinds
-use Rattle.elf_object.proofs.AnswerLaws.{lend_passed}
+use Rattle.hash_model.proofs.elf_object.AnswerLaws.{lend_passed}
 use Rattle.symbol_lookup.specs.Lookups.{linear_needs}
 use Rattle.symbol_lookup.proofs.SearchLaws.{searches_both, searches_value, searches_end}
 use Rattle.symbol_lookup.proofs.LinearLaws.{none_found, first_found, still_has, told_match, passed_more}

@@ -1,7 +1,7 @@
 use Rattle.std.proofs.Common.{Ok}
 use Rattle.symbol_lookup.proofs.CallLaws.{bytes_found, bytes_lost}
 use Rattle.elf_types.specs.declared.records.Kind.TheVariants as kinds
-use Rattle.elf_object.specs.Answers.{bytes_of, items_at, lend_refusal}
+use Rattle.hash_model.specs.elf_object.Answers.{bytes_of, items_at, lend_refusal}
 use Rattle.gelf_view.proofs.LendLemmas.{lend_unread}
 use Rattle.symbol_lookup.proofs.LendLaws.{lend_ended}
 use Rattle.symbol_lookup.proofs.lookups.fetch.Goals as goal

@@ -1,8 +1,8 @@
 use Rattle.std.proofs.Common.{sym, ap, ◌∙◌}
 use Rattle.elf_types.specs.declared.records.Kind.TheVariants as kinds
-use Rattle.elf_object.specs.Object.{Object}
-use Rattle.elf_object.specs.Answers.{no_section}
-use Rattle.elf_object.proofs.AnswerLaws.{lend_passed}
+use Rattle.hash_model.specs.elf_object.Object.{Object}
+use Rattle.hash_model.specs.elf_object.Answers.{no_section}
+use Rattle.hash_model.proofs.elf_object.AnswerLaws.{lend_passed}
 use Rattle.symbol_lookup.specs.Lookups.{linked_refusal, gnu_needs}
 use Rattle.symbol_lookup.proofs.NeedLaws.{gnu_bytes}
 use Rattle.symbol_lookup.proofs.HashLaws.{gnu_answers, gnu_looks, gnu_linked_refused, gnu_linked_looks, gnu_bytes_refused, gnu_bytes_looks, gnu_later_follows, gnu_later_searches}

@@ -3,7 +3,7 @@ use Rattle.std.proofs.lemmas.Result.{IfErr-weaker}
 use Rattle.elf_types.specs.declared.records.Kind.TheVariants as kinds
 use Rattle.elf_types.specs.declared.errors.ElfError.{ElfError}
 use Rattle.elf_types.specs.Answers.{first_refusal}
-use Rattle.elf_object.proofs.AnswerLaws.{lend_passed, answered_value, answered_refusal}
+use Rattle.hash_model.proofs.elf_object.AnswerLaws.{lend_passed, answered_value, answered_refusal}
 use Rattle.symbol_lookup.specs.Lookups.{linked_refusal, sysv_refusal}
 use Rattle.symbol_lookup.proofs.lookups.table_of_words.Goals as goal
 

@@ -1,7 +1,7 @@
 use Rattle.std.proofs.Common.{Bool, Result, Ok, sym, subst, ◌∙◌}
 use Rattle.elf_types.specs.declared.errors.ElfError.{ElfError}
 use Rattle.elf_types.specs.Answers.{Follows}
-use Rattle.elf_object.specs.Object.{Object}
+use Rattle.hash_model.specs.elf_object.Object.{Object}
 use Rattle.symbol_lookup.specs.Lookups.{is_match}
 use Rattle.symbol_lookup.specs.Searches.{Searches, HasStrings}
 use Rattle.symbol_lookup.proofs.SearchLaws.{searches_both}

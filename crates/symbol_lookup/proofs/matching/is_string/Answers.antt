@@ -2,7 +2,7 @@ use Rattle.std.proofs.Common.{Bool, Result, sym, subst}
 use Rattle.elf_types.specs.declared.errors.ElfError.{ElfError}
 use Rattle.elf_types.specs.Answers.{Follows}
 use Rattle.std.proofs.Common.{Ok}
-use Rattle.elf_object.specs.Strings.{is_name, readable, string_answer, strptr_refusals}
+use Rattle.hash_model.specs.elf_object.Strings.{is_name, readable, string_answer, strptr_refusals}
 use Rattle.symbol_lookup.specs.Searches.{Searches}
 use Rattle.symbol_lookup.proofs.CallLaws.{string_found, string_lost, string_none}
 use Rattle.symbol_lookup.proofs.matching.is_string.Goals as goal

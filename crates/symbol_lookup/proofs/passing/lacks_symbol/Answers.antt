@@ -1,5 +1,5 @@
 use Rattle.std.proofs.Common.{arith}
-use Rattle.elf_xlate.proofs.ListedItems.{sym_sized}
+use Rattle.hash_model.proofs.elf_xlate.ListedItems.{sym_sized}
 use Rattle.symbol_lookup.proofs.AtHand.{lacks_item}
 use Rattle.symbol_lookup.proofs.passing.lacks_symbol.Goals as goal
 

@@ -1,4 +1,4 @@
-use Rattle.elf_object.specs.Answers.{items_at, words_of}
+use Rattle.hash_model.specs.elf_object.Answers.{items_at, words_of}
 use Rattle.symbol_lookup.specs.Walks.{hash_word, counted, sysv_buckets}
 use Rattle.symbol_lookup.proofs.FollowLaws.{then_follows, then_ends, same_follows}
 use Rattle.symbol_lookup.proofs.SearchLaws.{searches_pure}

@@ -1,4 +1,4 @@
-use Rattle.elf_object.specs.Answers.{items_at, words_of}
+use Rattle.hash_model.specs.elf_object.Answers.{items_at, words_of}
 use Rattle.symbol_lookup.proofs.StepLaws.{bucket_found, bucket_lost}
 use Rattle.symbol_lookup.proofs.SearchLaws.{searches_value, searches_end}
 use Rattle.symbol_lookup.proofs.sysv.read_bucket.Goals as goal

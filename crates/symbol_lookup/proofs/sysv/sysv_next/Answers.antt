@@ -1,5 +1,5 @@
 use Rattle.std.proofs.Common.{rules}
-use Rattle.elf_object.specs.Answers.{items_at, words_of}
+use Rattle.hash_model.specs.elf_object.Answers.{items_at, words_of}
 use Rattle.symbol_lookup.proofs.StepLaws.{next_past, next_found, next_lost}
 use Rattle.symbol_lookup.proofs.SearchLaws.{searches_value, searches_end}
 use Rattle.symbol_lookup.proofs.sysv.sysv_next.Goals as goal

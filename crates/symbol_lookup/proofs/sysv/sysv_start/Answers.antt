@@ -1,7 +1,7 @@
 use Rattle.std.proofs.Common.{◌∙◌, ap}
 use Rattle.elf_types.specs.declared.records.Kind.TheVariants as kinds
-use Rattle.elf_object.specs.Object.{Object}
-use Rattle.elf_object.specs.Answers.{items_at, words_of, lend_refusal}
+use Rattle.hash_model.specs.elf_object.Object.{Object}
+use Rattle.hash_model.specs.elf_object.Answers.{items_at, words_of, lend_refusal}
 use Rattle.symbol_lookup.specs.Walks.{sysv_buckets, sysv_behind, sysv_start}
 use Rattle.symbol_lookup.proofs.FollowLaws.{then_follows, then_ends, later_follows}
 use Rattle.symbol_lookup.proofs.SearchLaws.{searches_both, searches_end}

@@ -1,8 +1,8 @@
 use Rattle.std.proofs.Common.{Bool, sym, ◌∙◌, subst}
 use Rattle.elf_types.specs.declared.records.Kind.TheVariants as kinds
 use Rattle.elf_types.specs.Answers.{Follows}
-use Rattle.elf_object.specs.Object.{Object}
-use Rattle.elf_object.proofs.AnswerLaws.{lend_passed}
+use Rattle.hash_model.specs.elf_object.Object.{Object}
+use Rattle.hash_model.proofs.elf_object.AnswerLaws.{lend_passed}
 use Rattle.symbol_lookup.specs.Lookups.{is_match, walked_on}
 use Rattle.symbol_lookup.specs.Searches.{IsThere}
 use Rattle.symbol_lookup.proofs.FollowLaws.{free_ends, later_follows}

@@ -1,4 +1,4 @@
-use Rattle.object_making.proofs.MakingLaws.{memory_unread, passes_on, refused_memory}
+use Rattle.strip_rebuild.proofs.object_making.MakingLaws.{memory_unread, passes_on, refused_memory}
 use Rattle.unstrip_join.proofs.MoreLaws.{home_added, home_asked, home_stopped}
 use Rattle.strip_rebuild.specs.Homes.{bytes_at_home}
 use Rattle.unstrip_join.proofs.adding.add_home.Goals as goal

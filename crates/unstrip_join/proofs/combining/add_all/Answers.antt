@@ -1,5 +1,5 @@
 use Rattle.std.proofs.Common.{◌≡◌, length, arith}
-use Rattle.update_plan.proofs.RowLaws.{ok_is}
+use Rattle.strip_rebuild.proofs.update_plan.RowLaws.{ok_is}
 use Rattle.unstrip_join.proofs.AllLaws.{joins_none, next_matches, next_loaded, next_taken, next_there, next_made, next_class, joins_more, joins_stop, joins_all}
 use Rattle.unstrip_join.proofs.combining.add_all.Goals as goal
 

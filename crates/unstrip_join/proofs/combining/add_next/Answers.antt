@@ -1,5 +1,5 @@
 use Rattle.std.proofs.Common.{refl, sym, ap, ◌∙◌, arith}
-use Rattle.elf_object.specs.Sections.{is_allocated}
+use Rattle.strip_rebuild.specs.elf_object.Sections.{is_allocated}
 use Rattle.unstrip_join.proofs.LoadedLaws.{number_there}
 use Rattle.unstrip_join.proofs.MatchLaws.{match_class, told_fits}
 use Rattle.unstrip_join.proofs.NextLaws.{taken_there, taken_few, room_left, some_made, next_loaded, stop_loaded, next_own, stop_own}

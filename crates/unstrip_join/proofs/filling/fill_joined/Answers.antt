@@ -1,6 +1,6 @@
 use Rattle.std.proofs.Common.{ap, ◌∙◌}
-use Rattle.elf_object.specs.Object.{Object}
-use Rattle.update_plan.proofs.RowLaws.{ok_is}
+use Rattle.strip_rebuild.specs.elf_object.Object.{Object}
+use Rattle.strip_rebuild.proofs.update_plan.RowLaws.{ok_is}
 use Rattle.strip_rebuild.proofs.FillLaws.{segments_empty, segments_count, segments_class}
 use Rattle.unstrip_join.proofs.FilledLaws.{joined_segments, joined_sections, joined_ok, joined_header}
 use Rattle.unstrip_join.proofs.filling.fill_joined.Goals as goal

@@ -1,5 +1,5 @@
 use Rattle.std.proofs.Common.{sym, ◌∙◌, arith}
-use Rattle.update_plan.proofs.RowLaws.{ok_is}
+use Rattle.strip_rebuild.proofs.update_plan.RowLaws.{ok_is}
 use Rattle.strip_rebuild.proofs.FillLaws.{null_memory, null_made, null_told, null_class}
 use Rattle.unstrip_join.proofs.FilledLaws.{fills_none, fills_memory, fills_all, one_made}
 use Rattle.unstrip_join.proofs.filling.fill_sections.Goals as goal

@@ -1,8 +1,8 @@
 use Rattle.std.proofs.Common.{◌+◌, [], Ok, sym, ap, ◌∙◌}
 use Rattle.std.specs.Prelude.{unwrap_or}
-use Rattle.elf_object.specs.Object.{Object}
-use Rattle.command_objects.specs.Rebuilt.{rebuilt_tail}
-use Rattle.command_objects.specs.Split.{allocated, combined_tail, matches}
+use Rattle.strip_rebuild.specs.elf_object.Object.{Object}
+use Rattle.strip_rebuild.specs.command_objects.Rebuilt.{rebuilt_tail}
+use Rattle.strip_rebuild.specs.command_objects.Split.{allocated, combined_tail, matches}
 use Rattle.strip_rebuild.proofs.RebuildLaws.{tail_within}
 use Rattle.strip_rebuild.proofs.WholeLaws.{created_stays}
 use Rattle.unstrip_join.specs.Answers.{homes_of_stripped, stripped_due}

@@ -1,5 +1,5 @@
 use Rattle.std.proofs.Common.{◌≡◌, ◌++◌, ℕ, List, length, sym, ap, ◌∙◌, arith}
-use Rattle.update_plan.proofs.RowLaws.{ok_is}
+use Rattle.strip_rebuild.proofs.update_plan.RowLaws.{ok_is}
 use Rattle.unstrip_join.specs.Joined.{allocated_alone, allocated_below}
 use Rattle.unstrip_join.proofs.LoadedLaws.{below_none, below_pushed, below_all}
 use Rattle.unstrip_join.proofs.loaded.push_all.Goals as goal

@@ -1,6 +1,6 @@
 use Rattle.std.proofs.Common.{◌≡◌, true, false, refl, sym, ◌∙◌, arith}
-use Rattle.update_plan.proofs.RowLaws.{ok_is}
-use Rattle.command_objects.specs.Split.{same_phdr}
+use Rattle.strip_rebuild.proofs.update_plan.RowLaws.{ok_is}
+use Rattle.strip_rebuild.specs.command_objects.Split.{same_phdr}
 use Rattle.unstrip_join.proofs.MatchLaws.{lengths_differ, rest_more, rest_differs, rest_none}
 use Rattle.unstrip_join.proofs.matching.same_segments.Goals as goal
 

@@ -1,4 +1,4 @@
-use Rattle.command_objects.specs.Split.{same_phdr}
+use Rattle.strip_rebuild.specs.command_objects.Split.{same_phdr}
 use Rattle.unstrip_join.proofs.MatchLaws.{RestTells}
 use Rattle.unstrip_join.proofs.matching.same_segments.Given as goal
 

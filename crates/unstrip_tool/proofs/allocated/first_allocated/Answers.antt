@@ -1,5 +1,5 @@
 use Rattle.std.proofs.Common.{below_more, sym, ◌∙◌, arith}
-use Rattle.strip_removed.proofs.NameLaws.{ok_is}
+use Rattle.unstrip_join.proofs.strip_removed.NameLaws.{ok_is}
 use Rattle.unstrip_tool.proofs.AllocatedLemmas.{lost_first, lost_none}
 use Rattle.unstrip_tool.proofs.allocated.first_allocated.Goals as goal
 

@@ -1,7 +1,7 @@
 use Rattle.std.proofs.Common.{IsTrue, IsSome, ◌<◌, ◌⊎◌, inr}
 use Rattle.elf_outside.specs.Counts.{Rose}
-use Rattle.elf_descriptor.proofs.BeginAnswers.{begun_clean}
-use Rattle.object_output.proofs.SourceSteps.{leaves_then}
+use Rattle.unstrip_join.proofs.elf_descriptor.BeginAnswers.{begun_clean}
+use Rattle.strip_tool.proofs.object_output.SourceSteps.{leaves_then}
 use Rattle.strip_tool.proofs.StripLemmas.{begun_over, begun_tied, begun_fits}
 use Rattle.unstrip_tool.specs.Joins.{debug_done}
 use Rattle.unstrip_tool.proofs.BesideLemmas.{begun_writes, begun_refused}

@@ -1,5 +1,5 @@
 use Rattle.std.proofs.Common.{codes}
-use Rattle.object_writing.proofs.NamedLemmas.{named_does}
+use Rattle.strip_tool.proofs.object_writing.NamedLemmas.{named_does}
 use Rattle.unstrip_tool.specs.Writes.{object_split}
 use Rattle.unstrip_tool.proofs.named.split_named.Goals as goal
 

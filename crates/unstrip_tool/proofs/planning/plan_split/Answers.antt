@@ -1,5 +1,5 @@
-use Rattle.strip_rebuild.proofs.WholeLaws.{clean_stays}
-use Rattle.strip_contents.proofs.WholeLaws.{tied_stays, fits_stays}
+use Rattle.unstrip_join.proofs.strip_rebuild.WholeLaws.{clean_stays}
+use Rattle.debug_contents.proofs.strip_contents.WholeLaws.{tied_stays, fits_stays}
 use Rattle.unstrip_tool.proofs.SplitLemmas.{split_unarranged, split_unhalved, both_split}
 use Rattle.unstrip_tool.proofs.planning.plan_split.Goals as goal
 

@@ -1,7 +1,7 @@
-use Rattle.elf_descriptor.specs.Reads.{wanted}
-use Rattle.strip_removed.specs.Calls as calls
-use Rattle.strip_rebuild.proofs.WholeLaws.{clean_stays, removable_stays}
-use Rattle.strip_contents.proofs.WholeLaws.{tied_stays, fits_stays}
+use Rattle.unstrip_join.specs.elf_descriptor.Reads.{wanted}
+use Rattle.unstrip_join.specs.strip_removed.Calls as calls
+use Rattle.unstrip_join.proofs.strip_rebuild.WholeLaws.{clean_stays, removable_stays}
+use Rattle.debug_contents.proofs.strip_contents.WholeLaws.{tied_stays, fits_stays}
 use Rattle.strip_tool.proofs.StripLemmas.{over_stays}
 use Rattle.unstrip_tool.proofs.WriteLemmas.{removed_written, removed_refused}
 use Rattle.unstrip_tool.proofs.writing.write_halves.Goals as goal

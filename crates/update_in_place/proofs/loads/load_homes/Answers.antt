@@ -1,6 +1,6 @@
 use Rattle.std.proofs.Common.{◌+◌, length, sym, subst, arith}
-use Rattle.elf_descriptor.specs.State.{State}
-use Rattle.update_plan.proofs.RowLaws.{ok_is}
+use Rattle.elf_update.specs.elf_descriptor.State.{State}
+use Rattle.elf_update.proofs.update_plan.RowLaws.{ok_is}
 use Rattle.update_in_place.proofs.LoadLaws.{AreLoaded, loaded_next, loaded_skip, loaded_stop}
 use Rattle.update_in_place.proofs.loads.load_homes.Goals.{then-moves-s+in_default, else-moves-s}
 use Rattle.update_in_place.proofs.loads.load_homes.Goals as goal

@@ -1,9 +1,9 @@
 use Rattle.std.proofs.Common.{◌∙◌, [], ◌∷◌, ap, refl, length, arith}
 use Rattle.elf_types.specs.declared.records.Part.TheVariants as part
-use Rattle.elf_descriptor.specs.State.{State}
+use Rattle.elf_update.specs.elf_descriptor.State.{State}
 use Rattle.elf_object.specs.Answers.{part_refusal}
-use Rattle.update_plan.proofs.RowLaws.{ok_is}
-use Rattle.writing_laws.specs.Marks.{marked_all, pieces_of}
+use Rattle.elf_update.proofs.update_plan.RowLaws.{ok_is}
+use Rattle.elf_update.specs.writing_laws.Marks.{marked_all, pieces_of}
 use Rattle.update_in_place.proofs.MarkSteps.{state_marked, state_is, shape_all, same_count, parts_more, parts_skip, parts_all}
 use Rattle.update_in_place.proofs.marks.mark_moved.Goals.{then-moves-s, else-moves-s}
 use Rattle.update_in_place.proofs.marks.mark_moved.Goals as goal

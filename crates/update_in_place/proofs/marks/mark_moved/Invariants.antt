@@ -1,5 +1,5 @@
 use Rattle.std.proofs.Common.{◌≡◌}
-use Rattle.writing_laws.specs.Marks.{marked_all}
+use Rattle.elf_update.specs.writing_laws.Marks.{marked_all}
 use Rattle.update_in_place.proofs.MarkSteps.{parts_before}
 use Rattle.update_in_place.proofs.marks.mark_moved.Given as goal
 

@@ -1,6 +1,6 @@
 use Rattle.std.proofs.Common.{ap, refl, arith}
 use Rattle.elf_types.specs.declared.records.Part.TheVariants as part
-use Rattle.elf_descriptor.specs.State.{State}
+use Rattle.elf_update.specs.elf_descriptor.State.{State}
 use Rattle.elf_object.specs.Answers.{part_refusal}
 use Rattle.elf_object.specs.Steps.{with_mark}
 use Rattle.update_in_place.proofs.MarkSteps.{state_marked, state_is, piece_there, pieces_more, pieces_all}

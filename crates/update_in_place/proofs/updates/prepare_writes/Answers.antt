@@ -1,5 +1,5 @@
 use Rattle.std.proofs.Common.{◌≡◌, ◌∙◌, List, Bool, true, Ok, ap, subst, length}
-use Rattle.writing_laws.specs.Marks.{marked_all}
+use Rattle.elf_update.specs.writing_laws.Marks.{marked_all}
 use Rattle.update_in_place.specs.Rooms.{tells}
 use Rattle.update_in_place.specs.Loads.{LoadsHomes}
 use Rattle.update_in_place.specs.Marks.{told_parts}

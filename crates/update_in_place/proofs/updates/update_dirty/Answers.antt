@@ -1,7 +1,7 @@
 use Rattle.std.proofs.Common.{◌∙◌, sym, ap}
 use Rattle.elf_object.specs.Object.{is_dirty}
 use Rattle.elf_object.specs.Layout.{placed}
-use Rattle.update_plan.proofs.PlacingLaws.{refused_answer}
+use Rattle.elf_update.proofs.update_plan.PlacingLaws.{refused_answer}
 use Rattle.elf_update.proofs.UpdateLaws.{wants_passed, planned_answer}
 use Rattle.update_moves.proofs.TornLaws.{torn_placed, torn_is_dirty}
 use Rattle.update_in_place.proofs.EndLaws.{failed_answer, refused, failed, may_settle, ended}

@@ -1,5 +1,5 @@
 use Rattle.std.proofs.Common.{◌∙◌, ℕ, Ok, sym, ap}
-use Rattle.update_plan.proofs.PlacingLaws.{clean_answer}
+use Rattle.elf_update.proofs.update_plan.PlacingLaws.{clean_answer}
 use Rattle.update_in_place.proofs.updates.update_in_place.Goals as goal
 
 pub returns-clause-answer : goal.returns-clause-answer

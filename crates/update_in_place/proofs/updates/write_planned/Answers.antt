@@ -1,5 +1,5 @@
 use Rattle.std.proofs.Common.{◌∙◌, ap, inl}
-use Rattle.elf_descriptor.specs.State.{State}
+use Rattle.elf_update.specs.elf_descriptor.State.{State}
 use Rattle.update_in_place.proofs.WriteLaws.{begins, written, written_err}
 use Rattle.update_in_place.proofs.updates.write_planned.Goals as goal
 

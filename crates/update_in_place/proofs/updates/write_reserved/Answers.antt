@@ -1,6 +1,6 @@
 use Rattle.std.proofs.Common.{◌∙◌, Bool, List, length, refl, sym, ap, inl, subst}
 use Rattle.elf_object.specs.Object.{Object}
-use Rattle.elf_descriptor.specs.State.{State}
+use Rattle.elf_update.specs.elf_descriptor.State.{State}
 use Rattle.elf_update.specs.Updates.{IsPlanned}
 use Rattle.update_moves.specs.Changes.{TellsChanges}
 use Rattle.update_in_place.specs.Rooms.{IsTaken}

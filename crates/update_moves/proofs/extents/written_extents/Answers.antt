@@ -1,6 +1,6 @@
 use Rattle.std.proofs.Common.{◌∙◌, sym, ap, map, refl, List, arith}
 use Rattle.elf_layout.specs.declared.parts.PartAt.{PartAt}
-use Rattle.update_plan.specs.Plans.{no_part}
+use Rattle.elf_update.specs.update_plan.Plans.{no_part}
 use Rattle.elf_update.proofs.UpdateLaws.{planned_end}
 use Rattle.update_moves.specs.Written.{part_changed, written_line}
 use Rattle.update_moves.specs.Extents.{block_extents}

@@ -1,5 +1,5 @@
 use Rattle.std.proofs.Common.{arith}
-use Rattle.elf_object.specs.Answers.{part_refusal}
+use Rattle.elf_update.specs.elf_object.Answers.{part_refusal}
 use Rattle.update_moves.proofs.SectionLaws.{piece_there, some_piece, more_pieces, no_pieces}
 use Rattle.update_moves.proofs.marks.some_piece_is_marked.Goals as goal
 

@@ -1,6 +1,6 @@
 use Rattle.std.proofs.Common.{arith}
-use Rattle.update_plan.proofs.RowLaws.{ok_is}
-use Rattle.elf_object.specs.Answers.{part_refusal}
+use Rattle.elf_update.proofs.update_plan.RowLaws.{ok_is}
+use Rattle.elf_update.specs.elf_object.Answers.{part_refusal}
 use Rattle.update_moves.proofs.SectionLaws.{section_there, some_section, more_sections}
 use Rattle.update_moves.proofs.marks.some_section_is_marked.Goals as goal
 

@@ -1,5 +1,5 @@
 use Rattle.std.proofs.Common.{arith}
-use Rattle.elf_object.specs.Object.{section_at}
+use Rattle.elf_update.specs.elf_object.Object.{section_at}
 use Rattle.elf_update.proofs.UpdateLaws.{planned_end}
 use Rattle.update_moves.proofs.ExtentLaws.{written_apart, home_met, home_cut, home_empty}
 use Rattle.update_moves.proofs.moves.home_is_disturbed.Goals as goal

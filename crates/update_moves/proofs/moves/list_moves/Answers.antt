@@ -1,5 +1,5 @@
 use Rattle.std.proofs.Common.{arith}
-use Rattle.elf_object.specs.Changed.{is_moved}
+use Rattle.elf_update.specs.elf_object.Changed.{is_moved}
 use Rattle.update_moves.proofs.SectionLaws.{answers_more}
 use Rattle.update_moves.proofs.moves.list_moves.Goals as goal
 

@@ -1,6 +1,6 @@
 use Rattle.std.proofs.Common.{◌≡◌, ◌≤◌, map}
 use Rattle.std.specs.List.{range_with_len}
-use Rattle.elf_object.specs.Changed.{is_moved}
+use Rattle.elf_update.specs.elf_object.Changed.{is_moved}
 use Rattle.update_moves.proofs.moves.list_moves.Given as goal
 
 abbrev pub invariant-loop-s : goal.invariant-loop-s

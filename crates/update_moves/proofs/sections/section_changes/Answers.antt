@@ -1,5 +1,5 @@
 use Rattle.std.proofs.Common.{◌∙◌, sym}
-use Rattle.update_plan.proofs.InFileLaws.{inside_of}
+use Rattle.elf_update.proofs.update_plan.InFileLaws.{inside_of}
 use Rattle.update_moves.proofs.sections.section_changes.Goals as goal
 
 pub some_piece_is_marked-requires : goal.some_piece_is_marked-requires

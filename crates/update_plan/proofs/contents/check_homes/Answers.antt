@@ -1,6 +1,6 @@
 use Rattle.std.proofs.Common.{arith}
-use Rattle.elf_object.specs.Object.{absent_section, section_at}
-use Rattle.elf_object.specs.Refusal.{missing_in_section}
+use Rattle.elf_descriptor.specs.elf_object.Object.{absent_section, section_at}
+use Rattle.elf_descriptor.specs.elf_object.Refusal.{missing_in_section}
 use Rattle.update_plan.proofs.RowLaws.{ok_is, none_at_first}
 use Rattle.update_plan.proofs.ContentLaws.{row_stop, row_end, row_goes_on, home_answered}
 use Rattle.update_plan.proofs.contents.check_homes.Goals as goal

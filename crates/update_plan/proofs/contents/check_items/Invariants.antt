@@ -1,5 +1,5 @@
-use Rattle.elf_object.specs.Object.{absent_section}
-use Rattle.elf_object.specs.Refusal.{unfit_in_section}
+use Rattle.elf_descriptor.specs.elf_object.Object.{absent_section}
+use Rattle.elf_descriptor.specs.elf_object.Refusal.{unfit_in_section}
 use Rattle.update_plan.proofs.RowLaws.{NoneBefore}
 use Rattle.update_plan.proofs.contents.check_items.Given as goal
 

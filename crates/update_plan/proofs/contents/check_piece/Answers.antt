@@ -1,7 +1,7 @@
 use Rattle.std.proofs.Common.{◌∙◌, ap}
 use Rattle.elf_types.specs.declared.records.Class.{Class}
-use Rattle.elf_xlate.specs.Translation.{first_unfit}
-use Rattle.elf_object.specs.Object.{piece_at}
+use Rattle.elf_descriptor.specs.elf_xlate.Translation.{first_unfit}
+use Rattle.elf_descriptor.specs.elf_object.Object.{piece_at}
 use Rattle.update_plan.proofs.RowLaws.{class_is}
 use Rattle.update_plan.proofs.ContentLaws.{unfit_some, unfit_none}
 use Rattle.update_plan.proofs.contents.check_piece.Goals as goal

@@ -1,6 +1,6 @@
 use Rattle.std.proofs.Common.{sym, ◌∙◌, arith}
-use Rattle.elf_object.specs.Object.{home_piece, section_at, piece_at}
-use Rattle.elf_object.specs.Refusal.{unfit_in_piece}
+use Rattle.elf_descriptor.specs.elf_object.Object.{home_piece, section_at, piece_at}
+use Rattle.elf_descriptor.specs.elf_object.Refusal.{unfit_in_piece}
 use Rattle.update_plan.proofs.RowLaws.{none_at_first}
 use Rattle.update_plan.proofs.ContentLaws.{row_stop, row_end, row_goes_on, no_pieces, some_pieces, count_is}
 use Rattle.update_plan.proofs.contents.check_pieces.Goals as goal

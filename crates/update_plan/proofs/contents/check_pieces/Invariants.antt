@@ -1,5 +1,5 @@
-use Rattle.elf_object.specs.Object.{home_piece, section_at}
-use Rattle.elf_object.specs.Refusal.{unfit_in_piece}
+use Rattle.elf_descriptor.specs.elf_object.Object.{home_piece, section_at}
+use Rattle.elf_descriptor.specs.elf_object.Refusal.{unfit_in_piece}
 use Rattle.update_plan.proofs.RowLaws.{NoneBefore}
 use Rattle.update_plan.proofs.contents.check_pieces.Given as goal
 

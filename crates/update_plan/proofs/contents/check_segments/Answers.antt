@@ -1,6 +1,6 @@
 use Rattle.std.proofs.Common.{sym, ◌∙◌, arith}
-use Rattle.elf_xlate.specs.Headers.{phdr_fits}
-use Rattle.elf_object.specs.Object.{no_phdr}
+use Rattle.elf_descriptor.specs.elf_xlate.Headers.{phdr_fits}
+use Rattle.elf_descriptor.specs.elf_object.Object.{no_phdr}
 use Rattle.update_plan.proofs.RowLaws.{ok_is}
 use Rattle.update_plan.proofs.SegmentLaws.{pass_at_first, pass_more}
 use Rattle.update_plan.proofs.ContentLaws.{segments_stop, segments_end}

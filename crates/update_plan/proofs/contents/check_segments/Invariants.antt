@@ -1,5 +1,5 @@
-use Rattle.elf_xlate.specs.Headers.{phdr_fits}
-use Rattle.elf_object.specs.Object.{no_phdr}
+use Rattle.elf_descriptor.specs.elf_xlate.Headers.{phdr_fits}
+use Rattle.elf_descriptor.specs.elf_object.Object.{no_phdr}
 use Rattle.update_plan.proofs.SegmentLaws.{PassBefore}
 use Rattle.update_plan.proofs.contents.check_segments.Given as goal
 

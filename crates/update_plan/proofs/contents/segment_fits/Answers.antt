@@ -2,8 +2,8 @@ use Rattle.std.proofs.Common.{◌∙◌, ap}
 use Rattle.std.proofs.lemmas.List.{get_or_default}
 use Rattle.elf_types.specs.declared.records.Class.{Class}
 use Rattle.elf_types.specs.declared.records.Phdr.{Phdr}
-use Rattle.elf_xlate.specs.Headers.{phdr_fits}
-use Rattle.elf_object.specs.Object.{no_phdr}
+use Rattle.elf_descriptor.specs.elf_xlate.Headers.{phdr_fits}
+use Rattle.elf_descriptor.specs.elf_object.Object.{no_phdr}
 use Rattle.update_plan.proofs.RowLaws.{class_is}
 use Rattle.update_plan.proofs.contents.segment_fits.Goals as goal
 

@@ -1,5 +1,5 @@
 use Rattle.std.proofs.Common.{◌∙◌, ◌++◌, ◌∷◌, [], List, ap}
-use Rattle.elf_layout.specs.declared.parts.PartAt.{PartAt}
+use Rattle.elf_descriptor.specs.elf_layout.declared.parts.PartAt.{PartAt}
 use Rattle.update_plan.proofs.PartLaws.{listed_steps}
 use Rattle.update_plan.proofs.parts.list_parts.Goals as goal
 

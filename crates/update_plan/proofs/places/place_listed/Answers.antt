@@ -1,7 +1,7 @@
 use Rattle.std.proofs.Common.{◌∙◌, sym, subst, Result}
 use Rattle.elf_types.specs.declared.errors.ElfError.{ElfError}
-use Rattle.elf_layout.specs.declared.parts.Places.{Places}
-use Rattle.elf_layout.specs.Layout.{placing}
+use Rattle.elf_descriptor.specs.elf_layout.declared.parts.Places.{Places}
+use Rattle.elf_descriptor.specs.elf_layout.Layout.{placing}
 use Rattle.update_plan.specs.Placing.{IsUnplaced}
 use Rattle.update_plan.proofs.RowLaws.{ok_is}
 use Rattle.update_plan.proofs.PlacingLaws.{placing_same, unplaced}

@@ -1,6 +1,6 @@
 use Rattle.std.proofs.Common.{inr}
 use Rattle.update_plan.proofs.PlacingLaws.{contents_refused, passed_from, refused_from, wants_as, placed_ok, placed_err}
-use Rattle.elf_object.specs.Refusal.{content_refusal}
+use Rattle.elf_descriptor.specs.elf_object.Refusal.{content_refusal}
 use Rattle.update_plan.proofs.places.place_parts.Goals as goal
 
 pub returns-in-Err-clause-err : goal.returns-in-Err-clause-err

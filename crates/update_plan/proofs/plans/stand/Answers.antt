@@ -1,5 +1,5 @@
 use Rattle.std.proofs.Common.{List, length, ap, arith}
-use Rattle.elf_layout.specs.declared.parts.PartAt.{PartAt}
+use Rattle.elf_descriptor.specs.elf_layout.declared.parts.PartAt.{PartAt}
 use Rattle.update_plan.proofs.PartLaws.{length-stood, stands_more, stands_all}
 use Rattle.update_plan.proofs.plans.stand.Goals as goal
 

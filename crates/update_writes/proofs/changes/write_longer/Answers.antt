@@ -1,5 +1,5 @@
 use Rattle.std.proofs.Common.{Err, ap, ◌∙◌, arith}
-use Rattle.elf_object.specs.Object.{Object}
+use Rattle.elf_update.specs.elf_object.Object.{Object}
 use Rattle.elf_update.proofs.UpdateLaws.{planned_end}
 use Rattle.update_writes.proofs.TornObjects.{torn_marked}
 use Rattle.update_writes.proofs.StepLaws.{writes_of, not_lengthened, longer_begun, walked_longer}

@@ -1,11 +1,11 @@
 use Rattle.std.proofs.Common.{ℕ, List, length, sym, ap, subst, ◌∙◌, arith}
 use Rattle.std.specs.Prelude.{All}
-use Rattle.elf_object.specs.Blocks.{Block}
+use Rattle.elf_update.specs.elf_object.Blocks.{Block}
 use Rattle.elf_layout.specs.declared.parts.PartAt.{PartAt}
 use Rattle.elf_update.specs.Pieces.{blocks_at, HasLength}
 use Rattle.elf_update.specs.Descriptors.{stored_pieces}
 use Rattle.elf_update.proofs.UpdateLaws.{planned_end}
-use Rattle.writing_laws.specs.Lines.{AreInLine}
+use Rattle.elf_update.specs.writing_laws.Lines.{AreInLine}
 use Rattle.update_writes.specs.Walks.{put_blocks, NeedNoRead, MayPutAll, PutsAll}
 use Rattle.update_writes.proofs.BegunLaws.{begun_stored, begun_long, begun_line, line_is, begun_count, begun_may, begun_hand}
 use Rattle.update_writes.proofs.changes.write_over.Goals as goal

@@ -1,7 +1,7 @@
 use Rattle.std.proofs.Common.{Err, sym, ap, subst, arith}
 use Rattle.std.specs.Prelude.{IsTrue}
-use Rattle.elf_descriptor.specs.State.{State}
-use Rattle.elf_descriptor.specs.Cuts.{MaySize}
+use Rattle.elf_update.specs.elf_descriptor.State.{State}
+use Rattle.elf_update.specs.elf_descriptor.Cuts.{MaySize}
 use Rattle.elf_update.proofs.UpdateLaws.{planned_end}
 use Rattle.update_writes.proofs.BegunLaws.{begun_size}
 use Rattle.update_writes.proofs.OverLaws.{size_on}

@@ -1,6 +1,6 @@
 use Rattle.std.proofs.Common.{◌+◌, ◌≤◌, Ok, Err, length, take, sym, subst, ap, ◌∙◌, arith}
 use Rattle.std.proofs.lemmas.List.{length-replicate}
-use Rattle.elf_descriptor.specs.Cuts.{MayWrite}
+use Rattle.elf_update.specs.elf_descriptor.Cuts.{MayWrite}
 use Rattle.update_writes.proofs.FillLaws.{front_same, fill_may, fill_step, fill_stops}
 use Rattle.update_writes.proofs.fills.write_same.Goals as goal
 

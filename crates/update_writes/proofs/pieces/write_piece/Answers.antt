@@ -1,6 +1,6 @@
 use Rattle.std.proofs.Common.{ℕ, List, ◌+◌, ◌-◌, length, get_or, refl, sym, subst, ap, ◌∙◌, arith}
 use Rattle.std.specs.Int.{next_multiple_of}
-use Rattle.object_laws.proofs.PlaceLaws.{rounded_up-ge}
+use Rattle.elf_update.proofs.object_laws.PlaceLaws.{rounded_up-ge}
 use Rattle.elf_update.specs.Origins.{absent_piece}
 use Rattle.elf_update.specs.Descriptors.{stored_pieces}
 use Rattle.elf_update.proofs.PieceLaws.{stands_at}

@@ -1,5 +1,5 @@
 use Rattle.std.proofs.Common.{Bool, sym, subst}
-use Rattle.elf_object.specs.Changed.{when}
+use Rattle.elf_update.specs.elf_object.Changed.{when}
 use Rattle.elf_update.specs.Pieces.{block_at}
 use Rattle.elf_update.specs.Descriptors.{stored_pieces}
 use Rattle.update_writes.specs.Walks.{PutsAll}

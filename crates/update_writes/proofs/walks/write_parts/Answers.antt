@@ -4,7 +4,7 @@ use Rattle.elf_update.specs.Pieces.{HasLength}
 use Rattle.elf_update.specs.Descriptors.{stored_pieces}
 use Rattle.update_writes.proofs.RebaseLaws.{stored_after}
 use Rattle.update_writes.proofs.PutLaws.{all_then}
-use Rattle.update_plan.specs.Plans.{no_part}
+use Rattle.elf_update.specs.update_plan.Plans.{no_part}
 use Rattle.update_writes.proofs.WalkLaws.{walk_starts, gap_may, part_may, part_ends, gap_stops, part_stops, walk_goes_on, last_may, walk_ends, hand_on, long_on, puts_on}
 use Rattle.update_writes.proofs.walks.write_parts.Goals as goal
 

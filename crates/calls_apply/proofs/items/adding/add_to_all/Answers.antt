@@ -1,6 +1,6 @@
 use Rattle.std.proofs.Common.{sym}
 use Rattle.calls_apply.specs.Stated.{stated}
-use Rattle.elf_object.proofs.AnswerLaws.{piece_kind_value}
+use Rattle.symbol_lookup.proofs.elf_object.AnswerLaws.{piece_kind_value}
 use Rattle.calls_apply.proofs.Refusing.{piece_kind_refuses}
 use Rattle.calls_apply.proofs.AddLaws.{piece_missing}
 use Rattle.calls_apply.proofs.items.adding.add_to_all.Goals as goal

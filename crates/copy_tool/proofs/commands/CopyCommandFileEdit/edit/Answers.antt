@@ -1,8 +1,8 @@
 use Rattle.std.proofs.Common.{codes, subst}
 use Rattle.tool_output.specs.Made.{written_outcome}
-use Rattle.elf_descriptor.proofs.BeginAnswers.{begun_clean}
-use Rattle.object_writing.specs.Writes.{WritesFile}
-use Rattle.object_writing.proofs.WriteLemmas.{edits_written, edits_refused}
+use Rattle.strip_tool.proofs.elf_descriptor.BeginAnswers.{begun_clean}
+use Rattle.strip_tool.specs.object_writing.Writes.{WritesFile}
+use Rattle.strip_tool.proofs.object_writing.WriteLemmas.{edits_written, edits_refused}
 use Rattle.strip_tool.proofs.StripLemmas.{begun_over, begun_tied, begun_fits}
 use Rattle.copy_tool.specs.Writes.{Copying, copied_done}
 use Rattle.copy_tool.proofs.commands.CopyCommandFileEdit.edit.Goals as goal

@@ -1,4 +1,4 @@
-use Rattle.object_output.specs.Images.{file_object}
+use Rattle.command_outcomes.specs.object_output.Images.{file_object}
 use Rattle.edit_commands.proofs.RehashLemmas.{rehash_unwritten, rehash_is}
 use Rattle.edit_commands.proofs.commands.rehash.rehash.Goals as goal
 

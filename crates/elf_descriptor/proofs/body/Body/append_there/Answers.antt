@@ -1,7 +1,7 @@
 use Rattle.std.proofs.Common.{◌≡◌, ℕ, length, refl, subst, Ok, Err}
 use Rattle.elf_types.specs.Answers.{answered}
-use Rattle.elf_object.specs.Words.{EditsWith}
-use Rattle.section_data.specs.Refused.{append_refused}
+use Rattle.section_table.specs.elf_object.Words.{EditsWith}
+use Rattle.section_table.specs.section_data.Refused.{append_refused}
 use Rattle.section_table.specs.Sections.{SectionView as Scn}
 use Rattle.elf_descriptor.proofs.Warming.{lent_scn, lent_read}
 use Rattle.elf_descriptor.proofs.EditAppends.{in_section, with_alone, piece_appended, piece_refused}

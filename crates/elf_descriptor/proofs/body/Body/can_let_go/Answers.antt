@@ -1,5 +1,5 @@
 use Rattle.std.proofs.Common.{ap, ◌∙◌}
-use Rattle.section_data.specs.Views.{CellView}
+use Rattle.section_table.specs.section_data.Views.{CellView}
 use Rattle.elf_descriptor.specs.Rooms.{can_forget, can_let_go}
 use Rattle.elf_descriptor.proofs.body.Body.can_let_go.Goals as goal
 

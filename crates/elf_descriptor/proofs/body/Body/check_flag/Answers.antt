@@ -1,4 +1,4 @@
-use Rattle.elf_object.specs.Calls.{flag_refusal}
+use Rattle.section_table.specs.elf_object.Calls.{flag_refusal}
 use Rattle.elf_descriptor.proofs.EditSteps.{first_refused, first_passed}
 use Rattle.elf_descriptor.proofs.body.Body.check_flag.Goals as goal
 

@@ -1,7 +1,7 @@
 use Rattle.std.proofs.Common.{◌≡◌, true, refl, sym, subst}
 use Rattle.std.specs.Prelude.{OnErr, is_some}
-use Rattle.section_data.specs.Held.{piece_in}
-use Rattle.section_data.specs.Leaves.{LiesIn}
+use Rattle.section_table.specs.section_data.Held.{piece_in}
+use Rattle.section_table.specs.section_data.Leaves.{LiesIn}
 use Rattle.section_table.specs.Sections.{SectionView as Scn}
 use Rattle.elf_descriptor.specs.Views.{scn_at}
 use Rattle.elf_descriptor.proofs.Warming.{lent_scn, lent_read, cell_written, warmed_by, warm_held}

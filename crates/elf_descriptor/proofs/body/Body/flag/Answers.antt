@@ -1,6 +1,6 @@
 use Rattle.std.proofs.Common.{sym, ap, ◌∙◌}
-use Rattle.elf_object.specs.Object.{Object}
-use Rattle.elf_object.specs.Answers.{flags_of}
+use Rattle.section_table.specs.elf_object.Object.{Object}
+use Rattle.section_table.specs.elf_object.Answers.{flags_of}
 use Rattle.elf_descriptor.proofs.EditSteps.{passed_with}
 use Rattle.elf_descriptor.proofs.Refusals.{answered_err}
 use Rattle.elf_descriptor.proofs.body.Body.flag.Goals as goal

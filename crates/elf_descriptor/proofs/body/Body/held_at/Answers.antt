@@ -1,6 +1,6 @@
 use Rattle.std.proofs.Common.{◌<◌, List, ℕ, length, Option, refl, sym, subst}
 use Rattle.std.specs.Prelude.{IfSome}
-use Rattle.section_data.specs.Views.{CellView, IsCell}
+use Rattle.section_table.specs.section_data.Views.{CellView, IsCell}
 use Rattle.elf_descriptor.specs.Views.{scn_at}
 use Rattle.elf_descriptor.specs.Held.{IsHeldIn}
 use Rattle.elf_descriptor.proofs.Loaded.{opened_held, cell_where_raw}

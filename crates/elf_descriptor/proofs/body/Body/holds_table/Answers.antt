@@ -1,5 +1,5 @@
 use Rattle.std.proofs.Common.{◌<◌, length, subst, arith}
-use Rattle.section_data.specs.Views.{CellView}
+use Rattle.section_table.specs.section_data.Views.{CellView}
 use Rattle.elf_descriptor.specs.Tables.{HoldsAlone}
 use Rattle.elf_descriptor.proofs.body.Body.holds_table.Goals as goal
 

@@ -1,7 +1,7 @@
 use Rattle.std.proofs.Common.{refl, sym, ap, ◌∙◌}
 use Rattle.std.specs.List.{list_any}
-use Rattle.elf_object.specs.Object.{Piece}
-use Rattle.section_data.specs.Views.{CellView}
+use Rattle.section_table.specs.elf_object.Object.{Piece}
+use Rattle.section_table.specs.section_data.Views.{CellView}
 use Rattle.section_table.proofs.AsOpened.{opened_unmarked}
 use Rattle.elf_descriptor.specs.Views.{scn_at}
 use Rattle.elf_descriptor.proofs.Marks.{header_dirty, pieces_dirty}

@@ -1,9 +1,9 @@
 use Rattle.std.proofs.Common.{◌≡◌, ◌<◌, length, set, refl, sym, ap, subst}
 use Rattle.std.specs.Prelude.{IfSome}
-use Rattle.elf_xlate.specs.Translation.{items_count}
-use Rattle.section_data.specs.Held.{piece_in}
-use Rattle.section_data.specs.Leaves.{OwnsKind}
-use Rattle.section_data.specs.Lends.{with_items}
+use Rattle.section_table.specs.elf_xlate.Translation.{items_count}
+use Rattle.section_table.specs.section_data.Held.{piece_in}
+use Rattle.section_table.specs.section_data.Leaves.{OwnsKind}
+use Rattle.section_table.specs.section_data.Lends.{with_items}
 use Rattle.section_table.specs.Sections.{SectionView as Scn}
 use Rattle.elf_descriptor.proofs.Warming.{lent_read}
 use Rattle.elf_descriptor.proofs.OwnedBodies.{own_is_some, own_is_kind}

@@ -1,5 +1,5 @@
 use Rattle.std.proofs.Common.{length, set, refl, sym, ap, subst, ◌<◌}
-use Rattle.section_data.specs.Views.{CellView}
+use Rattle.section_table.specs.section_data.Views.{CellView}
 use Rattle.section_table.specs.Sections.{SectionView as Scn}
 use Rattle.elf_descriptor.proofs.Warming.{lent_scn, lent_read}
 use Rattle.elf_descriptor.proofs.EditSteps.{piece_marked, marked_there}

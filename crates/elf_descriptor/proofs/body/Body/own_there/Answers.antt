@@ -1,6 +1,6 @@
 use Rattle.std.proofs.Common.{refl, sym, subst}
-use Rattle.section_data.specs.Held.{HeldIs}
-use Rattle.section_data.specs.Leaves.{LiesIn}
+use Rattle.section_table.specs.section_data.Held.{HeldIs}
+use Rattle.section_table.specs.section_data.Leaves.{LiesIn}
 use Rattle.section_table.specs.Sections.{SectionView as Scn}
 use Rattle.elf_descriptor.proofs.Warming.{lent_scn, lent_read}
 use Rattle.elf_descriptor.proofs.OwnedBodies.{owned_by, stays_warmed, stays_held, stays_unchanged}

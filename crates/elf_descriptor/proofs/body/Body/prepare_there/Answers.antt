@@ -1,8 +1,8 @@
 use Rattle.std.proofs.Common.{◌≡◌, ◌≢◌, true, refl, sym, subst}
 use Rattle.std.specs.Prelude.{OnOk, IfErr, IsTrue, is_some}
 use Rattle.elf_types.specs.declared.errors.ElfError.TheVariants.{Memory}
-use Rattle.section_data.specs.Held.{piece_in, piece_holds_items, HeldIs}
-use Rattle.section_data.specs.Leaves.{LiesIn}
+use Rattle.section_table.specs.section_data.Held.{piece_in, piece_holds_items, HeldIs}
+use Rattle.section_table.specs.section_data.Leaves.{LiesIn}
 use Rattle.section_table.specs.Sections.{SectionView as Scn}
 use Rattle.elf_descriptor.specs.Views.{scn_at}
 use Rattle.elf_descriptor.proofs.Warming.{lent_scn, lent_read, cell_written, warmed_by}

@@ -1,7 +1,7 @@
 use Rattle.std.proofs.Common.{◌≡◌, refl, subst}
 use Rattle.elf_types.specs.Answers.{answered}
-use Rattle.elf_object.specs.Words.{handing_back}
-use Rattle.section_data.specs.Refused.{replace_refused}
+use Rattle.section_table.specs.elf_object.Words.{handing_back}
+use Rattle.section_table.specs.section_data.Refused.{replace_refused}
 use Rattle.section_table.specs.Sections.{SectionView as Scn}
 use Rattle.elf_descriptor.proofs.Warming.{lent_scn, lent_read}
 use Rattle.elf_descriptor.proofs.EditPieces.{replace_steps, cell_stays}

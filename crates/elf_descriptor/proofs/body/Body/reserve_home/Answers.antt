@@ -1,4 +1,4 @@
-use Rattle.section_data.specs.Refused.{home_out}
+use Rattle.section_table.specs.section_data.Refused.{home_out}
 use Rattle.elf_descriptor.specs.Bodies.{no_raw_in}
 use Rattle.elf_descriptor.specs.Views.{no_scn, scn_at}
 use Rattle.elf_descriptor.proofs.Keeping.{so_same, first_then, refused_first}

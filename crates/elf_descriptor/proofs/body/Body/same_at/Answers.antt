@@ -1,7 +1,7 @@
 use Rattle.std.proofs.Common.{◌≡◌, ◌∙◌, ℕ, ◌+◌, refl, ap, subst, arith}
 use Rattle.std.specs.Prelude.{slice_index}
 use Rattle.elf_types.specs.declared.records.Shdr.{Shdr}
-use Rattle.elf_xlate.specs.Headers.{IsShdr}
+use Rattle.section_table.specs.elf_xlate.Headers.{IsShdr}
 use Rattle.elf_descriptor.specs.Views.{scn_at}
 use Rattle.elf_descriptor.proofs.FrontTables.{shdr_read, decides_at}
 use Rattle.elf_descriptor.proofs.body.Body.same_at.Goals as goal

@@ -1,5 +1,5 @@
 use Rattle.std.proofs.Common.{◌≡◌, ◌∙◌, true, false, sym}
-use Rattle.elf_xlate.specs.Headers.{IsPhdr}
+use Rattle.section_table.specs.elf_xlate.Headers.{IsPhdr}
 use Rattle.elf_descriptor.proofs.FrontTables.{segments_elsewhere, segments_compared, compares_is}
 use Rattle.elf_descriptor.proofs.body.Body.same_segments.Goals as goal
 

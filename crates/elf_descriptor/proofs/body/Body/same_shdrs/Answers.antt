@@ -1,5 +1,5 @@
 use Rattle.std.proofs.Common.{◌≡◌, ◌∙◌, true, false, sym, arith, below_more}
-use Rattle.elf_ident.specs.Front.{zero_shdr}
+use Rattle.section_table.specs.elf_ident.Front.{zero_shdr}
 use Rattle.elf_descriptor.proofs.FrontTables.{row_here, row_differs, found_below, same_lists, stored_count, true_is_false}
 use Rattle.elf_descriptor.proofs.body.Body.same_shdrs.Goals as goal
 

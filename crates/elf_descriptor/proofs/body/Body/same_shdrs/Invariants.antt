@@ -1,5 +1,5 @@
 -- The section headers so far are the same.
-use Rattle.elf_ident.specs.Front.{zero_shdr}
+use Rattle.section_table.specs.elf_ident.Front.{zero_shdr}
 use Rattle.elf_descriptor.specs.Fronts.{stored_shdrs}
 use Rattle.elf_descriptor.proofs.FrontTables.{SameBelow}
 use Rattle.elf_descriptor.proofs.body.Body.same_shdrs.Given as goal

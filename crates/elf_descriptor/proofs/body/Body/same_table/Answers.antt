@@ -1,5 +1,5 @@
 use Rattle.std.proofs.Common.{◌≡◌, ◌∙◌, true, false, length, refl, sym, ap, arith}
-use Rattle.elf_xlate.specs.Headers.{IsShdr}
+use Rattle.section_table.specs.elf_xlate.Headers.{IsShdr}
 use Rattle.elf_descriptor.specs.Fronts.{stored_shdrs}
 use Rattle.elf_descriptor.proofs.FrontTables.{table_elsewhere, table_compared, compares_is, stored_count}
 use Rattle.elf_descriptor.proofs.body.Body.same_table.Goals as goal

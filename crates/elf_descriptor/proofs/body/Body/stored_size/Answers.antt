@@ -1,6 +1,6 @@
 use Rattle.std.proofs.Common.{ap, ◌∙◌}
 use Rattle.elf_types.specs.declared.records.Shdr.{Shdr}
-use Rattle.section_data.specs.Views.{CellView}
+use Rattle.section_table.specs.section_data.Views.{CellView}
 use Rattle.elf_descriptor.specs.Views.{scn_at}
 use Rattle.elf_descriptor.specs.Places.{size_to_store, stored_size}
 use Rattle.elf_descriptor.proofs.body.Body.stored_size.Goals as goal

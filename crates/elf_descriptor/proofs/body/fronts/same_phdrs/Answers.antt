@@ -1,5 +1,5 @@
 use Rattle.std.proofs.Common.{◌≡◌, true, false, sym, ◌∙◌, arith, below_more}
-use Rattle.elf_object.specs.Object.{no_phdr}
+use Rattle.section_table.specs.elf_object.Object.{no_phdr}
 use Rattle.elf_descriptor.proofs.FrontTables.{same_here, same_lists, true_is_false}
 use Rattle.elf_descriptor.proofs.body.fronts.same_phdrs.Goals as goal
 

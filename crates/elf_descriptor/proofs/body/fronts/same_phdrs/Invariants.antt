@@ -1,5 +1,5 @@
 -- The program headers so far are the same.
-use Rattle.elf_object.specs.Object.{no_phdr}
+use Rattle.section_table.specs.elf_object.Object.{no_phdr}
 use Rattle.elf_descriptor.proofs.FrontTables.{SameBelow}
 use Rattle.elf_descriptor.proofs.body.fronts.same_phdrs.Given as goal
 

@@ -1,5 +1,5 @@
 use Rattle.std.proofs.Common.{refl, arith}
-use Rattle.elf_xlate.specs.Headers.{IsPhdr}
+use Rattle.section_table.specs.elf_xlate.Headers.{IsPhdr}
 use Rattle.elf_descriptor.proofs.Settling.{item_copied, item_known}
 use Rattle.elf_descriptor.proofs.body.settling.copy_phdrs.Goals as goal
 

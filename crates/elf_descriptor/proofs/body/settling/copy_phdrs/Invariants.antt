@@ -1,7 +1,7 @@
 -- The program headers so far.
 use Rattle.std.specs.Prelude.{All}
 use Rattle.std.proofs.Common.{take}
-use Rattle.elf_xlate.specs.Headers.{IsPhdr}
+use Rattle.section_table.specs.elf_xlate.Headers.{IsPhdr}
 use Rattle.elf_descriptor.proofs.Settling.{IsCopying}
 use Rattle.elf_descriptor.proofs.body.settling.copy_phdrs.Given as goal
 

@@ -1,5 +1,5 @@
 use Rattle.std.proofs.Common.{◌+◌, refl}
-use Rattle.elf_ident.specs.Front.{front_bytes, most_front_bytes}
+use Rattle.section_table.specs.elf_ident.Front.{front_bytes, most_front_bytes}
 use Rattle.elf_descriptor.proofs.BeginAnswers.{opened_told, opened_refused, over_answers, over_begun, over_asks, over_bound}
 use Rattle.elf_descriptor.proofs.descriptor.Elf.begin.Goals as goal
 

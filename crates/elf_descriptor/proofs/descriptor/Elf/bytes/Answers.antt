@@ -1,10 +1,10 @@
 use Rattle.std.proofs.Common.{◌≡◌, ℕ, List, length, Option, Some, true≢false, is_some, sym, ap, ◌∙◌, subst}
 use Rattle.std.specs.Prelude.{IsTrue}
-use Rattle.elf_object.specs.Words.{AlikeBytes}
-use Rattle.elf_object.specs.Object.{section_at}
-use Rattle.elf_object.specs.Due.{is_loaded}
-use Rattle.section_data.specs.Views.{CellView, IsCell}
-use Rattle.section_data.specs.Held.{cell_is_loaded}
+use Rattle.section_table.specs.elf_object.Words.{AlikeBytes}
+use Rattle.section_table.specs.elf_object.Object.{section_at}
+use Rattle.section_table.specs.elf_object.Due.{is_loaded}
+use Rattle.section_table.specs.section_data.Views.{CellView, IsCell}
+use Rattle.section_table.specs.section_data.Held.{cell_is_loaded}
 use Rattle.elf_descriptor.specs.State.{State}
 use Rattle.elf_descriptor.proofs.Loaded.{loaded_is, loaded_there, raw_alike, raw_exact, raw_is}
 use Rattle.elf_descriptor.proofs.descriptor.Elf.bytes.Goals as goal

@@ -1,6 +1,6 @@
 use Rattle.std.proofs.Common.{◌≡◌, sym, ap, ◌∙◌, subst}
 use Rattle.elf_types.specs.Answers.{answered}
-use Rattle.elf_object.specs.Calls.{update_item_refusal}
+use Rattle.section_table.specs.elf_object.Calls.{update_item_refusal}
 use Rattle.elf_descriptor.specs.State.{State}
 use Rattle.elf_descriptor.specs.Views.{object_of}
 use Rattle.elf_descriptor.proofs.StoreCalls.{store_refusal_is}

@@ -1,9 +1,9 @@
 use Rattle.std.proofs.Common.{true, refl, ap, ◌∙◌, subst}
-use Rattle.elf_object.specs.Words.{AlikeItems}
-use Rattle.elf_object.specs.Object.{Object}
-use Rattle.elf_object.specs.Answers.{data_refusal, items_at}
-use Rattle.elf_object.specs.Calls.{data_answer}
-use Rattle.elf_object.specs.Calls as calls
+use Rattle.section_table.specs.elf_object.Words.{AlikeItems}
+use Rattle.section_table.specs.elf_object.Object.{Object}
+use Rattle.section_table.specs.elf_object.Answers.{data_refusal, items_at}
+use Rattle.section_table.specs.elf_object.Calls.{data_answer}
+use Rattle.section_table.specs.elf_object.Calls as calls
 use Rattle.elf_descriptor.specs.Reads.{wanted}
 use Rattle.elf_descriptor.proofs.Refusals.{answers_passed}
 use Rattle.elf_descriptor.proofs.Handing.{handed, handed_like, refused_step, queries_ok, queries_err}

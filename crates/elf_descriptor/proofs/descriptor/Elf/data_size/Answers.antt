@@ -1,8 +1,8 @@
 use Rattle.std.proofs.Common.{◌≡◌, ◌-◌, ◌^◌, ◌∙◌, subst}
 use Rattle.std.specs.Prelude.{min}
 use Rattle.elf_types.specs.Answers.{answered}
-use Rattle.elf_object.specs.Answers.{no_section}
-use Rattle.elf_object.specs.Joined.{pieces_end}
+use Rattle.section_table.specs.elf_object.Answers.{no_section}
+use Rattle.section_table.specs.elf_object.Joined.{pieces_end}
 use Rattle.elf_descriptor.specs.State.{State}
 use Rattle.elf_descriptor.proofs.Sizes.{size_answer}
 use Rattle.elf_descriptor.proofs.descriptor.Elf.data_size.Goals as goal

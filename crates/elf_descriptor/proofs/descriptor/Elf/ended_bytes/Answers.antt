@@ -1,10 +1,10 @@
 use Rattle.std.proofs.Common.{ℕ, List, Option, true≢false, is_some, sym, ap, ◌∙◌, subst}
 use Rattle.std.specs.Prelude.{IsTrue, IfSome}
-use Rattle.elf_object.specs.Object.{section_at}
-use Rattle.elf_object.specs.Due.{is_loaded}
-use Rattle.section_data.specs.Views.{CellView}
-use Rattle.section_data.specs.Held.{cell_is_loaded}
-use Rattle.section_data.specs.Nuls.{IsEndedFront}
+use Rattle.section_table.specs.elf_object.Object.{section_at}
+use Rattle.section_table.specs.elf_object.Due.{is_loaded}
+use Rattle.section_table.specs.section_data.Views.{CellView}
+use Rattle.section_table.specs.section_data.Held.{cell_is_loaded}
+use Rattle.section_table.specs.section_data.Nuls.{IsEndedFront}
 use Rattle.elf_descriptor.specs.State.{State}
 use Rattle.elf_descriptor.specs.Views.{scn_at}
 use Rattle.elf_descriptor.proofs.Loaded.{loaded_is, loaded_there, raw_ended, raw_is}

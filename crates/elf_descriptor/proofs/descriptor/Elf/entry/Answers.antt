@@ -1,12 +1,12 @@
 use Rattle.std.proofs.Common.{◌≡◌, ◌<◌, length, None, sym, ◌∙◌, subst}
 use Rattle.std.specs.Prelude.{IsTrue, is_some, ◌||◌}
-use Rattle.elf_object.specs.Words.{Answers}
-use Rattle.elf_object.specs.Object.{piece_at}
-use Rattle.elf_object.specs.Answers.{lend_refusal, items_at, entry_at}
-use Rattle.elf_object.specs.Due.{is_loaded}
-use Rattle.elf_xlate.specs.Items.{item_size}
-use Rattle.section_data.specs.Views.{CellView, IsCell}
-use Rattle.section_data.specs.Held.{kind_in, is_at_hand, items_in}
+use Rattle.section_table.specs.elf_object.Words.{Answers}
+use Rattle.section_table.specs.elf_object.Object.{piece_at}
+use Rattle.section_table.specs.elf_object.Answers.{lend_refusal, items_at, entry_at}
+use Rattle.section_table.specs.elf_object.Due.{is_loaded}
+use Rattle.section_table.specs.elf_xlate.Items.{item_size}
+use Rattle.section_table.specs.section_data.Views.{CellView, IsCell}
+use Rattle.section_table.specs.section_data.Held.{kind_in, is_at_hand, items_in}
 use Rattle.elf_descriptor.specs.State.{State}
 use Rattle.elf_descriptor.specs.Views.{scn_at}
 use Rattle.elf_descriptor.proofs.ListedCells.{list_passed}

@@ -1,7 +1,7 @@
 use Rattle.std.proofs.Common.{true, subst}
 use Rattle.elf_types.specs.Answers.{answered}
-use Rattle.elf_object.specs.Words.{Answers}
-use Rattle.elf_object.specs.Answers.{lend_refusal}
+use Rattle.section_table.specs.elf_object.Words.{Answers}
+use Rattle.section_table.specs.elf_object.Answers.{lend_refusal}
 use Rattle.elf_descriptor.specs.State.{State}
 use Rattle.elf_descriptor.specs.Views.{state_of}
 use Rattle.elf_descriptor.specs.Entries.{entry}

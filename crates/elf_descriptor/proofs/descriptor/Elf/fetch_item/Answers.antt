@@ -1,7 +1,7 @@
 use Rattle.std.proofs.Common.{Bool, true, ap, ◌∙◌, subst}
-use Rattle.elf_object.specs.Object.{Object}
-use Rattle.elf_object.specs.Words.{Answers}
-use Rattle.elf_object.specs.Answers.{lend_refusal, items_at, entry_at}
+use Rattle.section_table.specs.elf_object.Object.{Object}
+use Rattle.section_table.specs.elf_object.Words.{Answers}
+use Rattle.section_table.specs.elf_object.Answers.{lend_refusal, items_at, entry_at}
 use Rattle.elf_descriptor.specs.Entries.{entry}
 use Rattle.elf_descriptor.specs.Reads.{wanted}
 use Rattle.elf_descriptor.proofs.Refusals.{answers_passed}

@@ -1,7 +1,7 @@
 use Rattle.std.proofs.Common.{◌≡◌, ◌∙◌, None, sym, subst}
-use Rattle.elf_object.specs.Answers.{no_section}
-use Rattle.section_data.specs.Views.{CellView}
-use Rattle.section_data.specs.Spans.{AreFirstIn}
+use Rattle.section_table.specs.elf_object.Answers.{no_section}
+use Rattle.section_table.specs.section_data.Views.{CellView}
+use Rattle.section_table.specs.section_data.Spans.{AreFirstIn}
 use Rattle.elf_descriptor.specs.State.{State}
 use Rattle.elf_descriptor.specs.FirstPieces.{AreFirst}
 use Rattle.elf_descriptor.proofs.FirstPieces.{section_there, first_is}

@@ -1,6 +1,6 @@
 use Rattle.std.proofs.Common.{◌≡◌, None, sym, subst}
-use Rattle.elf_object.specs.Changed.{front_differs}
-use Rattle.elf_object.specs.Refusal.{content_refusal}
+use Rattle.section_table.specs.elf_object.Changed.{front_differs}
+use Rattle.section_table.specs.elf_object.Refusal.{content_refusal}
 use Rattle.elf_descriptor.specs.Places.{PartsFitAt}
 use Rattle.elf_descriptor.specs.State.{State}
 use Rattle.elf_descriptor.proofs.FittingPlaces.{fitting_count}

@@ -1,6 +1,6 @@
 use Rattle.std.proofs.Common.{◌≡◌, Some, None, sym, ◌∙◌, subst}
-use Rattle.elf_object.proofs.AnswerLaws.{answered_refusal, answered_value}
-use Rattle.elf_object.specs.Answers.{piece_refusal}
+use Rattle.section_table.proofs.elf_object.AnswerLaws.{answered_refusal, answered_value}
+use Rattle.section_table.specs.elf_object.Answers.{piece_refusal}
 use Rattle.elf_descriptor.specs.State.{State}
 use Rattle.elf_descriptor.specs.Held.{IsHeld}
 use Rattle.elf_descriptor.proofs.Objects.{piece_refusal_is}

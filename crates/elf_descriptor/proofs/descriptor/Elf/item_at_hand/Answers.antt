@@ -1,9 +1,9 @@
 use Rattle.std.proofs.Common.{◌<◌, length, Ok, subst, arith}
 use Rattle.std.specs.Prelude.{IfSome}
-use Rattle.elf_object.specs.Words.{Answers}
-use Rattle.elf_xlate.specs.Items.{item_size}
-use Rattle.section_data.specs.Held.{TellsItem}
-use Rattle.section_data.specs.Views.{CellView}
+use Rattle.section_table.specs.elf_object.Words.{Answers}
+use Rattle.section_table.specs.elf_xlate.Items.{item_size}
+use Rattle.section_table.specs.section_data.Held.{TellsItem}
+use Rattle.section_table.specs.section_data.Views.{CellView}
 use Rattle.elf_descriptor.specs.State.{State}
 use Rattle.elf_descriptor.specs.Entries.{entry}
 use Rattle.elf_descriptor.proofs.HandEntries.{told_entry}

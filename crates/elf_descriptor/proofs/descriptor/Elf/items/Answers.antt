@@ -1,10 +1,10 @@
 use Rattle.std.proofs.Common.{◌≡◌, ◌<◌, length, Some, None, true≢false, sym, ◌∙◌, subst}
 use Rattle.std.specs.Prelude.{IsTrue}
-use Rattle.elf_object.specs.Words.{AlikeItems}
-use Rattle.elf_object.specs.Answers.{items_at, data_refusal}
-use Rattle.elf_object.specs.Due.{holds_items}
-use Rattle.section_data.specs.Views.{CellView, IsCell}
-use Rattle.section_data.specs.Held.{piece_holds_items, ready}
+use Rattle.section_table.specs.elf_object.Words.{AlikeItems}
+use Rattle.section_table.specs.elf_object.Answers.{items_at, data_refusal}
+use Rattle.section_table.specs.elf_object.Due.{holds_items}
+use Rattle.section_table.specs.section_data.Views.{CellView, IsCell}
+use Rattle.section_table.specs.section_data.Held.{piece_holds_items, ready}
 use Rattle.section_table.proofs.AsOpened.{opened_unready}
 use Rattle.elf_descriptor.specs.State.{State}
 use Rattle.elf_descriptor.proofs.ListedCells.{items_passed}

@@ -1,6 +1,6 @@
 use Rattle.std.proofs.Common.{[], refl, sym, ap, ◌∙◌}
 use Rattle.elf_types.specs.declared.records.Kind.{Kind}
-use Rattle.elf_object.specs.Answers.{count_at}
+use Rattle.section_table.specs.elf_object.Answers.{count_at}
 use Rattle.elf_descriptor.proofs.OwnedCalls.{lend_reads}
 use Rattle.elf_descriptor.proofs.LendCalls.{lent_object, lent_value, lent_count, to_own_then, lent_reads}
 use Rattle.elf_descriptor.proofs.descriptor.Elf.lend.Goals as goal

@@ -1,8 +1,8 @@
 use Rattle.std.proofs.Common.{true, [], subst}
 use Rattle.elf_types.specs.Answers.{answered}
-use Rattle.elf_object.specs.Words.{Answers}
-use Rattle.elf_object.specs.Answers.{raw_refusal}
-use Rattle.elf_object.specs.Calls as calls
+use Rattle.section_table.specs.elf_object.Words.{Answers}
+use Rattle.section_table.specs.elf_object.Answers.{raw_refusal}
+use Rattle.section_table.specs.elf_object.Calls as calls
 use Rattle.elf_descriptor.specs.State.{State}
 use Rattle.elf_descriptor.specs.Views.{state_of}
 use Rattle.elf_descriptor.specs.Reads.{Queries, wanted}

@@ -1,7 +1,7 @@
 use Rattle.std.proofs.Common.{◌≡◌, length, subst}
 use Rattle.std.specs.Prelude.{OnErr}
-use Rattle.elf_object.specs.Words.{Edits}
-use Rattle.elf_object.specs.Calls as calls
+use Rattle.section_table.specs.elf_object.Words.{Edits}
+use Rattle.section_table.specs.elf_object.Calls as calls
 use Rattle.elf_descriptor.specs.State.{State}
 use Rattle.elf_descriptor.specs.Views.{state_of}
 use Rattle.elf_descriptor.specs.Edits.{nulled}

@@ -1,11 +1,11 @@
 use Rattle.std.proofs.Common.{true, [], sym, ◌∙◌, subst}
 use Rattle.std.specs.Prelude.{OnOk, OnErr}
 use Rattle.elf_types.specs.Answers.{answered}
-use Rattle.elf_object.specs.Words.{Answers}
-use Rattle.elf_object.specs.Answers.{lend_refusal, items_at}
-use Rattle.elf_object.specs.Steps.{BecomesOwn}
-use Rattle.elf_object.specs.Calls.{due}
-use Rattle.elf_object.specs.Calls as calls
+use Rattle.section_table.specs.elf_object.Words.{Answers}
+use Rattle.section_table.specs.elf_object.Answers.{lend_refusal, items_at}
+use Rattle.section_table.specs.elf_object.Steps.{BecomesOwn}
+use Rattle.section_table.specs.elf_object.Calls.{due}
+use Rattle.section_table.specs.elf_object.Calls as calls
 use Rattle.elf_descriptor.specs.State.{State}
 use Rattle.elf_descriptor.specs.Views.{state_of}
 use Rattle.elf_descriptor.specs.Reads.{Queries, wanted}

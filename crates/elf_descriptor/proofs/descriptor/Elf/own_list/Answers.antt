@@ -1,9 +1,9 @@
 use Rattle.std.proofs.Common.{◌≡◌, Option, refl, sym, ap, ◌∙◌, subst}
 use Rattle.std.specs.Prelude.{IfSome, length}
-use Rattle.elf_xlate.specs.declared.content.Items.{Items}
-use Rattle.elf_xlate.specs.Translation.{items_count}
-use Rattle.elf_object.specs.Object.{Piece, piece_at}
-use Rattle.elf_object.specs.Steps.{with_own}
+use Rattle.section_table.specs.elf_xlate.declared.content.Items.{Items}
+use Rattle.section_table.specs.elf_xlate.Translation.{items_count}
+use Rattle.section_table.specs.elf_object.Object.{Piece, piece_at}
+use Rattle.section_table.specs.elf_object.Steps.{with_own}
 use Rattle.elf_descriptor.specs.State.{State}
 use Rattle.elf_descriptor.specs.Owned.{IsOwnPiece}
 use Rattle.elf_descriptor.proofs.Objects.{piece_is}

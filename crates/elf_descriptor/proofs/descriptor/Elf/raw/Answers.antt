@@ -1,8 +1,8 @@
 use Rattle.std.proofs.Common.{true, [], length, refl, ap, ◌∙◌}
-use Rattle.elf_object.specs.Words.{AlikeBytes}
-use Rattle.elf_object.specs.Object.{Object, section_at}
-use Rattle.elf_object.specs.Calls.{raw_answer}
-use Rattle.elf_object.specs.Calls as calls
+use Rattle.section_table.specs.elf_object.Words.{AlikeBytes}
+use Rattle.section_table.specs.elf_object.Object.{Object, section_at}
+use Rattle.section_table.specs.elf_object.Calls.{raw_answer}
+use Rattle.section_table.specs.elf_object.Calls as calls
 use Rattle.elf_descriptor.specs.Reads.{wanted}
 use Rattle.elf_descriptor.proofs.Refusals.{answers_passed}
 use Rattle.elf_descriptor.proofs.Handing.{handed, handed_like, refused_step, queries_ok, queries_err}

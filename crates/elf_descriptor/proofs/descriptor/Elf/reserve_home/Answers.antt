@@ -1,7 +1,7 @@
 use Rattle.std.proofs.Common.{subst}
 use Rattle.elf_types.specs.Answers.{answered}
-use Rattle.elf_object.specs.Words.{Edits}
-use Rattle.elf_object.specs.Answers.{raw_refusal}
+use Rattle.section_table.specs.elf_object.Words.{Edits}
+use Rattle.section_table.specs.elf_object.Answers.{raw_refusal}
 use Rattle.elf_descriptor.specs.State.{State}
 use Rattle.elf_descriptor.specs.Views.{state_of}
 use Rattle.elf_descriptor.specs.Rooms.{with_room_for}

@@ -1,9 +1,9 @@
 use Rattle.std.proofs.Common.{◌≡◌, true, length, None, sym, subst}
 use Rattle.std.specs.Prelude.{IsTrue, IfSome}
-use Rattle.elf_object.specs.Object.{is_dirty}
-use Rattle.elf_object.specs.Image.{image}
-use Rattle.elf_object.specs.Layout.{placed}
-use Rattle.elf_object.specs.Refusal.{refusal}
+use Rattle.section_table.specs.elf_object.Object.{is_dirty}
+use Rattle.section_table.specs.elf_object.Image.{image}
+use Rattle.section_table.specs.elf_object.Layout.{placed}
+use Rattle.section_table.specs.elf_object.Refusal.{refusal}
 use Rattle.elf_descriptor.specs.State.{State}
 use Rattle.elf_descriptor.specs.Views.{state_of}
 use Rattle.elf_descriptor.specs.Settling.{settled_state}

@@ -1,7 +1,7 @@
 use Rattle.std.proofs.Common.{◌≡◌, true, None, sym, subst}
-use Rattle.elf_object.specs.Object.{is_dirty}
-use Rattle.elf_object.specs.Layout.{placed, places_of}
-use Rattle.elf_object.specs.Refusal.{refusal}
+use Rattle.section_table.specs.elf_object.Object.{is_dirty}
+use Rattle.section_table.specs.elf_object.Layout.{placed, places_of}
+use Rattle.section_table.specs.elf_object.Refusal.{refusal}
 use Rattle.elf_descriptor.specs.State.{State}
 use Rattle.elf_descriptor.specs.Views.{state_of}
 use Rattle.elf_descriptor.proofs.Placing.{places_for, placed_elf, placed_state}

@@ -1,6 +1,6 @@
 use Rattle.std.proofs.Common.{◌≡◌, ℕ, List, length, sym, ap, ◌∙◌, subst}
 use Rattle.elf_types.specs.Answers.{answered}
-use Rattle.elf_object.specs.Answers.{no_section}
+use Rattle.section_table.specs.elf_object.Answers.{no_section}
 use Rattle.elf_descriptor.specs.State.{State}
 use Rattle.elf_descriptor.specs.Views.{state_of}
 use Rattle.elf_descriptor.specs.Rooms.{unloaded}

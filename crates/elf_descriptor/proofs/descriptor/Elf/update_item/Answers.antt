@@ -1,6 +1,6 @@
 use Rattle.std.proofs.Common.{ℕ, ◌*◌, ◌^◌, ◌<◌, ◌≤◌, Fits, w64, arith, length, [], refl, sym, ap, ◌∙◌, subst}
 use Rattle.std.proofs.Math.Nat.{mul-le-mul_right}
-use Rattle.elf_object.proofs.AnswerLaws.{answered_value}
+use Rattle.section_table.proofs.elf_object.AnswerLaws.{answered_value}
 use Rattle.elf_descriptor.proofs.LendLaws.{refilled_set}
 use Rattle.elf_descriptor.proofs.StoreCalls.{store_passed, store_wants, store_edits}
 use Rattle.elf_descriptor.proofs.descriptor.Elf.update_item.Goals as goal

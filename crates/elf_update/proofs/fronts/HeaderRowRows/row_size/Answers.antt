@@ -1,5 +1,5 @@
 use Rattle.std.proofs.Common.{arith}
-use Rattle.elf_xlate.specs.Headers.{ehdr_size}
+use Rattle.update_plan.specs.elf_xlate.Headers.{ehdr_size}
 use Rattle.update_plan.proofs.RowLaws.{ok_is}
 use Rattle.elf_update.proofs.FrontLaws.{sized_back, few_header, header_long}
 use Rattle.elf_update.proofs.fronts.HeaderRowRows.row_size.Goals as goal

@@ -1,6 +1,6 @@
 use Rattle.std.proofs.Common.{◌<◌, ◌^◌, arith, lit<}
 use Rattle.elf_types.specs.declared.constants.TheConstants.{MAX_SECTIONS}
-use Rattle.elf_xlate.specs.Headers.{shdr_size}
+use Rattle.update_plan.specs.elf_xlate.Headers.{shdr_size}
 use Rattle.update_plan.proofs.RowLaws.{ok_is}
 use Rattle.elf_update.proofs.FrontLaws.{sized_back, few_section, table_long}
 use Rattle.elf_update.proofs.fronts.SectionRowsRows.row_size.Goals as goal

@@ -1,6 +1,6 @@
 use Rattle.std.proofs.Common.{sym}
 use Rattle.std.proofs.lemmas.Result.{err_from_is_err_and}
-use Rattle.object_output.proofs.ElfSteps.{elf_as, elf_left, elf_says, elf_stop}
+use Rattle.lint_findings.proofs.object_output.ElfSteps.{elf_as, elf_left, elf_says, elf_stop}
 use Rattle.tool_output.specs.Reports.{shown, joined}
 use Rattle.lint_findings.specs.Findings.{findings_shown, no_findings_line}
 use Rattle.elflint_tool.specs.Rules.{findings, lint_report}

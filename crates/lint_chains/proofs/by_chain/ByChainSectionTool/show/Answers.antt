@@ -1,6 +1,6 @@
 use Rattle.std.proofs.Common.{ℕ, Option, Some, None}
-use Rattle.elf_object.specs.Object.{Object}
-use Rattle.object_output.proofs.ElfSteps.{elf_left, elf_says, elf_says_none, elf_learns, elf_learns_none}
+use Rattle.lint_findings.specs.elf_object.Object.{Object}
+use Rattle.lint_findings.proofs.object_output.ElfSteps.{elf_left, elf_says, elf_says_none, elf_learns, elf_learns_none}
 use Rattle.lint_findings.specs.Findings.{findings_shown}
 use Rattle.lint_findings.proofs.FindingLemmas.{no_findings}
 use Rattle.lint_chains.specs.Chains.{chain_found}

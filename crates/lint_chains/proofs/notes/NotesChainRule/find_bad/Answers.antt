@@ -1,7 +1,7 @@
 use Rattle.std.proofs.Common.{None, sym, ◌∙◌}
-use Rattle.gelf_view.specs.Chains.{notes}
-use Rattle.object_output.proofs.ElfSteps.{elf_left}
-use Rattle.object_output.proofs.LearnLemmas.{learns_as, learns_by}
+use Rattle.lint_findings.specs.gelf_view.Chains.{notes}
+use Rattle.lint_findings.proofs.object_output.ElfSteps.{elf_left}
+use Rattle.lint_findings.proofs.object_output.LearnLemmas.{learns_as, learns_by}
 use Rattle.lint_chains.specs.Chains.{bad_place, note_bad}
 use Rattle.lint_chains.proofs.ChainLemmas.{note_looked, note_passed}
 use Rattle.lint_chains.proofs.notes.NotesChainRule.find_bad.Goals as goal

@@ -1,7 +1,7 @@
 use Rattle.std.proofs.Common.{None, sym, ◌∙◌}
-use Rattle.gelf_view.specs.Chains.{verdefs, verneeds}
-use Rattle.object_output.proofs.ElfSteps.{elf_left}
-use Rattle.object_output.proofs.LearnLemmas.{learns_as, learns_by}
+use Rattle.lint_findings.specs.gelf_view.Chains.{verdefs, verneeds}
+use Rattle.lint_findings.proofs.object_output.ElfSteps.{elf_left}
+use Rattle.lint_findings.proofs.object_output.LearnLemmas.{learns_as, learns_by}
 use Rattle.lint_findings.specs.Looking.{data_bytes}
 use Rattle.lint_chains.specs.Chains.{section_bad, verdef_names_bad, verneed_names_bad, version_bad}
 use Rattle.lint_chains.proofs.ChainLemmas.{definitions_looked, needs_looked, versions_passed}

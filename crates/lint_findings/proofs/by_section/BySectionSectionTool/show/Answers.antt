@@ -1,5 +1,5 @@
 use Rattle.std.proofs.Common.{Bool}
-use Rattle.elf_object.specs.Object.{Object}
+use Rattle.object_output.specs.elf_object.Object.{Object}
 use Rattle.lint_findings.specs.declared.places.Place.TheVariants.{Section}
 use Rattle.lint_findings.specs.Findings.{finding, findings_shown, found_if}
 use Rattle.object_output.proofs.ElfSteps.{elf_left, elf_says, elf_learns, elf_learns_none}

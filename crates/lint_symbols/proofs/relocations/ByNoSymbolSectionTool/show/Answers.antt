@@ -1,6 +1,6 @@
 use Rattle.std.proofs.Common.{ap, sym, ◌∙◌}
 use Rattle.elf_types.specs.declared.records.ScnId.{ScnId}
-use Rattle.object_output.proofs.ElfSteps.{elf_left, elf_as, elf_says_none}
+use Rattle.bytes_at_hand.proofs.object_output.ElfSteps.{elf_left, elf_as, elf_says_none}
 use Rattle.lint_findings.specs.Findings.{findings_shown}
 use Rattle.lint_findings.proofs.FindingLemmas.{no_findings}
 use Rattle.lint_symbols.specs.Relocations.{relocations_at}

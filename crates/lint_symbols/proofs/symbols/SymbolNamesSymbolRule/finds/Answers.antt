@@ -1,7 +1,7 @@
 use Rattle.std.proofs.Common.{ℕ, true, false, Option, IfSome, ap, sym, ◌∙◌, subst}
 use Rattle.std.specs.Prelude.{nat_le, is_none}
 use Rattle.std.proofs.lemmas.Bool.{not-false}
-use Rattle.object_output.proofs.LearnLemmas.{elf_read, learns_now}
+use Rattle.bytes_at_hand.proofs.object_output.LearnLemmas.{elf_read, learns_now}
 use Rattle.bytes_at_hand.specs.Strings.{EndsAt}
 use Rattle.bytes_at_hand.proofs.Ends.{unreadable_test}
 use Rattle.lint_symbols.proofs.TableLemmas.{no_name}

@@ -1,6 +1,6 @@
 use Rattle.std.specs.Prelude.{codes}
 use Rattle.tool_output.proofs.SourceLemmas.{refuses_after}
-use Rattle.elf_descriptor.proofs.BeginAnswers.{opened_told, opened_refused}
+use Rattle.object_output.proofs.elf_descriptor.BeginAnswers.{opened_told, opened_refused}
 use Rattle.object_output.specs.Images.{image_report}
 use Rattle.object_output.specs.Looks.{looks_over}
 use Rattle.object_output.proofs.ImageLemmas.{image_refused, refused_asked}

@@ -1,7 +1,7 @@
 use Rattle.std.proofs.Common.{Bool, Ok, false, refl}
 use Rattle.std.proofs.lemmas.Result.{err_from_is_err_and}
-use Rattle.elf_object.specs.Object.{Object}
-use Rattle.elf_object.specs.Strings as strings
+use Rattle.gelf_view.specs.elf_object.Object.{Object}
+use Rattle.gelf_view.specs.elf_object.Strings as strings
 use Rattle.tool_output.specs.Reports.{no_report}
 use Rattle.object_output.specs.Sections.{report_if}
 use Rattle.object_output.proofs.ElfSteps.{elf_left, elf_learns, elf_learns_none, elf_says_none}

@@ -1,4 +1,4 @@
-use Rattle.elf_descriptor.proofs.BeginAnswers.{begun_clean}
+use Rattle.update_plan.proofs.elf_descriptor.BeginAnswers.{begun_clean}
 use Rattle.object_writing.proofs.WriteLemmas.{edits_written, edits_refused}
 use Rattle.object_writing.proofs.edits.ImageEditFileEdit.edit.Goals as goal
 

@@ -1,5 +1,5 @@
 use Rattle.std.proofs.lemmas.Result.{err_from_is_err_and}
-use Rattle.gelf_view.specs.Chains.{verdauxs, first_aux}
+use Rattle.object_output.specs.gelf_view.Chains.{verdauxs, first_aux}
 use Rattle.tool_output.specs.Reports.{shown}
 use Rattle.object_output.proofs.ElfSteps.{elf_left, elf_says, elf_stop, elf_shown_then}
 use Rattle.readelf_rows.specs.Links.{linked_string}

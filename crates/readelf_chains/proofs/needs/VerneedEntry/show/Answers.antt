@@ -1,7 +1,7 @@
 use Rattle.std.proofs.Common.{◌≡◌, ℕ, List, Option, sym, ap, subst}
 use Rattle.std.proofs.lemmas.Result.{err_from_is_err_and}
 use Rattle.elf_object.specs.Object.{Object, section_at}
-use Rattle.gelf_view.specs.Chains.{vernauxs, first_aux}
+use Rattle.object_output.specs.gelf_view.Chains.{vernauxs, first_aux}
 use Rattle.tool_output.specs.Reports.{shown}
 use Rattle.object_output.proofs.ElfSteps.{elf_as, elf_stop, elf_shown_then}
 use Rattle.readelf_rows.specs.Links.{linked_string}

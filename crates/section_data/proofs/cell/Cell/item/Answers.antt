@@ -2,7 +2,7 @@ use Rattle.std.proofs.Common.{◌≡◌, sym, ap, ◌∙◌}
 use Rattle.std.specs.Prelude.{is_some}
 use Rattle.elf_object.specs.Object.{Piece}
 use Rattle.elf_object.specs.Answers.{entry_at}
-use Rattle.elf_xlate.specs.declared.content.Items.{Items}
+use Rattle.elf_object.specs.elf_xlate.declared.content.Items.{Items}
 use Rattle.section_data.proofs.Holdings.{kind_own, kind_clean, items_own, items_raw, hand_loaded, hand_whole}
 use Rattle.section_data.proofs.cell.Cell.item.Goals as goal
 

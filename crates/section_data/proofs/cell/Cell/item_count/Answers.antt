@@ -1,7 +1,7 @@
 use Rattle.std.proofs.Common.{◌≡◌, ◌/◌, sym, ap, ◌∙◌}
 use Rattle.std.specs.Prelude.{is_some}
 use Rattle.elf_types.specs.declared.records.Kind.{Kind}
-use Rattle.elf_xlate.specs.Items.{item_size}
+use Rattle.elf_object.specs.elf_xlate.Items.{item_size}
 use Rattle.elf_object.specs.Object.{Piece}
 use Rattle.section_data.proofs.Holdings.{kind_own, kind_clean, count_own, count_clean}
 use Rattle.section_data.proofs.cell.Cell.item_count.Goals as goal

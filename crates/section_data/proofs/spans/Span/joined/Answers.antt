@@ -1,6 +1,6 @@
 use Rattle.std.proofs.Common.{◌≡◌, ℕ, ◌+◌, ap, ◌∙◌, arith}
 use Rattle.std.proofs.lemmas.Option.{IfSome_then}
-use Rattle.elf_layout.specs.Layout.{rounded_up}
+use Rattle.elf_object.specs.elf_layout.Layout.{rounded_up}
 use Rattle.section_data.proofs.spans.Span.joined.Goals as goal
 
 pub returns-clause-end : goal.returns-clause-end

@@ -1,5 +1,5 @@
 use Rattle.std.proofs.Common.{ℕ, ◌+◌, ap, ◌∙◌}
-use Rattle.elf_layout.specs.Layout.{rounded_up}
+use Rattle.elf_object.specs.elf_layout.Layout.{rounded_up}
 use Rattle.section_data.proofs.Rounding.{widened_end}
 use Rattle.section_data.proofs.spans.Span.widened.Goals as goal
 

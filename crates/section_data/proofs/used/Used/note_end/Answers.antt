@@ -1,5 +1,5 @@
 use Rattle.std.proofs.Common.{Some, Option, ap, sym, ◌∙◌}
-use Rattle.elf_xlate.specs.declared.content.Items.{Items}
+use Rattle.elf_object.specs.elf_xlate.declared.content.Items.{Items}
 use Rattle.section_data.proofs.used.Used.note_end.Goals as goal
 
 pub returns : goal.returns

@@ -1,7 +1,7 @@
 use Rattle.std.proofs.Common.{◌-◌, sym, ap, ◌∙◌, arith}
 use Rattle.std.proofs.lemmas.List.{get_or_read}
 use Rattle.elf_types.specs.declared.records.Shdr.{Shdr}
-use Rattle.elf_object.specs.Open.{home_of}
+use Rattle.section_data.specs.elf_object.Open.{home_of}
 use Rattle.section_data.specs.Views.{opened_cell, new_cell}
 use Rattle.section_table.proofs.Views.{seen_below, seen_unmade, seen_made, slot_clear, slot_taken}
 use Rattle.section_table.proofs.sections.Sections.at.Goals as goal

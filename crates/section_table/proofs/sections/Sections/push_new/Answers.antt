@@ -1,6 +1,6 @@
 use Rattle.std.proofs.Common.{◌≡◌, ◌+◌, ℕ, Bool, true, List, [], ◌∷◌, ◌++◌, length, ap, ◌∙◌, arith}
 use Rattle.std.specs.Prelude.{vec_capacity}
-use Rattle.elf_ident.specs.Front.{zero_shdr}
+use Rattle.section_data.specs.elf_ident.Front.{zero_shdr}
 use Rattle.section_data.specs.Views.{CellView, new_cell}
 use Rattle.section_table.specs.Sections.{SectionView}
 use Rattle.section_table.proofs.Views.{view_length}

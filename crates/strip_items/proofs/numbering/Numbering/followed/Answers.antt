@@ -1,7 +1,7 @@
 use Rattle.std.proofs.Common.{Bool, sym, ap, ◌∙◌}
 use Rattle.std.specs.Prelude.{if◌then◌else◌}
-use Rattle.elf_object.specs.Sections.{number_or_0}
-use Rattle.command_objects.specs.Followed.{followed, renumbered}
+use Rattle.strip_removed.specs.elf_object.Sections.{number_or_0}
+use Rattle.strip_removed.specs.command_objects.Followed.{followed, renumbered}
 use Rattle.strip_items.proofs.numbering.Numbering.followed.Goals as goal
 
 pub number_or_0-requires : goal.number_or_0-requires

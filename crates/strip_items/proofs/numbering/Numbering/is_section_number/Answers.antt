@@ -1,5 +1,5 @@
 use Rattle.std.proofs.Common.{ap, ◌∙◌}
-use Rattle.command_objects.specs.Followed.{Renumbering, is_section_number}
+use Rattle.strip_removed.specs.command_objects.Followed.{Renumbering, is_section_number}
 use Rattle.strip_items.proofs.numbering.Numbering.is_section_number.Goals as goal
 
 pub returns : goal.returns

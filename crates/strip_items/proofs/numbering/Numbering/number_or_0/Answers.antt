@@ -1,5 +1,5 @@
 use Rattle.std.proofs.Common.{ap}
-use Rattle.elf_object.specs.Sections.{number_or_0}
+use Rattle.strip_removed.specs.elf_object.Sections.{number_or_0}
 use Rattle.strip_items.proofs.numbering.Numbering.number_or_0.Goals as goal
 
 pub returns-in-Some : goal.returns-in-Some

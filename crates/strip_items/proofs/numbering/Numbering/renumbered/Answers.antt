@@ -1,5 +1,5 @@
 use Rattle.std.proofs.Common.{◌≡◌, true, ap, sym, subst, ◌∙◌}
-use Rattle.command_objects.specs.Followed.{Renumbering, is_section_number, renumbered}
+use Rattle.strip_removed.specs.command_objects.Followed.{Renumbering, is_section_number, renumbered}
 use Rattle.strip_items.proofs.numbering.Numbering.renumbered.Goals as goal
 
 pub new_number-requires : goal.new_number-requires

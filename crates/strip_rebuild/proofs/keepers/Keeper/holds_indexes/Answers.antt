@@ -1,5 +1,5 @@
 use Rattle.std.proofs.Common.{sym, ◌∙◌}
-use Rattle.strip_kept.proofs.KeptLaws.{kept_below}
+use Rattle.strip_names.proofs.strip_kept.KeptLaws.{kept_below}
 use Rattle.strip_rebuild.proofs.KeeperLaws.{holds_where, holds_not}
 use Rattle.strip_rebuild.proofs.keepers.Keeper.holds_indexes.Goals as goal
 

@@ -1,6 +1,6 @@
 use Rattle.std.proofs.Common.{◌≡◌, true, sym, subst}
 use Rattle.elf_types.specs.declared.records.Shdr.{Shdr}
-use Rattle.elf_xlate.specs.Headers.{shdr_fits}
+use Rattle.strip_names.specs.elf_xlate.Headers.{shdr_fits}
 use Rattle.strip_rebuild.proofs.KeeperLaws.{header_is, header_fits}
 use Rattle.strip_rebuild.proofs.keepers.KeeperSectionMaker.header.Goals as goal
 

@@ -1,5 +1,5 @@
 use Rattle.std.proofs.Common.{codes}
-use Rattle.elf_descriptor.proofs.BeginAnswers.{begun_clean}
+use Rattle.object_writing.proofs.elf_descriptor.BeginAnswers.{begun_clean}
 use Rattle.object_writing.proofs.WriteLemmas.{edits_written, edits_refused}
 use Rattle.strip_tool.specs.Writes.{object_done}
 use Rattle.strip_tool.proofs.StripLemmas.{begun_over, begun_tied, begun_fits}

@@ -1,6 +1,6 @@
 use Rattle.std.proofs.Common.{codes}
-use Rattle.elf_descriptor.proofs.BeginAnswers.{begun_clean}
-use Rattle.object_writing.proofs.WriteLemmas.{edits_written, edits_refused}
+use Rattle.unstrip_join.proofs.elf_descriptor.BeginAnswers.{begun_clean}
+use Rattle.strip_tool.proofs.object_writing.WriteLemmas.{edits_written, edits_refused}
 use Rattle.strip_tool.proofs.StripLemmas.{begun_over, begun_tied, begun_fits}
 use Rattle.unstrip_tool.specs.Writes.{object_split}
 use Rattle.unstrip_tool.proofs.commands.SplitCommandFileEdit.edit.Goals as goal

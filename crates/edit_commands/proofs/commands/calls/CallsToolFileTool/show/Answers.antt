@@ -1,4 +1,4 @@
-use Rattle.object_output.proofs.ImageLemmas.{on_ok}
+use Rattle.command_outcomes.proofs.object_output.ImageLemmas.{on_ok}
 use Rattle.edit_commands.proofs.commands.calls.CallsToolFileTool.show.Goals as goal
 
 pub returns-clause-asks : goal.returns-clause-asks

@@ -1,5 +1,5 @@
 use Rattle.std.proofs.Common.{refl, subst, List, ℕ, length, ◌<◌, ◌^◌}
-use Rattle.elf_outside.specs.contracts.no_source.NoSourceSource.TheImpl.{ghosts}
+use Rattle.section_table.specs.elf_outside.contracts.no_source.NoSourceSource.TheImpl.{ghosts}
 use Rattle.elf_types.specs.Lists.{AreBytes}
 use Rattle.elf_descriptor.proofs.CreateLaws.{created_elf, created_state}
 use Rattle.elf_descriptor.proofs.descriptor.create.Elf+NoSource.create_over.Goals as goal

@@ -1,0 +1,2 @@
+-- Lemmas of the crates below that tactics of the crates above name.
+pub use Rattle.elf_descriptor.proofs.section_data.Rules.{item_bytes}

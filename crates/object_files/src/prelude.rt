@@ -1,0 +1,3 @@
+//! What `object_files` passes on of the crates below it.
+
+pub use tool_output::{FileName, Message, Outputs, Stop};
