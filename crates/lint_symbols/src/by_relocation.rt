@@ -8,7 +8,7 @@ ghost use Rattle.elf_xlate.specs.Translation.{items_kind, items_count};
 ghost use Rattle.bytes_at_hand.specs.elf_object.Answers.{items_at, lend_refusal};
 ghost use Rattle.tool_output.specs.Reports.{Reports};
 ghost use Rattle.tool_output.specs.Steps.{LeavesOutputs};
-ghost use Rattle.bytes_at_hand.proofs.object_output.ListCounts.{rels_counted, relas_counted};
+ghost use Rattle.object_output.proofs.ListCounts.{rels_counted, relas_counted};
 ghost use Rattle.bytes_at_hand.specs.Items.{held_items, AreWhole};
 ghost use Rattle.lint_findings.specs.Findings.{at_items, findings_shown};
 ghost use Rattle.lint_findings.specs.Looking.{if_lent};

@@ -7,7 +7,7 @@ ghost use Rattle.elf_types.specs.declared.records.Order.{Order as TheOrder};
 ghost use Rattle.elf_object.specs.elf_xlate.Items.{item_size, half_of, word_of, addr_of, sym_of, rel_of, rela_of, dyn_of};
 ghost use Rattle.elf_object.specs.elf_xlate.Translation.{decoded, listed, is_whole};
 ghost use Rattle.elf_object.specs.Answers.{entry_at};
-ghost use Rattle.elf_object.proofs.elf_xlate.ListedItems.{half_decoded, half_sized, word_decoded, word_sized, addr_decoded, addr_sized, sym_decoded, sym_sized, rel_decoded, rel_sized, rela_decoded, rela_sized, dyn_decoded, dyn_sized};
+ghost use Rattle.elf_xlate.proofs.ListedItems.{half_decoded, half_sized, word_decoded, word_sized, addr_decoded, addr_sized, sym_decoded, sym_sized, rel_decoded, rel_sized, rela_decoded, rela_sized, dyn_decoded, dyn_sized};
 ghost use Rattle.section_data.specs.Held.{items_of_bytes};
 
 use crate::listed::Listed;
