@@ -13,7 +13,7 @@ use Rattle.command_objects.specs.elf_object.Layout.{section_part, table_part, se
 use Rattle.update_plan.proofs.object_laws.PlaceLaws.{rounded_up-ge}
 use Rattle.update_plan.proofs.object_laws.StandLaws.{length-in_order}
 use Rattle.command_objects.specs.Arranged.{movable, parts_from, place_from, table_place_from}
-use Rattle.object_making.specs.Placing.{is_movable, movable_below, end_of_parts, end_below, end_with, FitsBehind, MayStand}
+use Rattle.object_making.specs.Placing.{is_movable, movable_below, end_of_parts, end_below, end_with, FitsBehind, MayStand, StandsBelow}
 use Rattle.object_making.proofs.NumberLaws.{passing_more, passing_split, passing_position, failing_position, zero_position}
 
 -- ---- Parts one after the other
@@ -277,12 +277,6 @@ module _ (o : Object) (tail : ℕ) where
       (zero_position (is_movable o) (length o.sections - 1))
 
 -- ---- A walk that looks for a place above a limit
-
--- the end so far, and that no place before it is above the limit
-pub record StandsBelow (o : Object) (tail limit end s : ℕ) : Type 0 where
-  pub end_is : end ≡ end_below o tail s
-  pub fits : some_above limit (in_order_from tail (map (section_part o) (movable_below o s)))
-      ≡ false
 
 module _ (o : Object) (tail limit : ℕ) where
   none_above : some_above limit (in_order_from tail []) ≡ false

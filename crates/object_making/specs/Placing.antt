@@ -4,7 +4,7 @@ use Rattle.std.specs.Prelude.{◌≡◌, ℕ, ◌-◌, ◌≤◌, Bool, true, fa
 use Rattle.std.specs.List.{enumerate_from, range_with_len}
 use Rattle.elf_types.specs.declared.errors.ElfError.{ElfError}
 use Rattle.command_objects.specs.elf_layout.declared.parts.PartAt.{PartAt}
-use Rattle.command_objects.specs.elf_layout.Layout.{place_of, end_after}
+use Rattle.command_objects.specs.elf_layout.Layout.{place_of, end_after, in_order_from, some_above}
 use Rattle.command_objects.specs.elf_object.Object.{Object, Section, is_null}
 use Rattle.command_objects.specs.elf_object.Layout.{section_part}
 use Rattle.command_objects.specs.elf_object.Steps.{with_shdr}
@@ -44,6 +44,12 @@ FitsBehind limit end p = (place_of end p ≤ limit) × (end_after end p ≤ limi
 -- so it is of a section, where it is placed
 abbrev pub MayStand : Object → ℕ → ℕ → ℕ → Type 0
 MayStand o limit end s = is_movable o s ≡ true → FitsBehind limit end (section_part o s)
+
+-- the sections below a number stand behind a tail, none above a limit, and end there
+pub record StandsBelow (o : Object) (tail limit end s : ℕ) : Type 0 where
+  pub end_is : end ≡ end_below o tail s
+  pub fits : some_above limit (in_order_from tail (map (section_part o) (movable_below o s)))
+      ≡ false
 
 -- ---- Places that are stored
 

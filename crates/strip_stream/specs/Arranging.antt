@@ -7,7 +7,7 @@ use Rattle.command_objects.specs.elf_ident.Front.{zero_shdr}
 use Rattle.elf_layout.specs.Layout.{limit_of, some_above}
 use Rattle.command_objects.specs.elf_object.Object.{Object, section_at}
 use Rattle.command_objects.specs.Arranged.{parts_from, section_from, placed_from, tail_refusal}
-use Rattle.object_making.proofs.TailLaws.{StandsBelow}
+use Rattle.object_making.specs.Placing.{StandsBelow}
 use Rattle.listed_layout.specs.declared.listed.Listed.{Listed}
 use Rattle.listed_layout.specs.Listing.{IsListed}
 

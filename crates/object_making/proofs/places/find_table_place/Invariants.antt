@@ -1,4 +1,4 @@
-use Rattle.object_making.proofs.TailLaws.{StandsBelow}
+use Rattle.object_making.specs.Placing.{StandsBelow}
 use Rattle.object_making.proofs.places.find_table_place.Given as goal
 
 abbrev pub invariant-loop-s : goal.invariant-loop-s
