@@ -3,7 +3,7 @@ use Rattle.std.proofs.Common.{drop-drop, ◌≡◌, ℕ, zero, suc, ◌+◌, ◌
 use Rattle.std.specs.Int.{bit_at, bit_not}
 use Rattle.std.specs.Simd.Lanes.{mask_l, top, Each1}
 use Rattle.std.proofs.lemmas.Bool.{agree_below, agree_below_at, cases_lt, cases_Bool, both_ways, eq-eqb, ne_eqb}
-use Rattle.std.proofs.lemmas.List.{length-map, get_or-map, take_all}
+use Rattle.std.proofs.lemmas.List.{length-map, get_or-map}
 use Rattle.std.proofs.lemmas.List.Folds.{prefix_len-append}
 use Rattle.std.proofs.lemmas.List.Sums.{prefix_len_passes, prefix_len_stops, prefix_len_is}
 use Rattle.std.proofs.Math.Pow.{shr_le}
