@@ -1,5 +1,5 @@
 -- The long runs of bytes, by what stands at their front.
-use Rattle.std.proofs.Common.{◌≡◌, ◌+◌, ◌<◌, ◌≤◌, ◌++◌, ◌&&◌, ℕ, zero, suc, Bool, true, false, not, cond, nat_le, List, [], ◌∷◌, length, take, drop, filter, take_while, refl, sym, ap, ◌∙◌, subst, arith, drop-drop, append_assoc, get_or, drop-cons, take-append-drop, length-take-le, length-take, get_or-take}
+use Rattle.std.proofs.Common.{◌-◌, length-drop, take_all, ◌≡◌, ◌+◌, ◌<◌, ◌≤◌, ◌++◌, ◌&&◌, ℕ, zero, suc, Bool, true, false, not, cond, nat_le, List, [], ◌∷◌, length, take, drop, filter, take_while, refl, sym, ap, ◌∙◌, subst, arith, drop-drop, append_assoc, get_or, drop-cons, take-append-drop, length-take-le, length-take, get_or-take}
 use Rattle.std.specs.List.{prefix_len}
 use Rattle.std.proofs.lemmas.List.Elements.{filter-append}
 use Rattle.std.proofs.lemmas.List.Folds.{length-prefix_len}
@@ -21,12 +21,19 @@ pub front_grows : (r q : List ℕ) → front_len r ≤ front_len (r ++ q)
 front_grows [] q = omega arith
 front_grows (c ∷ r) q = cond_grows (is_printable c) (front_len r) (front_len (r ++ q)) (front_grows r q)
 
+-- the rest of bytes, as a slice of them is written
+pub rest_is : (bytes : List ℕ) (used : ℕ) → take (length bytes - used) (drop used bytes) ≡ drop used bytes
+rest_is bytes used = take_all (length bytes - used) (drop used bytes) (omega (arith, length-drop used bytes))
+
+abbrev pub rest_of : List ℕ → ℕ → List ℕ
+rest_of bytes used = take (length bytes - used) (drop used bytes)
+
 module _ (least : ℕ) where
   abbrev is_long : Run → Bool
   is_long r = nat_le least (length r.bytes)
 
   -- those whose first byte may go on a run
-  abbrev long_after : Bool → ℕ → List ℕ → List Run
+  abbrev pub long_after : Bool → ℕ → List ℕ → List Run
   long_after behind at bytes = filter is_long (runs_after behind at bytes)
 
   after_cons : (behind : Bool) (at b : ℕ) (bs : List ℕ)
@@ -47,7 +54,7 @@ module _ (least : ℕ) where
       let is : nat_le least (length (take_while is_printable bytes)) ≡ true = le-leb _ _ (omega (arith, long, length-prefix_len is_printable bytes)) in
       rw is refl
 
-  short_cons : (behind : Bool) (at b : ℕ) (bs : List ℕ) → front_len (b ∷ bs) < least → long_after behind at (b ∷ bs) ≡ long_after (is_printable b) (at + 1) bs
+  pub short_cons : (behind : Bool) (at b : ℕ) (bs : List ℕ) → front_len (b ∷ bs) < least → long_after behind at (b ∷ bs) ≡ long_after (is_printable b) (at + 1) bs
   short_cons behind at b bs short =
       after_cons behind at b bs ∙ ap (λ (rs : List Run). rs ++ long_after (is_printable b) (at + 1) bs) (none_if (is_printable b && not behind) at (b ∷ bs) short)
 

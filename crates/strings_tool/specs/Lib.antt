@@ -1,3 +1,4 @@
+pub mod Masks
 pub mod Runs
 pub mod Texts
 pub mod Homes

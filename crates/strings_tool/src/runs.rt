@@ -1,9 +1,17 @@
-//! The printable runs of bytes in memory.
+//! The printable runs of bytes in memory, found by lanes: many bytes are looked at together, and a
+//! mask has a bit for each of them.
 
-ghost use Rattle.std.specs.Prelude.{◌≡◌, ◌+◌, ◌≤◌, ◌<◌, false, length, drop, slice_index, IfSome, IfNone};
+ghost use Rattle.std.specs.Prelude.{◌≡◌, ◌+◌, ◌-◌, ◌≤◌, ◌<◌, false, length, take, drop, slice_index, IfSome, IfNone};
+ghost use Rattle.std.specs.Int.{bit_at};
 ghost use Rattle.std.specs.List.{prefix_len};
+ghost use Rattle.strings_tool.specs.Masks.{printable_mask, AreSet, BeginRuns};
 ghost use Rattle.strings_tool.specs.Runs.{is_printable};
 ghost use Rattle.strings_tool.specs.Skips.{Skips};
+
+use std::simd::prelude::*;
+
+/// How many bytes are looked at together.
+const LANES: usize = 64;
 
 /// Whether a byte is shown: 0x20 to 0x7e, or a tab.
 #[tactic(auto, unfolding(crate::specs::Runs::is_printable))]
@@ -14,17 +22,106 @@ pub fn is_printable(byte: u8) -> bool
     (0x20 <= byte && byte <= 0x7e) || byte == b'\t'
 }
 
+/// The mask of the first bytes: which of them are printable.
+#[inline(always)]
+fn printable_mask(bytes: &[u8]) -> u64
+    requires { LANES ≤ length bytes.now }
+    ensures { result ≡ printable_mask (take LANES bytes.now) }
+{
+    let lanes = u8x64::from_slice(bytes);
+    let above_space = lanes - u8x64::splat(b' ');
+    let shown = above_space.simd_lt(u8x64::splat(0x5f)) | lanes.simd_eq(u8x64::splat(b'\t'));
+    shown.to_bitmask()
+}
+
+/// The places at which so many set bits begin, one behind another. What is known of some bits is
+/// joined with what is known of as many behind them, so the number of steps is that of the digits
+/// of `count`.
+#[inline(always)]
+fn run_starts(mask: u64, count: usize) -> u64
+    requires { (0 < count) × (count ≤ LANES) }
+    ensures { BeginRuns mask count result }
+{
+    let mut starts = mask;
+    let mut known = 1;
+    while known < count {
+        let more = known.min(count - known);
+        starts &= starts >> more;
+        known += more;
+    }
+    starts
+}
+
+/// How many bits are set from a place on, one behind another.
+#[inline(always)]
+fn set_bits(mask: u64, from: usize) -> usize
+    requires { from < LANES }
+    ensures within { from + result ≤ LANES }
+    ensures set { AreSet mask from result }
+    ensures ends { from + result < LANES → bit_at mask (from + result) ≡ 0 }
+{
+    let clear = !(mask >> from);
+    if clear == 0 {
+        return LANES - from;
+    }
+    clear.trailing_zeros() as usize
+}
+
+/// Finds the first run of at least so many bytes that has these among the first bytes: its place,
+/// and how many of the first bytes it has. Where they are the last ones, it may go on behind them.
+#[inline(always)]
+fn find_early_run(bytes: &[u8], least: usize) -> Option<(usize, usize)>
+    requires room { LANES ≤ length bytes.now }
+    requires least { (0 < least) × (least ≤ LANES) }
+    ensures none { IfNone result (Skips least bytes.now (LANES + 1 - least)) }
+    ensures within { IfSome result (λ r. (r.0 + r.1 ≤ LANES) × (least ≤ r.1)) }
+    ensures skips { IfSome result (λ r. Skips least bytes.now r.0) }
+    ensures ended { IfSome result (λ r. r.0 + r.1 < LANES →
+        prefix_len is_printable (drop r.0 bytes.now) ≡ r.1) }
+    ensures goes_on { IfSome result (λ r. r.0 + r.1 ≡ LANES →
+        prefix_len is_printable (drop r.0 bytes.now)
+        ≡ r.1 + prefix_len is_printable (drop LANES bytes.now)) }
+{
+    let mask = printable_mask(bytes);
+    let starts = run_starts(mask, least);
+    if starts == 0 {
+        return None;
+    }
+    let from = starts.trailing_zeros() as usize;
+    Some((from, set_bits(mask, from)))
+}
+
+/// The first byte that is not printable, or None where the first bytes are all printable.
+#[inline(always)]
+fn early_end(bytes: &[u8]) -> Option<usize>
+    requires { LANES ≤ length bytes.now }
+    ensures all { IfNone result
+        (prefix_len is_printable bytes.now ≡ LANES + prefix_len is_printable (drop LANES bytes.now)) }
+    ensures end { IfSome result (λ i. (i < LANES) × (prefix_len is_printable bytes.now ≡ i)) }
+{
+    let clear = !printable_mask(bytes);
+    if clear == 0 {
+        return None;
+    }
+    Some(clear.trailing_zeros() as usize)
+}
+
 /// How many printable bytes stand at the front.
 pub fn run_len(bytes: &[u8]) -> usize
     ensures len { result ≡ prefix_len is_printable bytes.now }
     ensures within { result ≤ length bytes.now }
 {
-    for (i, byte) in bytes.iter().enumerate() {
-        if !is_printable(*byte) {
-            return i;
+    let mut at = 0;
+    'lanes: while LANES <= bytes.len() - at {
+        match early_end(&bytes[at..]) {
+            Some(i) => return at + i,
+            None => at += LANES,
         }
     }
-    bytes.len()
+    'bytes: while at < bytes.len() && is_printable(bytes[at]) {
+        at += 1;
+    }
+    at
 }
 
 /// The last byte that is not printable, or None where all are.
@@ -44,22 +141,32 @@ fn last_unprintable(bytes: &[u8]) -> Option<usize>
 }
 
 /// Finds the first run of at least so many bytes, printable ones in a row, and gives the place
-/// where it begins; where there is none, a place before which none begins and behind which fewer
-/// bytes stand. A byte that is not printable rules out each place from which a run would have to go
-/// over it, so most bytes are not looked at.
-pub fn find_run(bytes: &[u8], least: usize) -> usize
+/// where it begins and its length; where there is none, a place before which none begins and behind
+/// which fewer bytes stand. A short run is looked for by lanes. Else a byte that is not printable
+/// rules out each place from which a run would have to go over it, so most bytes are not looked at.
+pub fn find_run(bytes: &[u8], least: usize) -> (usize, usize)
     requires { 0 < least }
-    ensures within { result ≤ length bytes.now }
-    ensures skips { Skips least bytes.now result }
-    ensures found { result + least ≤ length bytes.now →
-        least ≤ prefix_len is_printable (drop result bytes.now) }
+    ensures within { result.0 + result.1 ≤ length bytes.now }
+    ensures skips { Skips least bytes.now result.0 }
+    ensures long { result.0 + least ≤ length bytes.now → least ≤ result.1 }
+    ensures len { result.0 + least ≤ length bytes.now →
+        result.1 ≡ prefix_len is_printable (drop result.0 bytes.now) }
 {
     let mut at = 0;
-    while bytes.len() - at >= least {
-        match last_unprintable(&bytes[at..at + least]) {
-            Some(i) => at += i + 1,
-            None => return at,
+    if least <= LANES / 2 {
+        'lanes: while LANES <= bytes.len() - at {
+            match find_early_run(&bytes[at..], least) {
+                Some((i, len)) if i + len < LANES => return (at + i, len),
+                Some((i, len)) => return (at + i, len + run_len(&bytes[at + LANES..])),
+                None => at += LANES + 1 - least,
+            }
         }
     }
-    at
+    'bytes: while bytes.len() - at >= least {
+        match last_unprintable(&bytes[at..at + least]) {
+            Some(i) => at += i + 1,
+            None => return (at, run_len(&bytes[at..])),
+        }
+    }
+    (at, 0)
 }
