@@ -4,8 +4,6 @@
    since eu-ranlib looks for them. A member's image lies in the archive's and is lent to the core
    once more. */
 #include <ar.h>
-#include <stdlib.h>
-#include <string.h>
 
 #include "object.h"
 
@@ -13,12 +11,9 @@ bool
 begin_archive (Elf *elf)
 {
   struct elfkit_lent image = { elf->lent, elf->size }, back = { NULL, 0 };
-  elf->archive = calloc (1, sizeof *elf->archive);
+  elf->archive = new_zeros (sizeof *elf->archive);
   if (elf->archive == NULL)
-    {
-      set_error (E_NOMEM);
-      return false;
-    }
+    return false;
   elf->archive->place = FIRST_HEADER;
   return is_given (elfkit_ar_begin (image, &elf->archive->handle, &back));
 }
@@ -29,9 +24,9 @@ end_archive (struct elfkit_archive *archive)
   struct elfkit_lent back = { NULL, 0 };
   if (archive->handle.ptr != NULL)
     elfkit_ar_end (&archive->handle, &back);
-  for (size_t i = 0; i < archive->count; i++)
-    free (archive->members[i]);
-  free (archive->members);
+  for (size_t i = 0; i < archive->members.count; i++)
+    free (archive->members.at[i]);
+  free (archive->members.at);
   free (archive->symbols);
   free (archive);
 }
@@ -77,21 +72,6 @@ make_header (const Elf *elf, struct elfkit_member *m, const struct elfkit_ar_mem
   memcpy (m->raw_name, elf->lent + x->at, sizeof m->raw_name - 1);
 }
 
-/* Whether there is room for one more member. */
-static bool
-has_room (struct elfkit_archive *archive)
-{
-  if (archive->count < archive->room)
-    return true;
-  size_t room = archive->room == 0 ? 16 : 2 * archive->room;
-  struct elfkit_member **more = realloc (archive->members, room * sizeof *more);
-  if (more == NULL)
-    return false;
-  archive->members = more;
-  archive->room = room;
-  return true;
-}
-
 /* Asks the core for the member after those that were come to, unless it gave one that was not shown
    yet. Gives why there is none, or E_NONE. */
 static int
@@ -117,15 +97,12 @@ step (Elf *elf)
   uint64_t before = error == E_NONE ? archive->came.at : error == E_RANGE ? elf->size : 0;
   bool is_table = archive->place < before;
   if (error != E_NONE && !is_table)
-    {
-      set_error (error);
-      return false;
-    }
+    return false_with (error);
   struct elfkit_ar_member x = is_table ? table_at (elf, archive->place) : archive->came;
-  struct elfkit_member *m = has_room (archive) ? calloc (1, sizeof *m + x.namesz + 1) : NULL;
-  if (m == NULL)
+  struct elfkit_member *m = new_zeros (sizeof *m + x.namesz + 1);
+  if (m == NULL || !add (&archive->members, m))
     {
-      set_error (E_NOMEM);
+      free (m);
       return false;
     }
   make_header (elf, m, &x);
@@ -136,8 +113,7 @@ step (Elf *elf)
       elfkit_ar_name (&archive->handle, (uint8_t *) m->name, x.namesz);
       archive->came.found = 0;
     }
-  archive->place = x.body + x.size + (x.body + x.size) % 2;
-  archive->members[archive->count++] = m;
+  archive->place = round_up (x.body + x.size, 2);
   return true;
 }
 
@@ -146,14 +122,11 @@ current_member (Elf *elf)
 {
   struct elfkit_archive *archive = elf->archive;
   if (archive == NULL || archive->current == NOWHERE)
-    {
-      set_error (E_INVALID_ARCHIVE);
-      return NULL;
-    }
-  while (archive->count <= archive->current)
+    return null_with (E_INVALID_ARCHIVE);
+  while (archive->members.count <= archive->current)
     if (!step (elf))
       return NULL;
-  return archive->members[archive->current];
+  return archive->members.at[archive->current];
 }
 
 /* elf_next: goes on to the next member of the archive that this one is of. Gives the command of
@@ -167,24 +140,32 @@ elf_next (Elf *elf)
   return current_member (elf->parent) == NULL ? ELF_C_NULL : elf->cmd;
 }
 
+/* Where the header of a member is that the walk came to. */
+static uint64_t
+place_of (const struct elfkit_archive *archive, size_t index)
+{
+  return ((const struct elfkit_member *) archive->members.at[index])->at;
+}
+
 /* The index of the member whose header is at a place, NOWHERE and an error where there is none. */
 static size_t
 member_at (Elf *elf, size_t place)
 {
   struct elfkit_archive *archive = elf->archive;
-  while (archive->count == 0 || archive->members[archive->count - 1]->at < place)
+  size_t low = 0, high;
+  while ((high = archive->members.count) == 0 || place_of (archive, high - 1) < place)
     if (!step (elf))
       return NOWHERE;
-  size_t low = 0, high = archive->count - 1;
+  high--;
   while (low < high)
     {
       size_t middle = low + (high - low) / 2;
-      if (archive->members[middle]->at < place)
+      if (place_of (archive, middle) < place)
         low = middle + 1;
       else
         high = middle;
     }
-  if (archive->members[low]->at == place)
+  if (place_of (archive, low) == place)
     return low;
   set_error (E_RANGE);
   return NOWHERE;
@@ -207,12 +188,7 @@ elf_getarhdr (Elf *elf)
 {
   if (elf == NULL)
     return NULL;
-  if (elf->member == NULL)
-    {
-      set_error (E_INVALID_OP);
-      return NULL;
-    }
-  return &elf->member->header;
+  return elf->member != NULL ? &elf->member->header : null_with (E_INVALID_OP);
 }
 
 /* elf_getaroff: the place of a member's header in its archive. */
@@ -232,22 +208,18 @@ has_table (const Elf *elf)
 }
 
 /* The symbols of the core as programs see them, the last one without a name, and the names behind
-   them. */
-static bool
-make_symbols (Elf *elf, size_t count)
+   them; NULL and an error where there is no memory. */
+static Elf_Arsym *
+make_symbols (struct elfkit_archive *archive, size_t count)
 {
-  struct elfkit_archive *archive = elf->archive;
   struct elfkit_ar_symbol x = { 0 };
   size_t names = 0;
   for (size_t i = 0; i < count; i++)
     if (elfkit_ar_symbol (&archive->handle, i, &x) == 0)
       names += x.namesz + 1;
-  Elf_Arsym *all = calloc (1, (count + 1) * sizeof *all + names);
+  Elf_Arsym *all = new_zeros ((count + 1) * sizeof *all + names);
   if (all == NULL)
-    {
-      set_error (E_NOMEM);
-      return false;
-    }
+    return NULL;
   char *name = (char *) (all + count + 1);
   for (size_t i = 0; i < count; i++)
     if (elfkit_ar_symbol (&archive->handle, i, &x) == 0)
@@ -257,10 +229,7 @@ make_symbols (Elf *elf, size_t count)
                                .as_hash = elfkit_hash ((uint8_t *) name, x.namesz) };
         name += x.namesz + 1;
       }
-  all[count].as_hash = ~0ul;
-  archive->symbols = all;
-  archive->symbol_count = count + 1;
-  return true;
+  return all;
 }
 
 /* A table of symbols with places of eight bytes, "/SYM64/", which the core does not read: how many
@@ -271,16 +240,6 @@ struct wide_table
   const uint8_t *places;
   char *names, *end;
 };
-
-/* A number of eight bytes, the greatest first. */
-static uint64_t
-wide_number (const uint8_t *bytes)
-{
-  uint64_t number = 0;
-  for (int i = 0; i < 8; i++)
-    number = number << 8 | bytes[i];
-  return number;
-}
 
 /* Whether the first member is such a table, and lies in the archive. */
 static bool
@@ -295,7 +254,7 @@ has_wide_table (const Elf *elf, struct wide_table *t)
   if (memcmp (h.ar_name, name, sizeof name) != 0 || memcmp (h.ar_fmag, ARFMAG, 2) != 0
       || !lies_in (body, size, elf->size) || size < 8)
     return false;
-  t->count = wide_number (elf->lent + body);
+  t->count = number_at (elf->lent + body, 8, true);
   t->places = elf->lent + body + 8;
   if (t->count > (size - 8) / 8)
     return false;
@@ -304,51 +263,55 @@ has_wide_table (const Elf *elf, struct wide_table *t)
   return true;
 }
 
-/* The symbols of such a table, whose names are shown where they stand; false and an error where one
+/* The symbols of such a table, whose names are shown where they stand; NULL and an error where one
    has no end. */
-static bool
-make_wide_symbols (Elf *elf, const struct wide_table *t)
+static Elf_Arsym *
+make_wide_symbols (const struct wide_table *t)
 {
-  Elf_Arsym *all = calloc (t->count + 1, sizeof *all);
-  if (all == NULL)
-    {
-      set_error (E_NOMEM);
-      return false;
-    }
+  Elf_Arsym *all = new_zeros ((t->count + 1) * sizeof *all);
   char *name = t->names;
-  for (uint64_t i = 0; i < t->count; i++)
+  for (uint64_t i = 0; all != NULL && i < t->count; i++)
     {
       const char *end = name == t->end ? NULL : memchr (name, 0, t->end - name);
       if (end == NULL)
         {
           free (all);
-          set_error (E_NO_INDEX);
-          return false;
+          return null_with (E_NO_INDEX);
         }
-      all[i] = (Elf_Arsym) { .as_name = name, .as_off = wide_number (t->places + 8 * i),
+      all[i] = (Elf_Arsym) { .as_name = name,
+                             .as_off = number_at (t->places + 8 * i, 8, true),
                              .as_hash = elfkit_hash ((uint8_t *) name, end - name) };
       name += end - name + 1;
     }
-  all[t->count].as_hash = ~0ul;
-  elf->archive->symbols = all;
-  elf->archive->symbol_count = t->count + 1;
-  return true;
+  return all;
 }
 
 /* Makes the symbols of either table; false and an error where there is none. */
 static bool
 read_symbols (Elf *elf)
 {
+  struct elfkit_archive *archive = elf->archive;
   struct wide_table wide;
   uint64_t count = 0;
+  Elf_Arsym *all;
   if (has_wide_table (elf, &wide))
-    return make_wide_symbols (elf, &wide);
-  if (!is_given (elfkit_ar_symbols (&elf->archive->handle, &count)))
+    {
+      count = wide.count;
+      all = make_wide_symbols (&wide);
+    }
+  else if (!is_given (elfkit_ar_symbols (&archive->handle, &count)))
     return false;
-  if (count > 0 || has_table (elf))
-    return make_symbols (elf, count);
-  set_error (E_NO_INDEX);
-  return false;
+  else if (count == 0 && !has_table (elf))
+    return false_with (E_NO_INDEX);
+  else
+    all = make_symbols (archive, count);
+  if (all == NULL)
+    return false;
+  all[count].as_hash = ~0ul;
+  archive->symbols = all;
+  /* -fanalyzer: the archive has the symbols, and end_archive frees them */
+  archive->symbol_count = count + 1;
+  return true;
 }
 
 /* elf_getarsym: the table of symbols, whose last entry has no name and is counted. */
@@ -360,10 +323,8 @@ elf_getarsym (Elf *elf, size_t *count)
   if (elf == NULL)
     return NULL;
   if (elf->kind != ELF_K_AR || elf->archive == NULL)
-    {
-      set_error (E_NO_ARCHIVE);
-      return NULL;
-    }
+    return null_with (E_NO_ARCHIVE);
+  /* -fanalyzer: the same */
   if (elf->archive->symbols == NULL && !read_symbols (elf))
     return NULL;
   if (count != NULL)

@@ -1,6 +1,5 @@
 /* checksum.c: the checksum of what eu-strip leaves of an image: CRC-32 (ISO 3309) over the bytes of
    its sections, as they stand in the file. */
-#include <string.h>
 #include <zlib.h>
 
 #include "object.h"
@@ -29,18 +28,12 @@ gelf_checksum (Elf *elf)
   if (elf == NULL)
     return -1;
   if (elf_getshdrstrndx (elf, &names) != 0)
-    {
-      set_error (E_INVALID_HANDLE);
-      return -1;
-    }
+    return negative_with (E_INVALID_HANDLE);
   for (Elf_Scn *scn = NULL; (scn = elf_nextscn (elf, scn)) != NULL;)
     {
       GElf_Shdr shdr;
       if (gelf_getshdr (scn, &shdr) == NULL)
-        {
-          set_error (E_INVALID_SECTION_HEADER);
-          return -1;
-        }
+        return negative_with (E_INVALID_SECTION_HEADER);
       if (shdr.sh_type == SHT_NOBITS || !stays (elf, names, &shdr))
         continue;
       const Elf_Data *data = elf_rawdata (scn, NULL);

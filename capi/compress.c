@@ -1,8 +1,6 @@
 /* compress.c: elf_compress and elf_compress_gnu. The data of a section is replaced by what zlib
    makes of it, behind a header that says how long it is: a compression header of the gABI, or that
    of GNU, "ZLIB" and the size in eight bytes, the greatest first. */
-#include <stdlib.h>
-#include <string.h>
 #include <zlib.h>
 
 #include "object.h"
@@ -10,28 +8,19 @@
 /* The size of GNU's header. */
 enum { GNU_HEADER = 12 };
 
-static int
-refused (int error)
-{
-  set_error (error);
-  return -1;
-}
-
 /* Whether the flags and the section are such that its data may be replaced. */
 static bool
 is_open_to (Elf_Scn *scn, unsigned int flags, GElf_Xword other_flags, GElf_Shdr *shdr)
 {
   if (flags & ~ELF_CHF_FORCE)
-    set_error (E_INVALID_OPERAND);
-  else if (!is_elf (scn->elf, 0) || gelf_getshdr (scn, shdr) == NULL)
+    return false_with (E_INVALID_OPERAND);
+  if (!is_elf (scn->elf, 0) || gelf_getshdr (scn, shdr) == NULL)
     return false;
-  else if (shdr->sh_flags & (SHF_ALLOC | other_flags))
-    set_error (E_INVALID_SECTION_FLAGS);
-  else if (shdr->sh_type == SHT_NULL || shdr->sh_type == SHT_NOBITS)
-    set_error (E_INVALID_SECTION_TYPE);
-  else
-    return true;
-  return false;
+  if (shdr->sh_flags & (SHF_ALLOC | other_flags))
+    return false_with (E_INVALID_SECTION_FLAGS);
+  if (shdr->sh_type == SHT_NULL || shdr->sh_type == SHT_NOBITS)
+    return false_with (E_INVALID_SECTION_TYPE);
+  return true;
 }
 
 /* Gives a section these bytes, as they stand in the file, in place of its data; they become its
@@ -40,18 +29,11 @@ static bool
 replace_data (Elf_Scn *scn, uint8_t *bytes, size_t size, size_t align, Elf_Type type)
 {
   Elf *elf = scn->elf;
-  uint8_t *native = bytes;
-  if (elf->order != NATIVE_ORDER && type != ELF_T_BYTE)
+  uint8_t *native = is_foreign (elf, type) ? translated (elf, type, true, bytes, size) : bytes;
+  if (native == NULL)
     {
-      native = malloc (size == 0 ? 1 : size);
-      if (native == NULL)
-        set_error (E_NOMEM);
-      if (native == NULL || !translate (type, elf->class, true, native, bytes, size))
-        {
-          free (native);
-          free (bytes);
-          return false;
-        }
+      free (bytes);
+      return false;
     }
   free_pieces (scn);
   const Elf_Data d = { .d_buf = bytes, .d_type = type, .d_version = EV_CURRENT, .d_size = size,
@@ -64,8 +46,7 @@ replace_data (Elf_Scn *scn, uint8_t *bytes, size_t size, size_t align, Elf_Type 
   tie (&scn->data, elf);
   scn->last = &scn->data;
   scn->is_made = true;
-  scn->has_end = false;
-  scn->strings_end = 0;
+  forget_strings (scn);
   scn->unpacked = NULL;
   scn->has_raw = scn->has_data = 1;
   return true;
@@ -110,27 +91,19 @@ measure (Elf_Scn *scn, struct whole *w)
 static bool
 put_piece (z_stream *z, const Elf *elf, Elf_Data *d, int flush)
 {
-  uint8_t *bytes = NULL;
-  z->next_in = d->d_buf;
-  z->avail_in = d->d_size;
-  if (elf->order != NATIVE_ORDER && d->d_type != ELF_T_BYTE && d->d_size > 0)
+  void *bytes = NULL;
+  if (is_foreign (elf, d->d_type) && d->d_size > 0)
     {
-      bytes = malloc (d->d_size);
+      bytes = translated (elf, d->d_type, false, d->d_buf, d->d_size);
       if (bytes == NULL)
-        set_error (E_NOMEM);
-      if (bytes == NULL || !translate (d->d_type, elf->class, false, bytes, d->d_buf, d->d_size))
-        {
-          free (bytes);
-          return false;
-        }
-      z->next_in = bytes;
+        return false;
     }
+  z->next_in = bytes != NULL ? bytes : d->d_buf;
+  z->avail_in = d->d_size;
   int answer = deflate (z, flush);
   free (bytes);
-  if (z->avail_in == 0 && answer == (flush == Z_FINISH ? Z_STREAM_END : Z_OK))
-    return true;
-  set_error (E_COMPRESS_ERROR);
-  return false;
+  return (z->avail_in == 0 && answer == (flush == Z_FINISH ? Z_STREAM_END : Z_OK))
+         || false_with (E_COMPRESS_ERROR);
 }
 
 /* What zlib makes of the data of a section, behind room for a header; NULL and an error where there
@@ -140,17 +113,12 @@ deflated (Elf_Scn *scn, size_t header, const struct whole *w, size_t *size)
 {
   z_stream z = { .next_in = Z_NULL };
   if (w->size > UINT32_MAX / 2 || deflateInit (&z, Z_BEST_COMPRESSION) != Z_OK)
-    {
-      set_error (E_COMPRESS_ERROR);
-      return NULL;
-    }
+    return null_with (E_COMPRESS_ERROR);
   size_t room = deflateBound (&z, w->size) + 6 * w->pieces;
-  uint8_t *bytes = malloc (header + room);
-  if (bytes == NULL)
-    set_error (E_NOMEM);
-  z.next_out = bytes + header;
-  z.avail_out = room;
+  uint8_t *bytes = new_bytes (header + room);
   bool done = bytes != NULL;
+  z.next_out = done ? bytes + header : NULL;
+  z.avail_out = room;
   for (Elf_Data *next, *d = elf_getdata (scn, NULL); done && d != NULL; d = next)
     {
       next = elf_getdata (scn, d);
@@ -198,18 +166,15 @@ compress_section (Elf_Scn *scn, GElf_Shdr *shdr, unsigned int flags)
   struct whole w;
   int answer;
   if (shdr->sh_flags & SHF_COMPRESSED)
-    return refused (E_ALREADY_COMPRESSED);
+    return negative_with (E_ALREADY_COMPRESSED);
   uint8_t *bytes = shortened (scn, header, flags, &w, &size, &answer);
   if (bytes == NULL)
     return answer;
-  if (class == ELFCLASS64)
-    memcpy (bytes, &(Elf64_Chdr) { .ch_type = ELFCOMPRESS_ZLIB, .ch_size = w.size,
-                                   .ch_addralign = shdr->sh_addralign }, header);
-  else
-    memcpy (bytes, &(Elf32_Chdr) { .ch_type = ELFCOMPRESS_ZLIB, .ch_size = w.size,
-                                   .ch_addralign = w.align }, header);
-  if (scn->elf->order != NATIVE_ORDER
-      && !translate (ELF_T_CHDR, class, false, bytes, bytes, size))
+  GElf_Chdr chdr = { .ch_type = ELFCOMPRESS_ZLIB, .ch_size = w.size,
+                     .ch_addralign = class == ELFCLASS64 ? shdr->sh_addralign : w.align };
+  if (!from_gelf (ELF_T_CHDR, class, bytes, &chdr)
+      || (is_foreign (scn->elf, ELF_T_CHDR)
+          && !translate (ELF_T_CHDR, class, false, bytes, bytes, size)))
     {
       free (bytes);
       return -1;
@@ -231,8 +196,7 @@ compress_gnu (Elf_Scn *scn, GElf_Shdr *shdr, unsigned int flags)
   if (bytes == NULL)
     return answer;
   memcpy (bytes, "ZLIB", 4);
-  for (int i = 0; i < 8; i++)
-    bytes[4 + i] = (uint64_t) w.size >> (56 - 8 * i);
+  put_number (bytes + 4, 8, true, w.size);
   shdr->sh_size = size;
   return replace_section (scn, shdr, bytes, 1, ELF_T_BYTE);
 }
@@ -246,16 +210,10 @@ inflated (const uint8_t *from, size_t from_size, uint64_t size)
 {
   const uint64_t most = 1032;   /* zlib makes nothing smaller by more */
   if (size / most > from_size || size > UINT32_MAX || from_size > UINT32_MAX)
-    {
-      set_error (E_INVALID_DATA);
-      return NULL;
-    }
-  uint8_t *bytes = malloc (size == 0 ? 1 : size);
+    return null_with (E_INVALID_DATA);
+  uint8_t *bytes = new_bytes (size);
   if (bytes == NULL)
-    {
-      set_error (E_NOMEM);
-      return NULL;
-    }
+    return NULL;
   z_stream z = { .next_in = (uint8_t *) from, .avail_in = from_size, .next_out = bytes,
                  .avail_out = size };
   int answer = inflateInit (&z);
@@ -266,8 +224,7 @@ inflated (const uint8_t *from, size_t from_size, uint64_t size)
   if (whole)
     return bytes;
   free (bytes);
-  set_error (E_DECOMPRESS_ERROR);
-  return NULL;
+  return null_with (E_DECOMPRESS_ERROR);
 }
 
 uint8_t *
@@ -276,16 +233,12 @@ unpack (Elf_Scn *scn, GElf_Chdr *chdr)
   if (gelf_getchdr (scn, chdr) == NULL)
     return NULL;
   if (chdr->ch_type != ELFCOMPRESS_ZLIB)
-    set_error (E_UNKNOWN_COMPRESSION_TYPE);
-  else if (chdr->ch_addralign & (chdr->ch_addralign - 1))
-    set_error (E_INVALID_ALIGN);
-  else
-    {
-      const Elf_Data *d = elf_getdata (scn, NULL);
-      size_t header = item_size (ELF_T_CHDR, scn->elf->class);
-      return inflated ((uint8_t *) d->d_buf + header, d->d_size - header, chdr->ch_size);
-    }
-  return NULL;
+    return null_with (E_UNKNOWN_COMPRESSION_TYPE);
+  if (!is_power (chdr->ch_addralign))
+    return null_with (E_INVALID_ALIGN);
+  const Elf_Data *d = elf_getdata (scn, NULL);
+  size_t header = item_size (ELF_T_CHDR, scn->elf->class);
+  return inflated ((uint8_t *) d->d_buf + header, d->d_size - header, chdr->ch_size);
 }
 
 /* Takes the data of a section out that stands behind a compression header. */
@@ -311,12 +264,10 @@ take_gnu_out (Elf_Scn *scn, GElf_Shdr *shdr)
   if (d == NULL)
     return -1;
   if (d->d_size < GNU_HEADER || memcmp (d->d_buf, "ZLIB", 4) != 0)
-    return refused (E_NOT_COMPRESSED);
-  uint64_t size = 0;
-  for (int i = 0; i < 8; i++)
-    size = size << 8 | ((uint8_t *) d->d_buf)[4 + i];
+    return negative_with (E_NOT_COMPRESSED);
+  uint64_t size = number_at ((uint8_t *) d->d_buf + 4, 8, true);
   if (size < d->d_size && d->d_size - size > GNU_HEADER + least)
-    return refused (E_NOT_COMPRESSED);
+    return negative_with (E_NOT_COMPRESSED);
   uint8_t *bytes = inflated ((uint8_t *) d->d_buf + GNU_HEADER, d->d_size - GNU_HEADER, size);
   if (bytes == NULL)
     return -1;
@@ -339,7 +290,7 @@ elf_compress (Elf_Scn *scn, int type, unsigned int flags)
     case 0:
       return take_out (scn, &shdr);
     default:
-      return refused (E_UNKNOWN_COMPRESSION_TYPE);
+      return negative_with (E_UNKNOWN_COMPRESSION_TYPE);
     }
 }
 
@@ -358,6 +309,6 @@ elf_compress_gnu (Elf_Scn *scn, int compress, unsigned int flags)
     case 0:
       return take_gnu_out (scn, &shdr);
     default:
-      return refused (E_UNKNOWN_COMPRESSION_TYPE);
+      return negative_with (E_UNKNOWN_COMPRESSION_TYPE);
     }
 }

@@ -74,6 +74,23 @@ struct elfkit_note
    VerdauxRecord, VerneedRecord and VernauxRecord have the layout of Elf64_Phdr and its like. */
 #include <elf.h>
 
+/* The numbers that calls answer: 0 for a value, and refusals that the layer looks at
+   (crates/gelf_records, Codes.antt). */
+enum
+{
+  REFUSED_NOT = 0,
+  REFUSED_MEMORY = 1,
+  REFUSED_VERSION = 8,
+  REFUSED_PH_TABLE = 9,
+  REFUSED_SH_TABLE = 10,
+  REFUSED_NO_DATA = 12,
+  REFUSED_NO_STRING = 23,
+  REFUSED_UNENDED = 24
+};
+
+/* The kinds of items (crates/gelf_records, Forms.antt, kind_number). */
+enum { BYTES = 1, HALVES, WORDS, ADDRESSES, SYMBOLS, RELS, RELAS, DYNS };
+
 /* Opening and closing. */
 uint32_t elfkit_begin (struct elfkit_lent image, struct elfkit_handle *h,
                        struct elfkit_lent *back);

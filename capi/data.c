@@ -3,20 +3,8 @@
    layer makes a buffer. */
 #define _GNU_SOURCE
 #include <search.h>
-#include <stdlib.h>
-#include <string.h>
 
 #include "object.h"
-
-/* Whether programs may write where they see the image: not where the core reads it in the same
-   place. A member is seen in its archive's image. */
-bool
-may_write (const Elf *elf)
-{
-  if (elf->memory == INSIDE)
-    return may_write (elf->parent);
-  return elf->memory == MAPPED || elf->memory == COPIED || elf->memory == WRITTEN;
-}
 
 /* Whether programs write into the data: libdwfl does, of relocatable images. */
 static bool
@@ -31,43 +19,12 @@ static void *
 in_memory (Elf *elf, Elf_Type type, uint64_t at, size_t size, void **owned)
 {
   uint8_t *shown = elf->shown + at;
-  bool native = elf->order == NATIVE_ORDER || type == ELF_T_BYTE;
   *owned = NULL;
-  if (native && ((uintptr_t) shown & (item_align (type, elf->class) - 1)) == 0
+  if (!is_foreign (elf, type) && ((uintptr_t) shown & (item_align (type, elf->class) - 1)) == 0
       && (elf->memory != BORROWED || !is_written (elf)))
     return shown;
-  void *made = *owned = malloc (size == 0 ? 1 : size);
-  if (made == NULL)
-    {
-      set_error (E_NOMEM);
-      return NULL;
-    }
-  if (native)
-    memcpy (made, shown, size);
-  else if (!translate (type, elf->class, true, made, shown, size))
-    {
-      free (made);
-      return *owned = NULL;
-    }
-  return made;
-}
-
-/* Whether a number of bytes is one of whole items. */
-static bool
-is_whole (Elf_Type type, unsigned int class, size_t size)
-{
-  switch (type)
-    {
-    case ELF_T_VDEF:
-    case ELF_T_VNEED:
-    case ELF_T_NHDR:
-    case ELF_T_NHDR8:
-    case ELF_T_GNUHASH:
-    case ELF_T_CHDR:
-      return true;
-    default:
-      return size % item_size (type, class) == 0;
-    }
+  return *owned = is_foreign (elf, type) ? translated (elf, type, true, shown, size)
+                                         : new_copy (shown, size);
 }
 
 /* The alignment of a section's data: that of its header, but where it stands before such a place no
@@ -104,10 +61,7 @@ make_raw (Elf_Scn *scn)
   if (!is_given (elfkit_shdr (&scn->elf->handle, scn->index, &shdr)) || !has_home (scn))
     return false;
   if (!lies_in (scn->home.at, scn->home.len, scn->elf->size) && scn->home.len > 0)
-    {
-      set_error (E_INVALID_SECTION_HEADER);
-      return false;
-    }
+    return false_with (E_INVALID_SECTION_HEADER);
   bool none = shdr.sh_type == SHT_NOBITS || scn->home.len == 0;
   scn->raw.d = (Elf_Data) { .d_buf = none ? NULL : scn->elf->shown + scn->home.at,
                             .d_type = section_type (&shdr), .d_version = EV_CURRENT,
@@ -123,16 +77,9 @@ PUBLIC Elf_Data *
 elf_rawdata (Elf_Scn *scn, Elf_Data *data)
 {
   if (scn == NULL)
-    {
-      set_error (E_INVALID_HANDLE);
-      return NULL;
-    }
+    return null_with (E_INVALID_HANDLE);
   if (data != NULL)
-    {
-      if (data != &scn->raw.d)
-        set_error (E_INVALID_OPERAND);
-      return NULL;
-    }
+    return data == &scn->raw.d ? NULL : null_with (E_INVALID_OPERAND);
   if (scn->is_made)
     return &scn->raw.d;
   if (scn->has_raw == 0)
@@ -140,37 +87,32 @@ elf_rawdata (Elf_Scn *scn, Elf_Data *data)
       scn->has_raw = make_raw (scn) ? 1 : 2;
       scn->raw_error = scn->has_raw == 2 ? elf_errno () : E_NONE;
     }
-  if (scn->has_raw == 2)
-    {
-      set_error (scn->raw_error);
-      return NULL;
-    }
-  return &scn->raw.d;
+  return scn->has_raw == 1 ? &scn->raw.d : null_with (scn->raw_error);
 }
 
-/* The number of the core's kind of items (crates/gelf_records, Forms.antt) that data of a type has;
-   types that the core has no items of are bytes to it. */
+/* The core's kind of items that data of a type has; types that the core has no items of are bytes
+   to it. */
 static uint32_t
 kind_of_type (Elf_Type type)
 {
   switch (type)
     {
     case ELF_T_HALF:
-      return 2;
+      return HALVES;
     case ELF_T_WORD:
-      return 3;
+      return WORDS;
     case ELF_T_ADDR:
-      return 4;
+      return ADDRESSES;
     case ELF_T_SYM:
-      return 5;
+      return SYMBOLS;
     case ELF_T_REL:
-      return 6;
+      return RELS;
     case ELF_T_RELA:
-      return 7;
+      return RELAS;
     case ELF_T_DYN:
-      return 8;
+      return DYNS;
     default:
-      return 1;
+      return BYTES;
     }
 }
 
@@ -181,9 +123,7 @@ has_items (Elf_Scn *scn, Elf_Type type)
   uint32_t kind;
   if (!is_given (elfkit_kind (&scn->elf->handle, scn->index, 0, &kind)))
     return false;
-  if (kind != kind_of_type (type))
-    set_error (E_INVALID_DATA);
-  return kind == kind_of_type (type);
+  return kind == kind_of_type (type) || false_with (E_INVALID_DATA);
 }
 
 /* The data of a section. */
@@ -201,10 +141,7 @@ make_data (Elf_Scn *scn)
   if (!has_items (scn, scn->raw.d.d_type))
     return false;
   if (!is_whole (scn->raw.d.d_type, scn->elf->class, scn->raw.d.d_size))
-    {
-      set_error (E_INVALID_DATA);
-      return false;
-    }
+    return false_with (E_INVALID_DATA);
   scn->data.d.d_buf = in_memory (scn->elf, scn->raw.d.d_type, scn->home.at, scn->raw.d.d_size,
                                  &scn->data.owned);
   return scn->data.d.d_buf != NULL;
@@ -217,8 +154,7 @@ next_piece (Elf_Scn *scn, const Elf_Data *data)
   for (struct elfkit_data *d = &scn->data; d != NULL; d = d->next)
     if (&d->d == data)
       return d->next == NULL ? NULL : &d->next->d;
-  set_error (E_DATA_MISMATCH);
-  return NULL;
+  return null_with (E_DATA_MISMATCH);
 }
 
 /* elf_getdata: the data of a section in memory form; it has one piece, and those that a program
@@ -237,12 +173,7 @@ elf_getdata (Elf_Scn *scn, Elf_Data *data)
       scn->has_data = make_data (scn) ? 1 : 2;
       scn->data_error = scn->has_data == 2 ? elf_errno () : E_NONE;
     }
-  if (scn->has_data == 2)
-    {
-      set_error (scn->data_error);
-      return NULL;
-    }
-  return &scn->data.d;
+  return scn->has_data == 1 ? &scn->data.d : null_with (scn->data_error);
 }
 
 /* The order of the chunks of a file, which stand in a tree. */
@@ -288,12 +219,9 @@ free_chunks (Elf *elf)
 static Elf_Scn *
 make_chunk (Elf *elf, int64_t offset, size_t size, Elf_Type type)
 {
-  Elf_Scn *made = calloc (1, sizeof *made);
+  Elf_Scn *made = new_zeros (sizeof *made);
   if (made == NULL)
-    {
-      set_error (E_NOMEM);
-      return NULL;
-    }
+    return NULL;
   made->elf = elf;
   made->data.scn = made;
   tie (&made->data, elf);
@@ -308,8 +236,7 @@ make_chunk (Elf *elf, int64_t offset, size_t size, Elf_Type type)
   if (tsearch (made, &elf->chunks, compare_chunks) == NULL)
     {
       free_chunk (made);
-      set_error (E_NOMEM);
-      return NULL;
+      return null_with (E_NOMEM);
     }
   return made;
 }
@@ -322,20 +249,11 @@ elf_getdata_rawchunk (Elf *elf, int64_t offset, size_t size, Elf_Type type)
   if (elf == NULL)
     return NULL;
   if (elf->kind != ELF_K_ELF)
-    {
-      set_error (E_INVALID_HANDLE);
-      return NULL;
-    }
+    return null_with (E_INVALID_HANDLE);
   if (offset < 0 || !lies_in (offset, size, elf->size))
-    {
-      set_error (E_INVALID_OP);
-      return NULL;
-    }
+    return null_with (E_INVALID_OP);
   if ((unsigned int) type >= ELF_T_NUM)
-    {
-      set_error (E_UNKNOWN_TYPE);
-      return NULL;
-    }
+    return null_with (E_UNKNOWN_TYPE);
   Elf_Scn key = { .data.d = { .d_off = offset, .d_size = size, .d_type = type } };
   Elf_Scn **found = tfind (&key, &elf->chunks, compare_chunks), *chunk;
   chunk = found != NULL ? *found : make_chunk (elf, offset, size, type);

@@ -115,10 +115,7 @@ elf_version (unsigned int version)
   if (version == EV_CURRENT)
     version_is_set = true;
   else if (version != EV_NONE)
-    {
-      set_error (E_UNKNOWN_VERSION);
-      return EV_NONE;
-    }
+    return false_with (E_UNKNOWN_VERSION);
   return EV_CURRENT;
 }
 

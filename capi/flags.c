@@ -11,10 +11,7 @@ flagged (unsigned int *flags, Elf_Cmd cmd, unsigned int which)
   else if (cmd == ELF_C_CLR)
     *flags &= ~which;
   else
-    {
-      set_error (E_INVALID_CMD);
-      return 0;
-    }
+    return false_with (E_INVALID_CMD);
   return *flags;
 }
 

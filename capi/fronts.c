@@ -4,14 +4,9 @@
    another front: with the sizes and the version that there are, without section headers where
    their table does not lie in it, and with as many program headers as do. Programs see the front
    as it is. */
-#include <stdlib.h>
-#include <string.h>
 #include <sys/mman.h>
 
 #include "object.h"
-
-/* The numbers of the core's refusals that are met here (crates/gelf_records, Codes.antt). */
-enum { NO_MEMORY = 1, VERSION = 8, PH_TABLE = 9, SH_TABLE = 10 };
 
 /* Where the ELF header has its fields (gABI chapter 4, "ELF Header"), and how long the entries of
    the tables are. */
@@ -28,40 +23,44 @@ enum { VERSION_AT = 20 };
 static const struct places *
 places_of (const uint8_t *image)
 {
+  /* clang: the image has a whole ELF header, since kind_of found one */
   return &places[image[EI_CLASS] == ELFCLASS64];
 }
 
 /* A number of so many bytes, in the order of the image; and how it is put there. */
 static uint64_t
-number_at (const uint8_t *image, size_t at, size_t width)
+get (const uint8_t *image, size_t at, size_t width)
 {
-  bool msb = image[EI_DATA] == ELFDATA2MSB;
-  uint64_t number = 0;
-  for (size_t i = 0; i < width; i++)
-    number = number << 8 | image[at + (msb ? i : width - 1 - i)];
-  return number;
+  return number_at (image + at, width, image[EI_DATA] == ELFDATA2MSB);
 }
 
 static void
-put_number (uint8_t *image, size_t at, size_t width, uint64_t number)
+put (uint8_t *image, size_t at, size_t width, uint64_t number)
 {
-  bool msb = image[EI_DATA] == ELFDATA2MSB;
-  for (size_t i = 0; i < width; i++)
-    image[at + (msb ? width - 1 - i : i)] = number >> (8 * i);
+  put_number (image + at, width, image[EI_DATA] == ELFDATA2MSB, number);
 }
 
 struct tables
 tables_of (const uint8_t *image)
 {
   const struct places *p = places_of (image);
-  return (struct tables) { .phoff = number_at (image, p->phoff, p->width),
-                           .shoff = number_at (image, p->shoff, p->width),
-                           .version = number_at (image, VERSION_AT, 4),
-                           .phentsize = number_at (image, p->phentsize, 2),
-                           .phnum = number_at (image, p->phnum, 2),
-                           .shentsize = number_at (image, p->shentsize, 2),
-                           .shnum = number_at (image, p->shnum, 2),
-                           .shstrndx = number_at (image, p->shstrndx, 2) };
+  return (struct tables) { .phoff = get (image, p->phoff, p->width),
+                           .shoff = get (image, p->shoff, p->width),
+                           .version = get (image, VERSION_AT, 4),
+                           .phentsize = get (image, p->phentsize, 2),
+                           .phnum = get (image, p->phnum, 2),
+                           .shentsize = get (image, p->shentsize, 2),
+                           .shnum = get (image, p->shnum, 2),
+                           .shstrndx = get (image, p->shstrndx, 2) };
+}
+
+void
+make_front (uint8_t *image, const uint8_t *ident)
+{
+  const size_t ehsize_at = ident[EI_CLASS] == ELFCLASS64 ? 52 : 40;
+  memcpy (image, ident, EI_NIDENT);
+  put (image, VERSION_AT, 4, EV_CURRENT);
+  put (image, ehsize_at, 2, item_size (ELF_T_EHDR, ident[EI_CLASS]));
 }
 
 /* Takes the section headers out of a front, where it has any. */
@@ -71,12 +70,12 @@ drop_sections (Elf *elf, uint8_t *image)
   const struct places *p = places_of (image);
   struct tables t = tables_of (image);
   if (t.shoff != 0 && t.shentsize != p->shdr)
-    put_number (image, p->shentsize, 2, p->shdr);
+    put (image, p->shentsize, 2, p->shdr);
   else if (t.shoff != 0 || t.shnum != 0)
     {
-      put_number (image, p->shoff, p->width, 0);
-      put_number (image, p->shnum, 2, 0);
-      put_number (image, p->shstrndx, 2, 0);
+      put (image, p->shoff, p->width, 0);
+      put (image, p->shnum, 2, 0);
+      put (image, p->shstrndx, 2, 0);
       elf->is_cut = true;
     }
   else
@@ -94,10 +93,10 @@ fit_segments (Elf *elf, uint8_t *image)
   if (t.phnum == 0)
     return false;
   if (t.phentsize != p->phdr)
-    put_number (image, p->phentsize, 2, p->phdr);
+    put (image, p->phentsize, 2, p->phdr);
   else
     {
-      put_number (image, p->phnum, 2, room < t.phnum ? room : t.phnum - 1u);
+      put (image, p->phnum, 2, room < t.phnum ? room : t.phnum - 1u);
       elf->lacks_phdrs = true;
     }
   return true;
@@ -109,17 +108,15 @@ mend (Elf *elf, uint8_t *image, uint32_t number)
 {
   switch (number)
     {
-    case VERSION:
+    case REFUSED_VERSION:
       if (tables_of (image).version == EV_CURRENT)
         return false;
-      put_number (image, VERSION_AT, 4, EV_CURRENT);
+      put (image, VERSION_AT, 4, EV_CURRENT);
       return true;
-    case SH_TABLE:
+    case REFUSED_SH_TABLE:
       return drop_sections (elf, image);
-    case PH_TABLE:
-      return fit_segments (elf, image);
     default:
-      return false;
+      return fit_segments (elf, image);
     }
 }
 
@@ -133,10 +130,10 @@ open_front (Elf *elf)
     return NULL;
   if (elf->memory != MAPPED && elf->memory != COPIED && elf->front == NULL)
     {
-      elf->front = malloc (elf->size);
+      elf->front = new_copy (elf->lent, elf->size);
       if (elf->front == NULL)
         return NULL;
-      elf->lent = memcpy (elf->front, elf->lent, elf->size);
+      elf->lent = elf->front;
     }
   return (uint8_t *) elf->lent;
 }
@@ -150,11 +147,11 @@ begin_core (Elf *elf)
     {
       struct elfkit_lent image = { elf->lent, elf->size }, back = { NULL, 0 };
       uint32_t number = elfkit_begin (image, &elf->handle, &back);
-      if (number != VERSION && number != SH_TABLE && number != PH_TABLE)
+      if (number != REFUSED_VERSION && number != REFUSED_SH_TABLE && number != REFUSED_PH_TABLE)
         return number;
       uint8_t *front = open_front (elf);
       if (front == NULL)
-        return NO_MEMORY;
+        return REFUSED_MEMORY;
       bool again = mend (elf, front, number);
       if (elf->memory == MAPPED)
         mprotect ((void *) elf->lent, EI_NIDENT, PROT_READ);

@@ -1,55 +1,29 @@
 /* handing.c: how elf_update hands a section to the core: its header is completed as elfutils
    completes it, and its data is handed over in the form that it has in the file, where the object
    does not have it. */
-#include <stdlib.h>
-#include <string.h>
-
 #include "update.h"
-
-/* The number of a refusal of the core (crates/gelf_records, Codes.antt). */
-enum { NO_DATA = 12 };
-
-static bool
-is_power (uint64_t n)
-{
-  return (n & (n - 1)) == 0;
-}
-
-/* Whether a section has bytes in the file. */
-static bool
-has_bytes (const GElf_Shdr *shdr)
-{
-  return shdr->sh_type != SHT_NULL && shdr->sh_type != SHT_NOBITS;
-}
 
 /* ---- Section headers */
 
-/* The size of the entries of a section, where its type tells it; 0 and an error for a group outside
-   of a relocatable image. */
+/* The size of the entries of a section, where its type tells it. */
 static uint64_t
 entry_size (const struct update *u, const GElf_Shdr *shdr)
 {
   unsigned int class = u->elf->class, machine = u->ehdr.e_machine;
   switch (shdr->sh_type)
     {
-    case SHT_SYMTAB:
-    case SHT_DYNSYM:
-      return item_size (ELF_T_SYM, class);
-    case SHT_RELA:
-      return item_size (ELF_T_RELA, class);
-    case SHT_REL:
-      return item_size (ELF_T_REL, class);
-    case SHT_DYNAMIC:
-      return item_size (ELF_T_DYN, class);
     case SHT_HASH:
       return machine == EM_ALPHA || (machine == EM_S390 && class == ELFCLASS64) ? 8 : 4;
+    case SHT_SYMTAB:
+    case SHT_DYNSYM:
+    case SHT_RELA:
+    case SHT_REL:
+    case SHT_DYNAMIC:
     case SHT_GROUP:
     case SHT_SYMTAB_SHNDX:
-      return 4;
     case SHT_SUNW_move:
-      return item_size (ELF_T_MOVE, class);
     case SHT_SUNW_syminfo:
-      return item_size (ELF_T_SYMINFO, class);
+      return item_size (section_type (&(GElf_Shdr) { .sh_type = shdr->sh_type }), class);
     default:
       return shdr->sh_entsize;
     }
@@ -65,24 +39,15 @@ lay_pieces (const struct update *u, Elf_Scn *scn, const GElf_Shdr *shdr, uint64_
   for (struct elfkit_data *d = &scn->data; d != NULL; d = d->next)
     {
       if (d->d.d_version != EV_CURRENT)
-        {
-          set_error (E_UNKNOWN_VERSION);
-          return false;
-        }
+        return false_with (E_UNKNOWN_VERSION);
       if (!is_power (d->d.d_align))
-        {
-          set_error (E_INVALID_ALIGN);
-          return false;
-        }
+        return false_with (E_INVALID_ALIGN);
       if (d->d.d_align > *align)
         *align = d->d.d_align;
       if (!u->has_layout)
         d->d.d_off = round_up (*end, d->d.d_align);
       else if (!lies_in (d->d.d_off, d->d.d_size, shdr->sh_size))
-        {
-          set_error (E_SECTION_TOO_SMALL);
-          return false;
-        }
+        return false_with (E_SECTION_TOO_SMALL);
       *end = d->d.d_off + d->d.d_size;
     }
   return true;
@@ -101,10 +66,7 @@ has_whole_entries (const struct update *u, Elf_Scn *scn, const GElf_Shdr *shdr, 
         return false;
       size = chdr.ch_size;
     }
-  if (size % shdr->sh_entsize == 0)
-    return true;
-  set_error (E_INVALID_SHENTSIZE);
-  return false;
+  return size % shdr->sh_entsize == 0 || false_with (E_INVALID_SHENTSIZE);
 }
 
 /* Completes a section header: the size of its entries, and where the places are not the program's
@@ -114,15 +76,9 @@ complete_shdr (struct update *u, Elf_Scn *scn, GElf_Shdr *shdr)
 {
   uint64_t align = shdr->sh_addralign == 0 ? 1 : shdr->sh_addralign, end = 0;
   if (!is_power (align))
-    {
-      set_error (E_INVALID_ALIGN);
-      return false;
-    }
+    return false_with (E_INVALID_ALIGN);
   if (shdr->sh_type == SHT_GROUP && u->ehdr.e_type != ET_REL)
-    {
-      set_error (E_GROUP_NOT_REL);
-      return false;
-    }
+    return false_with (E_GROUP_NOT_REL);
   shdr->sh_entsize = entry_size (u, shdr);
   if (shdr->sh_flags & SHF_COMPRESSED)
     align = shdr->sh_addralign = item_align (ELF_T_CHDR, u->elf->class);
@@ -147,10 +103,7 @@ complete_shdr (struct update *u, Elf_Scn *scn, GElf_Shdr *shdr)
         u->end += end;
     }
   else if ((shdr->sh_addralign == 0 ? 1 : shdr->sh_addralign) < align)
-    {
-      set_error (E_INVALID_ALIGN);
-      return false;
-    }
+    return false_with (E_INVALID_ALIGN);
   return has_whole_entries (u, scn, shdr, shdr->sh_size);
 }
 
@@ -169,13 +122,13 @@ static bool
 hand_bytes (struct place *p, const uint8_t *bytes, size_t size)
 {
   static const uint8_t none;
-  uint32_t piece, number = NO_DATA;
+  uint32_t piece, number = REFUSED_NO_DATA;
   if (size == 0)
     bytes = &none;
   if (p->has_home)
     number = elfkit_replace (&p->u->handle, p->section, 0, bytes, size);
   p->has_home = false;
-  if (number == NO_DATA)
+  if (number == REFUSED_NO_DATA)
     number = elfkit_newdata (&p->u->handle, p->section, bytes, size, 1, &piece);
   return is_given (number);
 }
@@ -186,12 +139,9 @@ hand_fill (struct place *p, uint64_t size)
 {
   if (size == 0)
     return true;
-  uint8_t *bytes = size > MOST_FILL ? NULL : malloc (size);
+  uint8_t *bytes = size > MOST_FILL ? null_with (E_NOMEM) : new_bytes (size);
   if (bytes == NULL)
-    {
-      set_error (E_NOMEM);
-      return false;
-    }
+    return false;
   bool done = hand_bytes (p, memset (bytes, fill_byte, size), size);
   free (bytes);
   return done;
@@ -203,25 +153,13 @@ hand_piece (struct place *p, const Elf_Data *d)
 {
   const Elf *elf = p->u->elf;
   if (d->d_size > 0 && d->d_buf == NULL)
-    {
-      set_error (E_INVALID_DATA);
-      return false;
-    }
-  if (elf->order == NATIVE_ORDER || d->d_type == ELF_T_BYTE || d->d_size == 0)
+    return false_with (E_INVALID_DATA);
+  if (!is_foreign (elf, d->d_type) || d->d_size == 0)
     return hand_bytes (p, d->d_buf, d->d_size);
   if ((unsigned int) d->d_type >= ELF_T_NUM)
-    {
-      set_error (E_UNKNOWN_TYPE);
-      return false;
-    }
-  uint8_t *bytes = malloc (d->d_size);
-  if (bytes == NULL)
-    {
-      set_error (E_NOMEM);
-      return false;
-    }
-  bool done = translate (d->d_type, elf->class, false, bytes, d->d_buf, d->d_size)
-              && hand_bytes (p, bytes, d->d_size);
+    return false_with (E_UNKNOWN_TYPE);
+  uint8_t *bytes = translated (elf, d->d_type, false, d->d_buf, d->d_size);
+  bool done = bytes != NULL && hand_bytes (p, bytes, d->d_size);
   free (bytes);
   return done;
 }
@@ -236,7 +174,7 @@ is_as_opened (Elf_Scn *scn)
     return false;
   if (((scn->flags | d->flags | elf->flags) & ELF_F_DIRTY) == 0)
     return true;
-  return (elf->order == NATIVE_ORDER || d->d.d_type == ELF_T_BYTE)
+  return !is_foreign (elf, d->d.d_type)
          && lies_in (scn->home.at, scn->home.len, elf->size)
          && (d->d.d_size == 0
              || memcmp (d->d.d_buf, elf->lent + scn->home.at, d->d.d_size) == 0);
@@ -252,10 +190,7 @@ hand_pieces (struct place *p, Elf_Scn *scn, const GElf_Shdr *shdr)
     {
       uint64_t at = d->d.d_off;
       if (at < end)
-        {
-          set_error (E_INVALID_DATA);
-          return false;
-        }
+        return false_with (E_INVALID_DATA);
       if (!hand_fill (p, at - end) || !hand_piece (p, &d->d))
         return false;
       end = at + d->d.d_size;
@@ -271,10 +206,7 @@ hand_home (struct place *p, Elf_Scn *scn, const GElf_Shdr *shdr)
   const Elf *elf = scn->elf;
   uint64_t size = shdr->sh_size < scn->home.len ? shdr->sh_size : scn->home.len;
   if (!lies_in (scn->home.at, size, elf->size))
-    {
-      set_error (E_INVALID_SECTION_HEADER);
-      return false;
-    }
+    return false_with (E_INVALID_SECTION_HEADER);
   return hand_bytes (p, elf->lent + scn->home.at, size) && hand_fill (p, shdr->sh_size - size);
 }
 

@@ -1,6 +1,4 @@
 /* hashes.c: elf_hash, elf_gnu_hash, both the core's. */
-#include <string.h>
-
 #include "object.h"
 
 PUBLIC unsigned long int

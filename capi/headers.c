@@ -1,8 +1,5 @@
 /* headers.c: the headers, of both classes and in the form of gelf(3E), and their counts. The core
    gives each header; the layer keeps the native form for programs that ask for a pointer. */
-#include <stdlib.h>
-#include <string.h>
-
 #include "object.h"
 
 bool
@@ -47,21 +44,24 @@ gelf_getehdr (Elf *elf, GElf_Ehdr *dst)
 {
   if (!is_elf (elf, 0) || dst == NULL)
     return NULL;
-  if (elf->class == ELFCLASS64)
-    *dst = *(Elf64_Ehdr *) elf->ehdr;
-  else
-    {
-      const Elf32_Ehdr *e = elf->ehdr;
-      *dst = (GElf_Ehdr) { .e_type = e->e_type, .e_machine = e->e_machine,
-                           .e_version = e->e_version, .e_entry = e->e_entry,
-                           .e_phoff = e->e_phoff, .e_shoff = e->e_shoff, .e_flags = e->e_flags,
-                           .e_ehsize = e->e_ehsize, .e_phentsize = e->e_phentsize,
-                           .e_phnum = e->e_phnum, .e_shentsize = e->e_shentsize,
-                           .e_shnum = e->e_shnum, .e_shstrndx = e->e_shstrndx };
-      for (int i = 0; i < EI_NIDENT; i++)
-        dst->e_ident[i] = e->e_ident[i];
-    }
+  to_gelf (ELF_T_EHDR, elf->class, dst, elf->ehdr);
   return dst;
+}
+
+bool
+put_ehdr (Elf *elf, const GElf_Ehdr *src)
+{
+  return from_gelf (ELF_T_EHDR, elf->class, elf->ehdr, src);
+}
+
+/* gelf_update_ehdr: stores the ELF header. */
+PUBLIC int
+gelf_update_ehdr (Elf *elf, GElf_Ehdr *src)
+{
+  if (!is_elf (elf, 0) || !put_ehdr (elf, src))
+    return 0;
+  elf->ehdr_flags |= ELF_F_DIRTY;
+  return 1;
 }
 
 /* elf_getphdrnum, elf_getshdrnum, elf_getshdrstrndx: the true counts, and the section of the names
@@ -72,10 +72,7 @@ elf_getphdrnum (Elf *elf, size_t *count)
   if (!is_elf (elf, 0))
     return -1;
   if (elf->lacks_phdrs && elf->phnum == 0 && elf->tables.phoff != 0)
-    {
-      set_error (E_INVALID_DATA);
-      return -1;
-    }
+    return negative_with (E_INVALID_DATA);
   *count = elf->phnum;
   return 0;
 }
@@ -109,10 +106,7 @@ elf_getshdrstrndx (Elf *elf, size_t *index)
                       && ehdr.e_shstrndx == elf->tables.shstrndx;
   *index = ehdr.e_shstrndx;
   if (ehdr.e_shstrndx == SHN_XINDEX && elf->shnum == 0)
-    {
-      set_error (E_INVALID_SECTION_HEADER);
-      return -1;
-    }
+    return negative_with (E_INVALID_SECTION_HEADER);
   if (is_as_opened)
     *index = elfkit_shstrndx (&elf->handle);
   else if (ehdr.e_shstrndx == SHN_XINDEX
@@ -134,6 +128,13 @@ elf_getshstrndx (Elf *elf, size_t *index)
   return elf_getshdrstrndx (elf, index);
 }
 
+/* A program header in native form, of those that there are. */
+static void *
+phdr_at (Elf *elf, size_t index)
+{
+  return (uint8_t *) elf->phdr + index * item_size (ELF_T_PHDR, elf->class);
+}
+
 /* gelf_getphdr: a program header. */
 PUBLIC GElf_Phdr *
 gelf_getphdr (Elf *elf, int ndx, GElf_Phdr *dst)
@@ -141,26 +142,12 @@ gelf_getphdr (Elf *elf, int ndx, GElf_Phdr *dst)
   if (!is_elf (elf, 0) || dst == NULL)
     return NULL;
   if (elf->phnum == 0)
-    {
-      set_error (E_NO_PHDR);
-      return NULL;
-    }
+    return null_with (E_NO_PHDR);
   if (elf->phdr == NULL)
     return is_given (elfkit_phdr (&elf->handle, (uint32_t) ndx, dst)) ? dst : NULL;
   if (ndx < 0 || (size_t) ndx >= elf->phnum)
-    {
-      set_error (E_INVALID_INDEX);
-      return NULL;
-    }
-  if (elf->class == ELFCLASS64)
-    *dst = ((Elf64_Phdr *) elf->phdr)[ndx];
-  else
-    {
-      const Elf32_Phdr *p = (Elf32_Phdr *) elf->phdr + ndx;
-      *dst = (GElf_Phdr) { .p_type = p->p_type, .p_offset = p->p_offset, .p_vaddr = p->p_vaddr,
-                           .p_paddr = p->p_paddr, .p_filesz = p->p_filesz,
-                           .p_memsz = p->p_memsz, .p_flags = p->p_flags, .p_align = p->p_align };
-    }
+    return null_with (E_INVALID_INDEX);
+  to_gelf (ELF_T_PHDR, elf->class, dst, phdr_at (elf, ndx));
   return dst;
 }
 
@@ -171,31 +158,30 @@ native_phdrs (Elf *elf)
   if (elf->phdr != NULL)
     return elf->phdr;
   if (elf->phnum == 0)
-    {
-      set_error (E_NO_PHDR);
-      return NULL;
-    }
-  size_t size = elf->class == ELFCLASS64 ? sizeof (Elf64_Phdr) : sizeof (Elf32_Phdr);
-  void *all = calloc (elf->phnum, size);
-  if (all == NULL)
-    {
-      set_error (E_NOMEM);
-      return NULL;
-    }
-  for (size_t i = 0; i < elf->phnum; i++)
+    return null_with (E_NO_PHDR);
+  elf->phdr = new_zeros (elf->phnum * item_size (ELF_T_PHDR, elf->class));
+  for (size_t i = 0; elf->phdr != NULL && i < elf->phnum; i++)
     {
       GElf_Phdr x;
-      if (elfkit_phdr (&elf->handle, i, &x) != 0)
-        continue;
-      if (elf->class == ELFCLASS64)
-        ((Elf64_Phdr *) all)[i] = x;
-      else
-        ((Elf32_Phdr *) all)[i] = (Elf32_Phdr) {
-          .p_type = x.p_type, .p_offset = x.p_offset, .p_vaddr = x.p_vaddr, .p_paddr = x.p_paddr,
-          .p_filesz = x.p_filesz, .p_memsz = x.p_memsz, .p_flags = x.p_flags, .p_align = x.p_align
-        };
+      if (elfkit_phdr (&elf->handle, i, &x) == REFUSED_NOT)
+        from_gelf (ELF_T_PHDR, elf->class, phdr_at (elf, i), &x);
     }
-  return elf->phdr = all;
+  return elf->phdr;
+}
+
+/* gelf_update_phdr: stores a program header. */
+PUBLIC int
+gelf_update_phdr (Elf *elf, int ndx, GElf_Phdr *src)
+{
+  GElf_Phdr x;
+  if (!is_elf (elf, 0) || !from_gelf (ELF_T_PHDR, elf->class, &x, src)
+      || native_phdrs (elf) == NULL)
+    return 0;
+  if (ndx < 0 || (size_t) ndx >= elf->phnum)
+    return false_with (E_INVALID_INDEX);
+  memcpy (phdr_at (elf, ndx), &x, item_size (ELF_T_PHDR, elf->class));
+  elf->phdr_flags |= ELF_F_DIRTY;
+  return 1;
 }
 
 PUBLIC Elf32_Phdr *
@@ -210,6 +196,25 @@ elf64_getphdr (Elf *elf)
   return is_elf (elf, ELFCLASS64) ? native_phdrs (elf) : NULL;
 }
 
+/* The core's header of a section. Where the image has headers in the very form that is asked for, it
+   is read there; a library that is built with ELFKIT_CHECK compares it with the core's. */
+static bool
+read_shdr (const Elf_Scn *scn, GElf_Shdr *dst)
+{
+  Elf *elf = scn->elf;
+  uint64_t at = elf->tables.shoff + scn->index * sizeof *dst;
+  if (elf->class != ELFCLASS64 || elf->order != NATIVE_ORDER
+      || !lies_in (at, sizeof *dst, elf->size))
+    return is_given (elfkit_shdr (&elf->handle, scn->index, dst));
+  memcpy (dst, elf->lent + at, sizeof *dst);
+#ifdef ELFKIT_CHECK
+  GElf_Shdr x;
+  if (elfkit_shdr (&elf->handle, scn->index, &x) != REFUSED_NOT || memcmp (&x, dst, sizeof x) != 0)
+    abort ();
+#endif
+  return true;
+}
+
 /* gelf_getshdr: a section header, as the program changed it where it asked for a pointer. */
 PUBLIC GElf_Shdr *
 gelf_getshdr (Elf_Scn *scn, GElf_Shdr *dst)
@@ -217,22 +222,10 @@ gelf_getshdr (Elf_Scn *scn, GElf_Shdr *dst)
   if (scn == NULL)
     return NULL;
   if (dst == NULL)
-    {
-      set_error (E_INVALID_OPERAND);
-      return NULL;
-    }
-  if (scn->shdr != NULL && scn->elf->class == ELFCLASS64)
-    *dst = *(Elf64_Shdr *) scn->shdr;
-  else if (scn->shdr != NULL)
-    {
-      const Elf32_Shdr *s = scn->shdr;
-      *dst = (GElf_Shdr) { .sh_name = s->sh_name, .sh_type = s->sh_type, .sh_flags = s->sh_flags,
-                           .sh_addr = s->sh_addr, .sh_offset = s->sh_offset,
-                           .sh_size = s->sh_size, .sh_link = s->sh_link, .sh_info = s->sh_info,
-                           .sh_addralign = s->sh_addralign, .sh_entsize = s->sh_entsize };
-    }
-  else if (!is_given (elfkit_shdr (&scn->elf->handle, scn->index, dst)))
-    return NULL;
+    return null_with (E_INVALID_OPERAND);
+  if (scn->shdr == NULL)
+    return read_shdr (scn, dst) ? dst : NULL;
+  to_gelf (ELF_T_SHDR, scn->elf->class, dst, scn->shdr);
   return dst;
 }
 
@@ -242,30 +235,12 @@ native_shdr (Elf_Scn *scn, unsigned int class)
 {
   if (scn == NULL || !is_elf (scn->elf, class))
     return NULL;
-  if (scn->shdr != NULL)
-    return scn->shdr;
   GElf_Shdr x;
-  if (gelf_getshdr (scn, &x) == NULL)
-    return NULL;
-  if (class == ELFCLASS64)
-    {
-      Elf64_Shdr *s = malloc (sizeof *s);
-      if (s != NULL)
-        *s = x;
-      scn->shdr = s;
-    }
-  else
-    {
-      Elf32_Shdr *s = malloc (sizeof *s);
-      if (s != NULL)
-        *s = (Elf32_Shdr) { .sh_name = x.sh_name, .sh_type = x.sh_type, .sh_flags = x.sh_flags,
-                            .sh_addr = x.sh_addr, .sh_offset = x.sh_offset,
-                            .sh_size = x.sh_size, .sh_link = x.sh_link, .sh_info = x.sh_info,
-                            .sh_addralign = x.sh_addralign, .sh_entsize = x.sh_entsize };
-      scn->shdr = s;
-    }
-  if (scn->shdr == NULL)
-    set_error (E_NOMEM);
+  if (scn->shdr != NULL || gelf_getshdr (scn, &x) == NULL)
+    return scn->shdr;
+  scn->shdr = new_zeros (item_size (ELF_T_SHDR, class));
+  if (scn->shdr != NULL)
+    from_gelf (ELF_T_SHDR, class, scn->shdr, &x);
   return scn->shdr;
 }
 
@@ -284,24 +259,9 @@ elf64_getshdr (Elf_Scn *scn)
 bool
 put_shdr (Elf_Scn *scn, const GElf_Shdr *src)
 {
-  if (native_shdr (scn, scn->elf->class) == NULL)
+  unsigned int class = scn->elf->class;
+  if (native_shdr (scn, class) == NULL || !from_gelf (ELF_T_SHDR, class, scn->shdr, src))
     return false;
-  if (scn->elf->class == ELFCLASS64)
-    *(Elf64_Shdr *) scn->shdr = *src;
-  else if (src->sh_flags > UINT32_MAX || src->sh_addr > UINT32_MAX || src->sh_offset > UINT32_MAX
-           || src->sh_size > UINT32_MAX || src->sh_addralign > UINT32_MAX
-           || src->sh_entsize > UINT32_MAX)
-    {
-      set_error (E_INVALID_DATA);
-      return false;
-    }
-  else
-    *(Elf32_Shdr *) scn->shdr = (Elf32_Shdr) {
-      .sh_name = src->sh_name, .sh_type = src->sh_type, .sh_flags = src->sh_flags,
-      .sh_addr = src->sh_addr, .sh_offset = src->sh_offset, .sh_size = src->sh_size,
-      .sh_link = src->sh_link, .sh_info = src->sh_info, .sh_addralign = src->sh_addralign,
-      .sh_entsize = src->sh_entsize
-    };
   scn->elf->has_links = false;
   return true;
 }
@@ -316,72 +276,57 @@ gelf_update_shdr (Elf_Scn *scn, GElf_Shdr *src)
   return 1;
 }
 
-/* elf32_getchdr, elf64_getchdr, gelf_getchdr: the compression header at the start of the data of a
-   section with SHF_COMPRESSED. */
-static bool
-has_chdr (Elf_Scn *scn, GElf_Chdr *dst)
+/* The data of a section with SHF_COMPRESSED, at whose start the compression header is. */
+static Elf_Data *
+packed_data (Elf_Scn *scn)
 {
   GElf_Shdr shdr;
   if (gelf_getshdr (scn, &shdr) == NULL)
-    return false;
+    return NULL;
   if (shdr.sh_flags & SHF_ALLOC)
-    set_error (E_INVALID_SECTION_FLAGS);
-  else if (shdr.sh_type == SHT_NULL || shdr.sh_type == SHT_NOBITS)
-    set_error (E_INVALID_SECTION_TYPE);
-  else if ((shdr.sh_flags & SHF_COMPRESSED) == 0)
-    set_error (E_NOT_COMPRESSED);
-  else
-    {
-      Elf_Data *data = elf_getdata (scn, NULL);
-      bool is64 = scn->elf->class == ELFCLASS64;
-      if (data == NULL)
-        return false;
-      if (data->d_size < (is64 ? sizeof (Elf64_Chdr) : sizeof (Elf32_Chdr)))
-        set_error (E_INVALID_DATA);
-      else
-        {
-          if (is64)
-            memcpy (dst, data->d_buf, sizeof *dst);
-          else
-            {
-              Elf32_Chdr c;
-              memcpy (&c, data->d_buf, sizeof c);
-              *dst = (GElf_Chdr) { .ch_type = c.ch_type, .ch_size = c.ch_size,
-                                   .ch_addralign = c.ch_addralign };
-            }
-          return true;
-        }
-    }
-  return false;
+    return null_with (E_INVALID_SECTION_FLAGS);
+  if (shdr.sh_type == SHT_NULL || shdr.sh_type == SHT_NOBITS)
+    return null_with (E_INVALID_SECTION_TYPE);
+  if ((shdr.sh_flags & SHF_COMPRESSED) == 0)
+    return null_with (E_NOT_COMPRESSED);
+  Elf_Data *data = elf_getdata (scn, NULL);
+  if (data != NULL && data->d_size < item_size (ELF_T_CHDR, scn->elf->class))
+    return null_with (E_INVALID_DATA);
+  return data;
 }
 
+/* gelf_getchdr, elf32_getchdr, elf64_getchdr: the compression header. */
 PUBLIC GElf_Chdr *
 gelf_getchdr (Elf_Scn *scn, GElf_Chdr *dst)
 {
   if (scn == NULL)
     return NULL;
   if (dst == NULL)
-    {
-      set_error (E_INVALID_OPERAND);
-      return NULL;
-    }
-  return has_chdr (scn, dst) ? dst : NULL;
+    return null_with (E_INVALID_OPERAND);
+  const Elf_Data *data = packed_data (scn);
+  if (data == NULL)
+    return NULL;
+  to_gelf (ELF_T_CHDR, scn->elf->class, dst, data->d_buf);
+  return dst;
+}
+
+/* The same where it stands, of a class. */
+static void *
+native_chdr (Elf_Scn *scn, unsigned int class)
+{
+  const Elf_Data *data
+    = scn == NULL || !is_elf (scn->elf, class) ? NULL : packed_data (scn);
+  return data == NULL ? NULL : data->d_buf;
 }
 
 PUBLIC Elf32_Chdr *
 elf32_getchdr (Elf_Scn *scn)
 {
-  GElf_Chdr x;
-  if (scn == NULL || !is_elf (scn->elf, ELFCLASS32) || !has_chdr (scn, &x))
-    return NULL;
-  return elf_getdata (scn, NULL)->d_buf;
+  return native_chdr (scn, ELFCLASS32);
 }
 
 PUBLIC Elf64_Chdr *
 elf64_getchdr (Elf_Scn *scn)
 {
-  GElf_Chdr x;
-  if (scn == NULL || !is_elf (scn->elf, ELFCLASS64) || !has_chdr (scn, &x))
-    return NULL;
-  return elf_getdata (scn, NULL)->d_buf;
+  return native_chdr (scn, ELFCLASS64);
 }

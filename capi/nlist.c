@@ -3,8 +3,6 @@
    with many symbols is gone over once. */
 #include <fcntl.h>
 #include <nlist.h>
-#include <stdlib.h>
-#include <string.h>
 #include <unistd.h>
 
 #include "object.h"
@@ -45,12 +43,9 @@ sort_list (struct nlist *list, struct wanted *w)
   w->count = 0;
   for (struct nlist *entry = list; has_name (entry); entry++, w->count++)
     set_entry (entry, 0, 0, 0);
-  w->entries = malloc ((w->count + 1) * sizeof *w->entries);
+  w->entries = new_bytes (w->count * sizeof *w->entries);
   if (w->entries == NULL)
-    {
-      set_error (E_NOMEM);
-      return false;
-    }
+    return false;
   for (size_t i = 0; i < w->count; i++)
     w->entries[i] = &list[i];
   qsort (w->entries, w->count, sizeof *w->entries, compare_names);

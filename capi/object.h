@@ -5,12 +5,21 @@
 #include <stdbool.h>
 #include <stddef.h>
 #include <stdint.h>
+#include <stdlib.h>
+#include <string.h>
 
 #include "core.h"
 #include "gelf.h"
 
 /* The layer names what programs may call; all else stays inside. */
 #define PUBLIC __attribute__ ((visibility ("default")))
+
+/* A list of pointers, which grows at its end. */
+struct list
+{
+  void **at;
+  size_t count, room;
+};
 
 /* An Elf_Data of the layer. A program sees its first member alone. */
 struct elfkit_data
@@ -99,8 +108,7 @@ struct Elf
   size_t phnum;
   Elf_Scn *sections;            /* those of the image that was opened */
   size_t opened;
-  Elf_Scn **added;              /* those that a program made, behind them */
-  size_t room;                  /* for how many there is memory */
+  struct list added;            /* those that a program made, behind them */
   size_t shnum;                 /* how many there are of both */
   bool has_links;               /* the sections know their tables of extended indexes */
   void *chunks;                 /* the chunks of the file that were asked for, a tree */
@@ -124,8 +132,7 @@ struct elfkit_member
 struct elfkit_archive
 {
   struct elfkit_ar_handle handle;
-  struct elfkit_member **members;
-  size_t count, room;
+  struct list members;
   struct elfkit_ar_member came; /* the one that the core gave and that is not among them yet */
   uint64_t place;               /* where the header after them stands */
   int end;                      /* why there are no more, E_NONE where there may be */
@@ -212,31 +219,135 @@ enum
 /* Sets the error number of this thread. */
 void set_error (int error);
 
+/* The same, and what a call that fails gives. */
+static inline void *
+null_with (int error)
+{
+  set_error (error);
+  return NULL;
+}
+
+static inline bool
+false_with (int error)
+{
+  set_error (error);
+  return false;
+}
+
+static inline int
+negative_with (int error)
+{
+  set_error (error);
+  return -1;
+}
+
 /* The error number that stands for a refusal of the core, 0 for none. */
 int error_of (uint32_t number);
+
+/* Whether a call of the core gave a value; an error where it did not. */
+static inline bool
+is_given (uint32_t number)
+{
+  return number == REFUSED_NOT || false_with (error_of (number));
+}
+
+/* Memory of a size, of zeros, and with a copy of bytes; NULL and an error where there is none. */
+static inline void *
+new_bytes (size_t size)
+{
+  void *made = malloc (size == 0 ? 1 : size);
+  return made != NULL ? made : null_with (E_NOMEM);
+}
+
+static inline void *
+new_zeros (size_t size)
+{
+  void *made = calloc (1, size);
+  return made != NULL ? made : null_with (E_NOMEM);
+}
+
+static inline void *
+new_copy (const void *from, size_t size)
+{
+  void *made = new_bytes (size);
+  return made == NULL || size == 0 ? made : memcpy (made, from, size);
+}
+
+/* Adds a pointer to a list; false and an error where there is no memory. */
+bool add (struct list *list, void *item);
 
 /* Whether elf_version was called, by any thread. */
 extern _Atomic bool version_is_set;
 
-/* The class and the byte order of the machine. */
+/* The byte order of the machine. */
 enum { NATIVE_ORDER = ELFDATA2LSB };
 
-/* The size of one item of a type in the file of a class; 0 for a type that is not known. */
-size_t item_size (Elf_Type type, unsigned int class);
+/* The size of one item of a type in the file, for class 32 and class 64. */
+static const uint8_t item_sizes[ELF_T_NUM][2] = {
+  [ELF_T_BYTE] = { 1, 1 },
+  [ELF_T_ADDR] = { 4, 8 },
+  [ELF_T_DYN] = { 8, 16 },
+  [ELF_T_EHDR] = { 52, 64 },
+  [ELF_T_HALF] = { 2, 2 },
+  [ELF_T_OFF] = { 4, 8 },
+  [ELF_T_PHDR] = { 32, 56 },
+  [ELF_T_RELA] = { 12, 24 },
+  [ELF_T_REL] = { 8, 16 },
+  [ELF_T_SHDR] = { 40, 64 },
+  [ELF_T_SWORD] = { 4, 4 },
+  [ELF_T_SYM] = { 16, 24 },
+  [ELF_T_WORD] = { 4, 4 },
+  [ELF_T_XWORD] = { 8, 8 },
+  [ELF_T_SXWORD] = { 8, 8 },
+  [ELF_T_VDEF] = { 20, 20 },
+  [ELF_T_VDAUX] = { 8, 8 },
+  [ELF_T_VNEED] = { 16, 16 },
+  [ELF_T_VNAUX] = { 16, 16 },
+  [ELF_T_NHDR] = { 12, 12 },
+  [ELF_T_SYMINFO] = { 4, 4 },
+  [ELF_T_MOVE] = { 24, 32 },
+  [ELF_T_LIB] = { 20, 20 },
+  [ELF_T_GNUHASH] = { 4, 4 },
+  [ELF_T_AUXV] = { 8, 16 },
+  [ELF_T_CHDR] = { 12, 24 },
+  [ELF_T_NHDR8] = { 12, 12 },
+};
 
-/* The same of the types that are known, for class 32 and class 64. */
-extern const uint8_t item_sizes[ELF_T_NUM][2];
+/* The same; 0 for a type or a class that is not known. */
+size_t item_size (Elf_Type type, unsigned int class);
 
 /* The alignment that C wants of an item in memory. */
 size_t item_align (Elf_Type type, unsigned int class);
 
-/* The type of the data of a section with that header. */
+/* Whether a number of bytes is one of whole items; of a type with items of several sizes any is. */
+bool is_whole (Elf_Type type, unsigned int class, size_t size);
+
+/* The type of the data of a section with that header, and the same of a type of sections. */
 Elf_Type section_type (const GElf_Shdr *shdr);
+
+/* Puts a record into the form of gelf(3E), that of class 64, and back from it; false and an error
+   where a number does not fit the class. */
+void to_gelf (Elf_Type type, unsigned int class, void *to, const void *from);
+bool from_gelf (Elf_Type type, unsigned int class, void *to, const void *from);
+
+/* A number of so many bytes, the least first or the greatest (msb), and how it is put there. */
+uint64_t number_at (const uint8_t *at, size_t width, bool msb);
+void put_number (uint8_t *at, size_t width, bool msb, uint64_t number);
 
 /* Translates so many bytes of items between the orders; the two ranges are the same or apart. False
    and an error where there is no memory. */
 bool translate (Elf_Type type, unsigned int class, bool to_memory, void *to, const void *from,
                 size_t size);
+
+/* The same, to memory of their own; NULL and an error where there is none. */
+void *translated (const Elf *elf, Elf_Type type, bool to_memory, const void *from, size_t size);
+
+/* Whether items of an image have another form in the file than in memory. */
+static inline bool
+is_foreign (const Elf *elf, Elf_Type type)
+{
+  return elf->order != NATIVE_ORDER && type != ELF_T_BYTE;
+}
 
 /* Makes data that of an image. */
 void tie (struct elfkit_data *d, Elf *elf);
@@ -261,6 +372,13 @@ void *native_phdrs (Elf *elf);
 bool put_ehdr (Elf *elf, const GElf_Ehdr *src);
 bool put_shdr (Elf_Scn *scn, const GElf_Shdr *src);
 
+/* Takes the image of a file, by mappings or in memory; false and an error where it is not to be
+   had. */
+bool take_file (Elf *elf, int fd);
+
+/* Lets go of the image, and of what programs saw of images before. */
+void let_go (Elf *elf);
+
 /* Maps the file as programs see it, privately; NULL where it cannot be mapped. */
 uint8_t *map_shown (int fd, size_t size);
 
@@ -275,8 +393,24 @@ bool own_image (Elf *elf);
 /* What the ELF header of an image says of the tables. */
 struct tables tables_of (const uint8_t *image);
 
+/* Makes an ELF header of zeros one with that identification, which tells nothing else. */
+void make_front (uint8_t *image, const uint8_t *ident);
+
 /* The byte of gaps, for all threads. */
 extern _Atomic uint8_t fill_byte;
+
+/* Whether a command opens a file to be changed in place, and one to be written in either way. */
+static inline bool
+changes_file (Elf_Cmd cmd)
+{
+  return cmd == ELF_C_RDWR || cmd == ELF_C_RDWR_MMAP;
+}
+
+static inline bool
+is_writing (Elf_Cmd cmd)
+{
+  return changes_file (cmd) || cmd == ELF_C_WRITE || cmd == ELF_C_WRITE_MMAP;
+}
 
 /* Begins over the image of a descriptor; the number of the core's refusal, or 0. */
 uint32_t begin_core (Elf *elf);
@@ -304,11 +438,26 @@ Elf_Scn *append_section (Elf *elf);
 /* The section, with its home's place; false and an error where the core refuses. */
 bool has_home (Elf_Scn *scn);
 
+/* What programs saw of the strings of a section is not looked for there any more. */
+void forget_strings (Elf_Scn *scn);
+
 /* The section with a number below the count. */
 static inline Elf_Scn *
 section_at (Elf *elf, size_t index)
 {
-  return index < elf->opened ? &elf->sections[index] : elf->added[index - elf->opened];
+  return index < elf->opened ? &elf->sections[index] : elf->added.at[index - elf->opened];
+}
+
+static inline bool
+is_power (uint64_t n)
+{
+  return (n & (n - 1)) == 0;
+}
+
+static inline uint64_t
+round_up (uint64_t n, uint64_t align)
+{
+  return align <= 1 ? n : (n + align - 1) & -align;
 }
 
 /* Whether the place and the length lie in a size. */
@@ -324,15 +473,6 @@ struct elfkit_data *record_of (Elf_Data *data, Elf_Type type, int offset, size_t
 /* NULL, and the error of an item that is not there. */
 struct elfkit_data *no_item (Elf_Data *data, Elf_Type type);
 
-/* What a call of the core gave: whether it is a value, and else the error. */
-bool is_given (uint32_t number);
-
-static inline bool
-is_64 (const struct elfkit_data *d)
-{
-  return d->is_64;
-}
-
 /* The layer's part of an Elf_Data. */
 static inline struct elfkit_data *
 data_of (Elf_Data *data)
@@ -346,16 +486,16 @@ item_of (Elf_Data *data, Elf_Type type, int ndx)
 {
   struct elfkit_data *d = data_of (data);
   if (d == NULL || data->d_type != type || d->elf == NULL || ndx < 0 || data->d_buf == NULL
-      || ((size_t) ndx + 1) * item_sizes[type][is_64 (d)] > data->d_size)
+      || ((size_t) ndx + 1) * item_sizes[type][d->is_64] > data->d_size)
     return no_item (data, type);
   return d;
 }
 
 /* The item in the buffer. */
 static inline void *
-at_index (const struct elfkit_data *d, int ndx)
+at_index (const struct elfkit_data *d, Elf_Type type, int ndx)
 {
-  return (uint8_t *) d->d.d_buf + (size_t) ndx * item_sizes[d->d.d_type][is_64 (d)];
+  return (uint8_t *) d->d.d_buf + (size_t) ndx * item_sizes[type][d->is_64];
 }
 
 #endif /* object.h */

@@ -1,10 +1,20 @@
 /* sections.c: the sections by number and by place, and where their bytes are. A section is an entry
    of one array, which is made when the first one is asked for. */
 #define _GNU_SOURCE
-#include <stdlib.h>
-#include <string.h>
-
 #include "object.h"
+
+/* Makes the array of the sections of the image that was opened. */
+static Elf_Scn *
+make_sections (Elf *elf)
+{
+  Elf_Scn *sections = new_zeros (elf->opened * sizeof *sections);
+  for (size_t i = 0; sections != NULL && i < elf->opened; i++)
+    {
+      sections[i].elf = elf;
+      sections[i].index = i;
+    }
+  return sections;
+}
 
 bool
 has_sections (Elf *elf)
@@ -12,25 +22,10 @@ has_sections (Elf *elf)
   if (elf == NULL)
     return false;
   if (elf->kind != ELF_K_ELF)
-    {
-      set_error (E_INVALID_HANDLE);
-      return false;
-    }
+    return false_with (E_INVALID_HANDLE);
   if (elf->sections == NULL && elf->opened > 0)
-    {
-      elf->sections = calloc (elf->opened, sizeof *elf->sections);
-      if (elf->sections == NULL)
-        {
-          set_error (E_NOMEM);
-          return false;
-        }
-      for (size_t i = 0; i < elf->opened; i++)
-        {
-          elf->sections[i].elf = elf;
-          elf->sections[i].index = i;
-        }
-    }
-  return true;
+    elf->sections = make_sections (elf);
+  return elf->sections != NULL || elf->opened == 0;
 }
 
 bool
@@ -52,8 +47,7 @@ has_home (Elf_Scn *scn)
 static bool
 lacks_section_0 (const Elf *elf)
 {
-  return elf->shnum == 0
-         && (elf->is_bare || elf->cmd == ELF_C_RDWR || elf->cmd == ELF_C_RDWR_MMAP);
+  return elf->shnum == 0 && (elf->is_bare || changes_file (elf->cmd));
 }
 
 /* elf_getscn: the section with a number. */
@@ -64,12 +58,7 @@ elf_getscn (Elf *elf, size_t index)
     return NULL;
   if (index == 0 && lacks_section_0 (elf))
     return append_section (elf);
-  if (index >= elf->shnum)
-    {
-      set_error (E_INVALID_INDEX);
-      return NULL;
-    }
-  return section_at (elf, index);
+  return index < elf->shnum ? section_at (elf, index) : null_with (E_INVALID_INDEX);
 }
 
 /* elf_nextscn: the section after one, the one with number 1 for NULL. */
@@ -107,9 +96,7 @@ gelf_offscn (Elf *elf, GElf_Off offset)
       if (shdr.sh_size != 0 && shdr.sh_type != SHT_NOBITS)
         return found;
     }
-  if (found == NULL)
-    set_error (E_OFFSET_RANGE);
-  return found;
+  return found != NULL ? found : null_with (E_OFFSET_RANGE);
 }
 
 PUBLIC Elf_Scn *
@@ -152,10 +139,6 @@ elf_scnshndx (Elf_Scn *scn)
   return (int) scn->extended;
 }
 
-/* What the core says of a piece of bytes, and the numbers of two of its refusals
-   (crates/gelf_records, Forms.antt and Codes.antt). */
-enum { BYTES = 1, NO_STRING = 23, UNENDED = 24 };
-
 /* Notes where the strings of a section end: behind its last NUL. The core says whether it is a
    section of strings, and where it is; a string is then at each place before that NUL, and none
    behind it, so that nobody need look for the end of each. */
@@ -175,6 +158,13 @@ find_end (Elf_Scn *scn)
   scn->strings_end = last == NULL ? 0 : last - bytes + 1;
 }
 
+void
+forget_strings (Elf_Scn *scn)
+{
+  scn->has_end = false;
+  scn->strings_end = 0;
+}
+
 /* The number of the refusal of a string at an offset of a section, 0 where there is one. What has
    no end of strings the core refuses, and that without reading it. A library that is built with
    ELFKIT_CHECK compares each answer with the core's. */
@@ -186,12 +176,21 @@ refused_string (Elf_Scn *scn, size_t offset)
     find_end (scn);
   if (!scn->has_end)
     return elfkit_string (&scn->elf->handle, scn->index, offset, &length);
-  uint32_t number = offset < scn->strings_end ? 0 : offset < scn->home.len ? UNENDED : NO_STRING;
+  uint32_t number = offset < scn->strings_end ? REFUSED_NOT
+                    : offset < scn->home.len ? REFUSED_UNENDED : REFUSED_NO_STRING;
 #ifdef ELFKIT_CHECK
   if (elfkit_string (&scn->elf->handle, scn->index, offset, &length) != number)
     abort ();
 #endif
   return number;
+}
+
+/* The string at an offset of bytes, with its end. */
+static char *
+string_in (char *bytes, size_t size, size_t offset)
+{
+  bool has_end = memchr (bytes + offset, 0, size - offset) != NULL;
+  return has_end ? bytes + offset : null_with (E_INVALID_INDEX);
 }
 
 /* The string at an offset of a section whose data a program made or changed: in the buffer of the
@@ -203,24 +202,13 @@ own_string (Elf_Scn *scn, size_t offset)
   if (gelf_getshdr (scn, &shdr) == NULL)
     return NULL;
   if (shdr.sh_type != SHT_STRTAB)
-    set_error (E_INVALID_SECTION);
-  else if (offset >= shdr.sh_size)
-    set_error (E_OFFSET_RANGE);
-  else
-    {
-      for (const struct elfkit_data *d = &scn->data; d != NULL; d = d->next)
-        {
-          if (offset < (uint64_t) d->d.d_off || offset - d->d.d_off >= d->d.d_size
-              || d->d.d_buf == NULL)
-            continue;
-          char *string = (char *) d->d.d_buf + (offset - d->d.d_off);
-          if (memchr (string, 0, d->d.d_size - (offset - d->d.d_off)) != NULL)
-            return string;
-          break;
-        }
-      set_error (E_INVALID_INDEX);
-    }
-  return NULL;
+    return null_with (E_INVALID_SECTION);
+  if (offset >= shdr.sh_size)
+    return null_with (E_OFFSET_RANGE);
+  for (const struct elfkit_data *d = &scn->data; d != NULL; d = d->next)
+    if (offset >= (uint64_t) d->d.d_off && offset - d->d.d_off < d->d.d_size && d->d.d_buf != NULL)
+      return string_in (d->d.d_buf, d->d.d_size, offset - d->d.d_off);
+  return null_with (E_INVALID_INDEX);
 }
 
 /* The string at an offset of what a compressed section of strings holds, which is taken out once.
@@ -236,13 +224,8 @@ unpacked_string (Elf_Scn *scn, size_t offset)
         return NULL;
       scn->unpacked_size = chdr.ch_size;
     }
-  if (offset >= scn->unpacked_size)
-    set_error (E_OFFSET_RANGE);
-  else if (memchr (scn->unpacked + offset, 0, scn->unpacked_size - offset) == NULL)
-    set_error (E_INVALID_INDEX);
-  else
-    return scn->unpacked + offset;
-  return NULL;
+  return offset < scn->unpacked_size ? string_in (scn->unpacked, scn->unpacked_size, offset)
+                                     : null_with (E_OFFSET_RANGE);
 }
 
 /* Whether a section is one of strings that are compressed. */
@@ -268,10 +251,7 @@ elf_strptr (Elf *elf, size_t index, size_t offset)
   if (!has_sections (elf))
     return NULL;
   if (index >= elf->shnum)
-    {
-      set_error (E_INVALID_INDEX);
-      return NULL;
-    }
+    return null_with (E_INVALID_INDEX);
   Elf_Scn *scn = section_at (elf, index);
   if (!scn->has_end && is_packed (scn))
     return unpacked_string (scn, offset);

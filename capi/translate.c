@@ -2,12 +2,7 @@
    layer knows which items a type consists of. A record of several kinds of numbers is a run of
    numbers of one width after another, and some types are lists of records of several sizes, which
    are walked. */
-#include <string.h>
-
 #include "object.h"
-
-/* The kinds of the core's items (crates/gelf_records, Forms.antt, kind_number). */
-enum { BYTES = 1, HALVES, WORDS, ADDRESSES, SYMBOLS, RELS, RELAS, DYNS };
 
 /* The kind of a type's items in the core, for class 32 and class 64; 0 where it has none. */
 static const uint8_t kinds[ELF_T_NUM][2] = {
@@ -179,10 +174,10 @@ translate_notes (bool to_memory, uint8_t *bytes, size_t size, size_t align)
       size_t name = at + sizeof native;
       if (!lies_in (name, word (native), size))
         break;
-      size_t desc = (name + word (native) + align - 1) & -align;
+      size_t desc = round_up (name + word (native), align);
       if (!lies_in (desc, word (native + 4), size))
         break;
-      at = (desc + word (native + 4) + align - 1) & -align;
+      at = round_up (desc + word (native + 4), align);
     }
   return true;
 }
@@ -248,6 +243,16 @@ translate (Elf_Type type, unsigned int class, bool to_memory, void *to, const vo
     }
 }
 
+void *
+translated (const Elf *elf, Elf_Type type, bool to_memory, const void *from, size_t size)
+{
+  void *made = new_bytes (size);
+  if (made == NULL || translate (type, elf->class, to_memory, made, from, size))
+    return made;
+  free (made);
+  return NULL;
+}
+
 /* elf32_xlatetom and its like: what the source holds goes into the destination, in the other form.
    The two buffers are the same or apart. */
 static Elf_Data *
@@ -256,29 +261,22 @@ xlate (Elf_Data *dest, const Elf_Data *src, unsigned int encode, unsigned int cl
 {
   if (dest == NULL || src == NULL)
     return NULL;
-  size_t record = item_size (src->d_type, class);
-  if (record == 0)
-    set_error (E_UNKNOWN_TYPE);
-  else if (src->d_type != ELF_T_GNUHASH && src->d_type != ELF_T_NHDR && src->d_type != ELF_T_NHDR8
-           && src->d_type != ELF_T_VDEF && src->d_type != ELF_T_VNEED
-           && src->d_type != ELF_T_CHDR && src->d_size % record != 0)
-    set_error (E_INVALID_DATA);
-  else if (dest->d_size < src->d_size)
-    set_error (E_DEST_SIZE);
-  else if (encode != ELFDATA2LSB && encode != ELFDATA2MSB)
-    set_error (E_INVALID_ENCODING);
-  else
-    {
-      if (encode == NATIVE_ORDER && dest->d_buf != src->d_buf)
-        memmove (dest->d_buf, src->d_buf, src->d_size);
-      else if (encode != NATIVE_ORDER
-               && !translate (src->d_type, class, to_memory, dest->d_buf, src->d_buf, src->d_size))
-        return NULL;
-      dest->d_type = src->d_type;
-      dest->d_size = src->d_size;
-      return dest;
-    }
-  return NULL;
+  if (item_size (src->d_type, class) == 0)
+    return null_with (E_UNKNOWN_TYPE);
+  if (!is_whole (src->d_type, class, src->d_size))
+    return null_with (E_INVALID_DATA);
+  if (dest->d_size < src->d_size)
+    return null_with (E_DEST_SIZE);
+  if (encode != ELFDATA2LSB && encode != ELFDATA2MSB)
+    return null_with (E_INVALID_ENCODING);
+  if (encode == NATIVE_ORDER && dest->d_buf != src->d_buf)
+    memmove (dest->d_buf, src->d_buf, src->d_size);
+  else if (encode != NATIVE_ORDER
+           && !translate (src->d_type, class, to_memory, dest->d_buf, src->d_buf, src->d_size))
+    return NULL;
+  dest->d_type = src->d_type;
+  dest->d_size = src->d_size;
+  return dest;
 }
 
 PUBLIC Elf_Data *

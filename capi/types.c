@@ -2,37 +2,6 @@
    them (gABI chapter 4, "Sections"; GNU's and Sun's additions). */
 #include "object.h"
 
-/* The sizes in the file, for class 32 and class 64. */
-const uint8_t item_sizes[ELF_T_NUM][2] = {
-  [ELF_T_BYTE] = { 1, 1 },
-  [ELF_T_ADDR] = { 4, 8 },
-  [ELF_T_DYN] = { 8, 16 },
-  [ELF_T_EHDR] = { 52, 64 },
-  [ELF_T_HALF] = { 2, 2 },
-  [ELF_T_OFF] = { 4, 8 },
-  [ELF_T_PHDR] = { 32, 56 },
-  [ELF_T_RELA] = { 12, 24 },
-  [ELF_T_REL] = { 8, 16 },
-  [ELF_T_SHDR] = { 40, 64 },
-  [ELF_T_SWORD] = { 4, 4 },
-  [ELF_T_SYM] = { 16, 24 },
-  [ELF_T_WORD] = { 4, 4 },
-  [ELF_T_XWORD] = { 8, 8 },
-  [ELF_T_SXWORD] = { 8, 8 },
-  [ELF_T_VDEF] = { 20, 20 },
-  [ELF_T_VDAUX] = { 8, 8 },
-  [ELF_T_VNEED] = { 16, 16 },
-  [ELF_T_VNAUX] = { 16, 16 },
-  [ELF_T_NHDR] = { 12, 12 },
-  [ELF_T_SYMINFO] = { 4, 4 },
-  [ELF_T_MOVE] = { 24, 32 },
-  [ELF_T_LIB] = { 20, 20 },
-  [ELF_T_GNUHASH] = { 4, 4 },
-  [ELF_T_AUXV] = { 8, 16 },
-  [ELF_T_CHDR] = { 12, 24 },
-  [ELF_T_NHDR8] = { 12, 12 },
-};
-
 size_t
 item_size (Elf_Type type, unsigned int class)
 {
@@ -56,86 +25,88 @@ item_align (Elf_Type type, unsigned int class)
     case ELF_T_MOVE:
     case ELF_T_NHDR8:
       return 8;
-    case ELF_T_ADDR:
-    case ELF_T_OFF:
-    case ELF_T_DYN:
-    case ELF_T_EHDR:
-    case ELF_T_PHDR:
-    case ELF_T_SHDR:
-    case ELF_T_REL:
-    case ELF_T_RELA:
-    case ELF_T_SYM:
-    case ELF_T_AUXV:
-    case ELF_T_CHDR:
-    case ELF_T_GNUHASH:
-      return class == ELFCLASS64 ? 8 : 4;
-    default:
+    case ELF_T_SWORD:
+    case ELF_T_WORD:
+    case ELF_T_VDEF:
+    case ELF_T_VDAUX:
+    case ELF_T_VNEED:
+    case ELF_T_VNAUX:
+    case ELF_T_NHDR:
+    case ELF_T_LIB:
       return 4;
+    default:
+      return class == ELFCLASS64 ? 8 : 4;
     }
 }
+
+bool
+is_whole (Elf_Type type, unsigned int class, size_t size)
+{
+  const size_t item = item_size (type, class);
+  switch (type)
+    {
+    case ELF_T_VDEF:
+    case ELF_T_VNEED:
+    case ELF_T_NHDR:
+    case ELF_T_NHDR8:
+    case ELF_T_GNUHASH:
+    case ELF_T_CHDR:
+      return true;
+    default:
+      return item != 0 && size % item == 0;
+    }
+}
+
+/* The types of sections whose data has another type than ELF_T_BYTE, whatever their header says. */
+static const struct
+{
+  uint32_t section;
+  Elf_Type data;
+} section_types[] = {
+  { SHT_SYMTAB, ELF_T_SYM },
+  { SHT_DYNSYM, ELF_T_SYM },
+  { SHT_RELA, ELF_T_RELA },
+  { SHT_REL, ELF_T_REL },
+  { SHT_HASH, ELF_T_WORD },
+  { SHT_DYNAMIC, ELF_T_DYN },
+  { SHT_NOTE, ELF_T_NHDR },
+  { SHT_INIT_ARRAY, ELF_T_ADDR },
+  { SHT_FINI_ARRAY, ELF_T_ADDR },
+  { SHT_PREINIT_ARRAY, ELF_T_ADDR },
+  { SHT_GROUP, ELF_T_WORD },
+  { SHT_SYMTAB_SHNDX, ELF_T_WORD },
+  { SHT_GNU_verdef, ELF_T_VDEF },
+  { SHT_GNU_verneed, ELF_T_VNEED },
+  { SHT_GNU_versym, ELF_T_HALF },
+  { SHT_SUNW_syminfo, ELF_T_SYMINFO },
+  { SHT_SUNW_move, ELF_T_MOVE },
+  { SHT_GNU_LIBLIST, ELF_T_LIB },
+  { SHT_GNU_HASH, ELF_T_GNUHASH },
+};
 
 Elf_Type
 section_type (const GElf_Shdr *shdr)
 {
   if (shdr->sh_flags & SHF_COMPRESSED)
     return ELF_T_CHDR;
-  switch (shdr->sh_type)
-    {
-    case SHT_SYMTAB:
-    case SHT_DYNSYM:
-      return ELF_T_SYM;
-    case SHT_RELA:
-      return ELF_T_RELA;
-    case SHT_REL:
-      return ELF_T_REL;
-    case SHT_HASH:
-      return shdr->sh_entsize == 8 ? ELF_T_XWORD : ELF_T_WORD;
-    case SHT_DYNAMIC:
-      return ELF_T_DYN;
-    case SHT_NOTE:
-      return shdr->sh_addralign == 8 ? ELF_T_NHDR8 : ELF_T_NHDR;
-    case SHT_INIT_ARRAY:
-    case SHT_FINI_ARRAY:
-    case SHT_PREINIT_ARRAY:
-      return ELF_T_ADDR;
-    case SHT_GROUP:
-    case SHT_SYMTAB_SHNDX:
-      return ELF_T_WORD;
-    case SHT_GNU_verdef:
-      return ELF_T_VDEF;
-    case SHT_GNU_verneed:
-      return ELF_T_VNEED;
-    case SHT_GNU_versym:
-      return ELF_T_HALF;
-    case SHT_SUNW_syminfo:
-      return ELF_T_SYMINFO;
-    case SHT_SUNW_move:
-      return ELF_T_MOVE;
-    case SHT_GNU_LIBLIST:
-      return ELF_T_LIB;
-    case SHT_GNU_HASH:
-      return ELF_T_GNUHASH;
-    default:
-      return ELF_T_BYTE;
-    }
+  if (shdr->sh_type == SHT_HASH && shdr->sh_entsize == 8)
+    return ELF_T_XWORD;
+  if (shdr->sh_type == SHT_NOTE && shdr->sh_addralign == 8)
+    return ELF_T_NHDR8;
+  for (size_t i = 0; i < sizeof section_types / sizeof section_types[0]; i++)
+    if (section_types[i].section == shdr->sh_type)
+      return section_types[i].data;
+  return ELF_T_BYTE;
 }
 
 /* elf32_fsize, elf64_fsize, gelf_fsize: the size of so many items in the file. */
 static size_t
 fsize (Elf_Type type, size_t count, unsigned int version, unsigned int class)
 {
-  if (version != EV_CURRENT)
-    {
-      set_error (E_UNKNOWN_VERSION);
-      return 0;
-    }
   size_t size = item_size (type, class);
-  if (size == 0)
-    {
-      set_error (E_UNKNOWN_TYPE);
-      return 0;
-    }
-  return count * size;
+  if (version == EV_CURRENT && size > 0)
+    return count * size;
+  return false_with (version != EV_CURRENT ? E_UNKNOWN_VERSION : E_UNKNOWN_TYPE);
 }
 
 PUBLIC size_t
@@ -155,10 +126,6 @@ gelf_fsize (Elf *elf, Elf_Type type, size_t count, unsigned int version)
 {
   if (elf == NULL)
     return 0;
-  if (elf->kind != ELF_K_ELF)
-    {
-      set_error (E_INVALID_HANDLE);
-      return 0;
-    }
-  return fsize (type, count, version, elf->class);
+  return elf->kind == ELF_K_ELF ? fsize (type, count, version, elf->class)
+                                : false_with (E_INVALID_HANDLE);
 }

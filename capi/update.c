@@ -3,8 +3,6 @@
    else over an ELF header alone. The layer checks what elfutils checks, and lays the parts out as
    it does where the program did not; the core checks that they lie apart, derives what follows
    from them, and gives the image, which the layer writes. */
-#include <string.h>
-
 #include "update.h"
 
 _Atomic uint8_t fill_byte;
@@ -43,26 +41,13 @@ complete_ehdr (struct update *u)
       u->end += elf->phnum * item_size (ELF_T_PHDR, elf->class);
     }
   if (e->e_ident[EI_DATA] != ELFDATA2LSB && e->e_ident[EI_DATA] != ELFDATA2MSB)
-    set_error (E_DATA_ENCODING);
-  else if (e->e_version != EV_CURRENT)
-    set_error (E_UNKNOWN_VERSION);
-  else if (!elf->is_bare && e->e_ident[EI_DATA] != elf->order)
-    set_error (E_INVALID_DATA);
-  else
-    {
-      elf->order = e->e_ident[EI_DATA];
-      return put_ehdr (elf, e);
-    }
-  return false;
-}
-
-/* Puts a number of two bytes into a header, in its order. */
-static void
-put_half (uint8_t *header, size_t at, unsigned int number)
-{
-  bool msb = header[EI_DATA] == ELFDATA2MSB;
-  header[at + msb] = number;
-  header[at + !msb] = number >> 8;
+    return false_with (E_DATA_ENCODING);
+  if (e->e_version != EV_CURRENT)
+    return false_with (E_UNKNOWN_VERSION);
+  if (!elf->is_bare && e->e_ident[EI_DATA] != elf->order)
+    return false_with (E_INVALID_DATA);
+  elf->order = e->e_ident[EI_DATA];
+  return put_ehdr (elf, e);
 }
 
 /* Places the section headers behind all other parts, where the places are not the program's. */
@@ -85,16 +70,10 @@ begin_update (struct update *u)
   Elf *elf = u->elf;
   struct elfkit_lent back = { NULL, 0 }, image = { elf->lent, elf->size };
   if (elf->is_cut || elf->lacks_phdrs)
-    {
-      set_error (E_INVALID_ELF);
-      return false;
-    }
+    return false_with (E_INVALID_ELF);
   if (u->is_anew)
     {
-      bool is64 = elf->class == ELFCLASS64;
-      memcpy (u->bare, u->ehdr.e_ident, EI_NIDENT);
-      put_half (u->bare, u->bare[EI_DATA] == ELFDATA2MSB ? 22 : 20, EV_CURRENT);
-      put_half (u->bare, is64 ? 52 : 40, u->ehdr.e_ehsize);
+      make_front (u->bare, u->ehdr.e_ident);
       image = (struct elfkit_lent) { u->bare, u->ehdr.e_ehsize };
     }
   return is_given (elfkit_begin (image, &u->handle, &back));
@@ -192,22 +171,27 @@ take_places (struct update *u)
   return true;
 }
 
+static uint64_t
+later (uint64_t a, uint64_t b)
+{
+  return a > b ? a : b;
+}
+
 /* Where the last part ends that a program laid out. */
 static uint64_t
 end_of_parts (struct update *u)
 {
   Elf *elf = u->elf;
   uint64_t end = u->ehdr.e_ehsize;
-  if (elf->phnum > 0 && u->ehdr.e_phoff + elf->phnum * u->ehdr.e_phentsize > end)
-    end = u->ehdr.e_phoff + elf->phnum * u->ehdr.e_phentsize;
-  if (elf->shnum > 0 && u->ehdr.e_shoff + elf->shnum * u->ehdr.e_shentsize > end)
-    end = u->ehdr.e_shoff + elf->shnum * u->ehdr.e_shentsize;
+  if (elf->phnum > 0)
+    end = later (end, u->ehdr.e_phoff + elf->phnum * u->ehdr.e_phentsize);
+  if (elf->shnum > 0)
+    end = later (end, u->ehdr.e_shoff + elf->shnum * u->ehdr.e_shentsize);
   for (size_t i = 1; i < elf->shnum; i++)
     {
       GElf_Shdr shdr;
-      if (gelf_getshdr (section_at (elf, i), &shdr) != NULL && shdr.sh_type != SHT_NOBITS
-          && shdr.sh_offset + shdr.sh_size > end)
-        end = shdr.sh_offset + shdr.sh_size;
+      if (gelf_getshdr (section_at (elf, i), &shdr) != NULL && shdr.sh_type != SHT_NOBITS)
+        end = later (end, shdr.sh_offset + shdr.sh_size);
     }
   return end;
 }
@@ -222,30 +206,22 @@ is_dense (struct update *u, uint64_t length, uint64_t size)
   for (size_t i = 1; i < elf->shnum && left > MOST_FILL; i++)
     {
       GElf_Shdr shdr;
-      if (gelf_getshdr (section_at (elf, i), &shdr) != NULL && shdr.sh_type != SHT_NULL
-          && shdr.sh_type != SHT_NOBITS)
+      if (gelf_getshdr (section_at (elf, i), &shdr) != NULL && has_bytes (&shdr))
         left -= shdr.sh_size < left ? shdr.sh_size : left;
     }
-  if (left <= MOST_FILL && (size <= length || size - length <= MOST_FILL))
-    return true;
-  set_error (E_NOMEM);
-  return false;
+  return (left <= MOST_FILL && (size <= length || size - length <= MOST_FILL))
+         || false_with (E_NOMEM);
 }
 
 /* Whether the file of a descriptor may be written. */
 static bool
 may_update (const Elf *elf)
 {
-  if (elf->cmd != ELF_C_RDWR && elf->cmd != ELF_C_RDWR_MMAP && elf->cmd != ELF_C_WRITE
-      && elf->cmd != ELF_C_WRITE_MMAP)
-    set_error (E_UPDATE_RO);
-  else if (elf->fd == -1)
-    set_error (E_FD_DISABLED);
-  else if (elf->parent != NULL)
-    set_error (E_UNSUPPORTED);
-  else
-    return true;
-  return false;
+  if (!is_writing (elf->cmd))
+    return false_with (E_UPDATE_RO);
+  if (elf->fd == -1)
+    return false_with (E_FD_DISABLED);
+  return elf->parent == NULL || false_with (E_UNSUPPORTED);
 }
 
 /* Lays an object out and writes it, where it is to be written; the size of the file, or -1. */
@@ -267,10 +243,7 @@ PUBLIC int64_t
 elf_update (Elf *elf, Elf_Cmd cmd)
 {
   if (cmd != ELF_C_NULL && cmd != ELF_C_WRITE && cmd != ELF_C_WRITE_MMAP)
-    {
-      set_error (E_INVALID_CMD);
-      return -1;
-    }
+    return negative_with (E_INVALID_CMD);
   if (!is_elf (elf, 0))
     return -1;
   bool has_layout = (elf->flags & ELF_F_LAYOUT) != 0;

@@ -33,10 +33,11 @@ has_pieces (const Elf_Scn *scn)
   return scn->is_made ? scn->last != NULL : scn->has_data == 1;
 }
 
-static inline uint64_t
-round_up (uint64_t n, uint64_t align)
+/* Whether a section has bytes in the file. */
+static inline bool
+has_bytes (const GElf_Shdr *shdr)
 {
-  return align <= 1 ? n : (n + align - 1) & -align;
+  return shdr->sh_type != SHT_NULL && shdr->sh_type != SHT_NOBITS;
 }
 
 #endif /* update.h */

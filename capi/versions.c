@@ -1,7 +1,5 @@
 /* versions.c: version records and notes, by their places. Those of a section are the core's; those
    of a chunk of the file are read from its buffer, which is in memory form. */
-#include <string.h>
-
 #include "object.h"
 
 #define RECORD(call, type) \
@@ -39,7 +37,8 @@ gelf_getvernaux (Elf_Data *data, int offset, GElf_Vernaux *dst)
   RECORD (elfkit_vernaux, ELF_T_VNEED);
 }
 
-/* A note of a chunk of the file, as the core finds one: header, name and descriptor lie in it. */
+/* A note of a chunk of the file, as the core finds one: header, name and descriptor lie in it; false
+   and an error where they do not. */
 static bool
 note_in (const Elf_Data *data, size_t offset, struct elfkit_note *note)
 {
@@ -49,17 +48,14 @@ note_in (const Elf_Data *data, size_t offset, struct elfkit_note *note)
   if (offset == size)
     return true;
   if (!lies_in (offset, sizeof n, size))
-    return false;
+    return false_with (E_OFFSET_RANGE);
   memcpy (&n, (const uint8_t *) data->d_buf + offset, sizeof n);
-  size_t name = offset + sizeof n;
-  if (!lies_in (name, n.n_namesz, size))
-    return false;
-  size_t desc = (name + n.n_namesz + align - 1) & -align;
+  size_t name = offset + sizeof n, desc = round_up (name + n.n_namesz, align);
   if (desc > size)
     desc = size;
-  if (!lies_in (desc, n.n_descsz, size))
-    return false;
-  size_t next = (desc + n.n_descsz + align - 1) & -align;
+  if (!lies_in (name, n.n_namesz, size) || !lies_in (desc, n.n_descsz, size))
+    return false_with (E_OFFSET_RANGE);
+  size_t next = round_up (desc + n.n_descsz, align);
   *note = (struct elfkit_note) { .found = 1, .ntype = n.n_type, .name_at = name,
                                  .namesz = n.n_namesz, .desc_at = desc, .descsz = n.n_descsz,
                                  .next = next > size ? size : next };
@@ -75,27 +71,14 @@ gelf_getnote (Elf_Data *data, size_t offset, GElf_Nhdr *nhdr, size_t *name_offse
     return 0;
   struct elfkit_data *d = data_of (data);
   if ((data->d_type != ELF_T_NHDR && data->d_type != ELF_T_NHDR8) || d->elf == NULL)
-    {
-      set_error (E_INVALID_HANDLE);
-      return 0;
-    }
+    return false_with (E_INVALID_HANDLE);
   if (data->d_buf == NULL || offset > data->d_size)
-    {
-      set_error (E_OFFSET_RANGE);
-      return 0;
-    }
+    return false_with (E_OFFSET_RANGE);
   struct elfkit_note note;
-  if (d->from_core)
-    {
-      if (!is_given (elfkit_note (&d->elf->handle, d->scn->index, 0, offset, &note)))
-        return 0;
-    }
-  else if (!note_in (data, offset, &note))
-    {
-      set_error (E_OFFSET_RANGE);
-      return 0;
-    }
-  if (note.found == 0)
+  bool is_there = d->from_core
+                  ? is_given (elfkit_note (&d->elf->handle, d->scn->index, 0, offset, &note))
+                  : note_in (data, offset, &note);
+  if (!is_there || note.found == 0)
     return 0;
   *nhdr = (GElf_Nhdr) { .n_namesz = note.namesz, .n_descsz = note.descsz, .n_type = note.ntype };
   *name_offset = note.name_at;

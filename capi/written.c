@@ -1,8 +1,6 @@
 /* written.c: how elf_update writes an image, and what the descriptor is over from then on. Where a
    program laid its parts out, what lies between them stays as the file has it, but before what it
    changed, where elfutils puts fill bytes. */
-#include <stdlib.h>
-#include <string.h>
 #include <sys/mman.h>
 #include <sys/stat.h>
 #include <unistd.h>
@@ -54,18 +52,17 @@ static struct part *
 list_parts (const struct update *u, size_t *count)
 {
   Elf *elf = u->elf;
-  struct part *parts = calloc (elf->shnum + 1, sizeof *parts);
+  struct part *parts = new_zeros ((elf->shnum + 1) * sizeof *parts);
   if (parts == NULL)
-    set_error (E_NOMEM);
-  for (size_t i = 1; parts != NULL && i < elf->shnum; i++)
+    return NULL;
+  for (size_t i = 1; i < elf->shnum; i++)
     {
       GElf_Shdr shdr;
       Elf_Scn *scn = section_at (elf, i);
       if (gelf_getshdr (scn, &shdr) != NULL && shdr.sh_type != SHT_NOBITS)
         parts[(*count)++] = (struct part) { shdr.sh_offset, shdr.sh_size, is_changed (scn) };
     }
-  if (parts != NULL)
-    qsort (parts, *count, sizeof *parts, compare_parts);
+  qsort (parts, *count, sizeof *parts, compare_parts);
   return parts;
 }
 
@@ -103,27 +100,6 @@ fill_gaps (const struct update *u, uint8_t *image, size_t length)
 
 /* ---- Writing */
 
-/* Puts bytes into a file where it differs: it holds the old ones. */
-static bool
-write_changes (int fd, const uint8_t *image, size_t size, const uint8_t *old, size_t old_size)
-{
-  const size_t page = 65536;
-  for (size_t n, at = 0; at < size; at += n)
-    {
-      n = size - at < page ? size - at : page;
-      if (lies_in (at, n, old_size) && memcmp (image + at, old + at, n) == 0)
-        continue;
-      for (size_t done = 0; done < n;)
-        {
-          ssize_t put = pwrite (fd, image + at + done, n - done, at + done);
-          if (put <= 0)
-            return false;
-          done += put;
-        }
-    }
-  return true;
-}
-
 /* An image, and the length of the file that it is written to, which may be greater. */
 struct written
 {
@@ -132,18 +108,46 @@ struct written
   uint64_t length;
 };
 
-/* Writes an image to the file of a descriptor, which holds the old one, and leaves the mode as it
-   was. */
+/* Writes bytes at a place of a file. */
 static bool
-write_file (int fd, const struct written *w, const uint8_t *old, size_t old_size)
+write_bytes (int fd, const uint8_t *bytes, size_t size, size_t at)
+{
+  for (size_t done = 0; done < size;)
+    {
+      ssize_t put = pwrite (fd, bytes + done, size - done, at + done);
+      if (put <= 0)
+        return false;
+      done += put;
+    }
+  return true;
+}
+
+/* Writes an image into the file of a descriptor where it differs: it holds the old image, or none
+   that is known. */
+static bool
+write_changes (const Elf *elf, const struct written *w)
+{
+  const size_t page = 65536;
+  for (size_t n, at = 0; at < w->size; at += n)
+    {
+      n = w->size - at < page ? w->size - at : page;
+      bool is_there = elf->lent != NULL && lies_in (at, n, elf->size)
+                      && memcmp (w->image + at, elf->lent + at, n) == 0;
+      if (!is_there && !write_bytes (elf->fd, w->image + at, n, at))
+        return false;
+    }
+  return true;
+}
+
+/* Writes an image to the file of a descriptor, and leaves the mode as it was. */
+static bool
+write_file (const Elf *elf, const struct written *w)
 {
   struct stat st;
-  if (fstat (fd, &st) == 0 && write_changes (fd, w->image, w->size, old, old_size)
-      && ftruncate (fd, w->length) == 0
-      && ((st.st_mode & (S_ISUID | S_ISGID)) == 0 || fchmod (fd, st.st_mode) == 0))
-    return true;
-  set_error (E_WRITE_ERROR);
-  return false;
+  return (fstat (elf->fd, &st) == 0 && write_changes (elf, w)
+          && ftruncate (elf->fd, w->length) == 0
+          && ((st.st_mode & (S_ISUID | S_ISGID)) == 0 || fchmod (elf->fd, st.st_mode) == 0))
+         || false_with (E_WRITE_ERROR);
 }
 
 /* What programs see of the image that was written. */
@@ -162,7 +166,7 @@ show_written (Elf *elf, uint8_t *image)
       shown = elf->front = image;
       elf->memory = BORROWED;
     }
-  elf->map = elf->shown = shown;
+  elf->map = elf->shown = shown;        /* -fanalyzer: let_go frees it, as elf->memory tells */
 }
 
 /* The descriptor's sections are those of the image that was written. */
@@ -173,12 +177,12 @@ forget_homes (Elf *elf)
     {
       Elf_Scn *scn = section_at (elf, i);
       scn->is_new = false;
-      scn->has_end = false;
-      scn->strings_end = 0;
       scn->has_home = 0;
+      forget_strings (scn);
       if (scn->last != NULL)
         scn->data.from_core = false;
     }
+  /* -fanalyzer: elf->kept stays as it is, and let_go frees it */
 }
 
 /* Writes an image over the one that is open, which the descriptor is over from then on. What
@@ -189,9 +193,7 @@ write_over (Elf *elf, const struct written *w)
 {
   struct elfkit_lent lent = { w->image, w->size }, back = { NULL, 0 };
   struct elfkit_handle handle = { NULL };
-  struct kept *kept = malloc (sizeof *kept);
-  if (kept == NULL)
-    set_error (E_NOMEM);
+  struct kept *kept = new_zeros (sizeof *kept);
   if (kept == NULL || !is_given (elfkit_begin (lent, &handle, &back)))
     {
       free (kept);
@@ -204,7 +206,7 @@ write_over (Elf *elf, const struct written *w)
   elf->kept = kept;
   elfkit_end (&elf->handle, &back);
   elf->handle = handle;
-  bool done = write_file (elf->fd, w, elf->lent, elf->size);
+  bool done = write_file (elf, w);
   if (elf->memory == MAPPED)
     munmap ((void *) elf->lent, elf->size);
   else if (elf->lent != elf->shown)
@@ -240,9 +242,7 @@ write_image (struct update *u, size_t length, uint64_t size)
 {
   Elf *elf = u->elf;
   struct elfkit_lent back = { NULL, 0 };
-  struct written w = { malloc (length), length < size ? length : size, size };
-  if (w.image == NULL)
-    set_error (E_NOMEM);
+  struct written w = { new_bytes (length), length < size ? length : size, size };
   if (w.image == NULL || !is_given (elfkit_update (&u->handle, w.image, length))
       || (u->has_layout && !elf->is_bare && !fill_gaps (u, w.image, w.size)))
     {
@@ -253,7 +253,7 @@ write_image (struct update *u, size_t length, uint64_t size)
   bool done;
   if (elf->is_bare)
     {
-      done = write_file (elf->fd, &w, NULL, 0);
+      done = write_file (elf, &w);
       free (w.image);
     }
   else

@@ -1,0 +1,159 @@
+/* images.c: where the bytes of an image are. The layer maps the file twice, privately: one mapping
+   is lent to the core and nobody writes it, the other is what programs see, since some write into
+   the data of a section. Of ELF_C_READ_MMAP both are one mapping, which nobody can write. A file
+   that cannot be mapped is read. */
+#include <sys/mman.h>
+#include <sys/stat.h>
+#include <unistd.h>
+
+#include "object.h"
+
+uint8_t *
+map_shown (int fd, size_t size)
+{
+  void *shown = mmap (NULL, size, PROT_READ | PROT_WRITE, MAP_PRIVATE, fd, 0);
+  return shown == MAP_FAILED ? NULL : shown;
+}
+
+/* Maps the file; false where it cannot be mapped. */
+static bool
+map_file (Elf *elf, int fd, size_t size)
+{
+  bool once = elf->cmd == ELF_C_READ_MMAP;
+  void *lent = mmap (NULL, size, PROT_READ, MAP_PRIVATE, fd, 0);
+  if (lent == MAP_FAILED)
+    return false;
+  elf->shown = once ? lent : map_shown (fd, size);
+  if (elf->shown == NULL)
+    {
+      munmap (lent, size);
+      return false;
+    }
+  elf->lent = lent;
+  elf->size = size;
+  elf->memory = once ? MAPPED_ONCE : MAPPED;
+  return true;
+}
+
+/* The bytes of a file up to its end, and their number; NULL and an error where they cannot be
+   read. */
+static uint8_t *
+read_bytes (int fd, size_t *size)
+{
+  size_t room = 4096;
+  uint8_t *bytes = new_bytes (room);
+  *size = 0;
+  for (ssize_t n; bytes != NULL && (n = read (fd, bytes + *size, room - *size)) != 0;)
+    {
+      *size += n > 0 ? n : 0;
+      uint8_t *more = n < 0 ? NULL : *size < room ? bytes : realloc (bytes, room *= 2);
+      if (more == NULL)
+        {
+          free (bytes);
+          set_error (n < 0 ? E_READ_ERROR : E_NOMEM);
+        }
+      bytes = more;
+    }
+  return bytes;
+}
+
+/* Reads the file, once for the core and once for programs. */
+static bool
+read_file (Elf *elf, int fd)
+{
+  uint8_t *bytes = read_bytes (fd, &elf->size);
+  uint8_t *shown = bytes == NULL ? NULL : new_copy (bytes, elf->size);
+  if (shown == NULL)
+    {
+      free (bytes);
+      return false;
+    }
+  elf->lent = bytes;
+  elf->shown = shown;
+  elf->memory = COPIED;
+  return true;
+}
+
+bool
+take_file (Elf *elf, int fd)
+{
+  struct stat st;
+  if (fstat (fd, &st) != 0)
+    return false_with (E_INVALID_FILE);
+  bool is_mapped = S_ISREG (st.st_mode) && st.st_size > 0 && map_file (elf, fd, st.st_size);
+  if (!is_mapped && !read_file (elf, fd))
+    return false;
+  elf->map = elf->shown;
+  return true;
+}
+
+void
+let_go (Elf *elf)
+{
+  if (elf->memory == MAPPED)
+    munmap ((void *) elf->lent, elf->size);
+  if (elf->memory == MAPPED || elf->memory == MAPPED_ONCE || elf->memory == WRITTEN)
+    munmap (elf->shown, elf->size);
+  if (elf->memory == COPIED || elf->memory == WRITTEN)
+    free ((void *) elf->lent);
+  if (elf->memory == COPIED || (elf->memory == BORROWED && (elf->marks & IS_HANDED_OVER)))
+    free (elf->shown);
+  free (elf->front);
+  for (struct kept *next, *k = elf->kept; k != NULL; k = next)
+    {
+      next = k->next;
+      if (k->is_mapped)
+        munmap (k->at, k->size);
+      else
+        free (k->at);
+      free (k);
+    }
+}
+
+void
+make_private (Elf *elf)
+{
+  if (elf->memory != MAPPED && elf->memory != WRITTEN)
+    return;
+  const size_t page = sysconf (_SC_PAGESIZE);
+  for (size_t at = 0; at < elf->size; at += page)
+    {
+      volatile uint8_t *byte = elf->shown + at;
+      *byte = *byte;
+    }
+}
+
+bool
+own_image (Elf *elf)
+{
+  if (elf->memory != MAPPED)
+    return true;
+  uint8_t *copy = new_copy (elf->lent, elf->size);
+  if (copy == NULL)
+    return false;
+  struct elfkit_lent image = { copy, elf->size }, back = { NULL, 0 };
+  struct elfkit_handle handle = { NULL };
+  if (elf->handle.ptr != NULL)
+    {
+      if (!is_given (elfkit_begin (image, &handle, &back)))
+        {
+          free (copy);
+          return false;
+        }
+      elfkit_end (&elf->handle, &back);
+      elf->handle = handle;
+    }
+  munmap ((void *) elf->lent, elf->size);
+  elf->lent = copy;
+  elf->memory = WRITTEN;
+  make_private (elf);
+  return true;
+}
+
+bool
+may_write (const Elf *elf)
+{
+  if (elf->memory == INSIDE)
+    return may_write (elf->parent);
+  return elf->memory == MAPPED || elf->memory == COPIED || elf->memory == WRITTEN;
+}
