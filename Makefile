@@ -9,6 +9,9 @@
 #   make install PREFIX=..     the program, its manual page and its completion
 #   make lib                   the library for C, build/libelf.so.1 and build/libelfkit.a
 #   make test-c                the tests of the library for C, with sanitizers
+#   make check-c               gcc's and clang's analyzers over its layer of C
+#   make coverage-c            how many lines of the layer of C its tests run
+#   make fuzz-c RUNS=N         libFuzzer over sequences of calls on changed images
 #   make test-programs         elfutils' programs on it, compared with the system's libelf
 #   make test-elfutils         elfutils' own test suite on it, compared with elfutils' library
 #   make rust-lib              what the crate for Rust links, build/libelfkit.a and build/liblibc_c.a
@@ -18,8 +21,8 @@ PREFIX ?= /usr/local
 ARGS ?= readelf -h -l /bin/true
 sources := $(shell find crates -path '*/out' -prune -o -type f -print)
 
-.PHONY: all try test edits bench install c-tools lib test-c test-programs test-elfutils install-lib \
-    clean
+.PHONY: all try test edits bench install c-tools lib test-c check-c coverage-c fuzz-c \
+    test-programs test-elfutils install-lib clean
 
 all: build/elfkit
 
@@ -77,6 +80,17 @@ build/libelf.so.1: build/libelfkit.a $(capi_sources) $(capi_headers) capi/libelf
 
 test-c: c-tools build/libelfkit.a
 	@capi/run-tests $(kit)c/liblibc_c.a
+
+check-c:
+	@capi/check-findings
+
+coverage-c: c-tools build/libelfkit.a
+	@capi/coverage $(kit)c/liblibc_c.a
+
+RUNS ?= 1000000
+
+fuzz-c: c-tools build/libelfkit.a
+	@capi/fuzz/run $(kit)c/liblibc_c.a $(RUNS)
 
 test-programs: build/libelf.so.1
 	@capi/compare-programs build

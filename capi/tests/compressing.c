@@ -1,10 +1,8 @@
 /* compressing.c: the data of a section is compressed and taken out again, in both classes and both
    orders, in memory and in a file. */
 #define _GNU_SOURCE
-#include <sys/mman.h>
-#include <unistd.h>
-
 #include "check.h"
+#include "file.h"
 #include "image.h"
 
 enum { LONG = 4000 };
@@ -15,9 +13,7 @@ static char text[LONG];
 static Elf *
 open_image (const struct image *m, int *fd)
 {
-  *fd = memfd_create ("image", 0);
-  if (*fd < 0 || write (*fd, m->bytes, m->size) != (ssize_t) m->size)
-    exit (2);
+  *fd = file_of (m->bytes, m->size);
   Elf *elf = elf_begin (*fd, ELF_C_RDWR, NULL);
   Elf_Data *data = elf_newdata (elf_getscn (elf, STRINGS));
   for (int i = 0; i < LONG; i++)

@@ -2,21 +2,10 @@
    and no file is written, whatever is stored in memory. */
 #define _GNU_SOURCE
 #include <fcntl.h>
-#include <sys/mman.h>
-#include <unistd.h>
 
 #include "check.h"
+#include "file.h"
 #include "image.h"
-
-/* A file with the first bytes of an image. */
-static int
-file_of (const struct image *m, size_t size)
-{
-  int fd = memfd_create ("image", 0);
-  if (fd < 0 || write (fd, m->bytes, size) != (ssize_t) size)
-    exit (2);
-  return fd;
-}
 
 /* Whether the file holds these bytes still. */
 static int
@@ -39,7 +28,7 @@ read_symbol (Elf *elf)
 static void
 read_file (const struct image *m, Elf_Cmd cmd)
 {
-  int fd = file_of (m, m->size);
+  int fd = file_of (m->bytes, m->size);
   Elf *elf = elf_begin (fd, cmd, NULL);
   size_t size;
   CHECK (elf != NULL && elf_kind (elf) == ELF_K_ELF && elf_getbase (elf) == 0);
@@ -65,7 +54,7 @@ read_file (const struct image *m, Elf_Cmd cmd)
 static void
 read_cut_file (const struct image *m)
 {
-  int fd = file_of (m, m->size - 1);
+  int fd = file_of (m->bytes, m->size - 1);
   Elf *elf = elf_begin (fd, ELF_C_READ, NULL);
   size_t count;
   GElf_Ehdr ehdr;
@@ -88,6 +77,27 @@ read_pipe (const struct image *m)
   CHECK (elf_end (elf) == 0 && close (ends[0]) == 0);
 }
 
+/* An image with many bytes behind it comes from a pipe whole. */
+static void
+read_long_pipe (const struct image *m)
+{
+  enum { SIZE = 20000 };
+  static uint8_t bytes[SIZE];
+  size_t size;
+  int ends[2];
+  memset (bytes, 0x5a, sizeof bytes);
+  memcpy (bytes, m->bytes, m->size);
+  if (pipe (ends) != 0 || write (ends[1], bytes, SIZE) != SIZE)
+    exit (2);
+  close (ends[1]);
+  Elf *elf = elf_begin (ends[0], ELF_C_READ, NULL);
+  CHECK (elf_kind (elf) == ELF_K_ELF);
+  const char *raw = elf_rawfile (elf, &size);
+  CHECK (size == SIZE && memcmp (raw, bytes, SIZE) == 0);
+  read_symbol (elf);
+  CHECK (elf_end (elf) == 0 && close (ends[0]) == 0);
+}
+
 int
 main (void)
 {
@@ -102,6 +112,7 @@ main (void)
         read_file (&m, cmds[i]);
       read_cut_file (&m);
       read_pipe (&m);
+      read_long_pipe (&m);
     }
   int fd = open ("/", 0);
   CHECK (elf_begin (fd, ELF_C_READ, NULL) == NULL && elf_errno () != 0);

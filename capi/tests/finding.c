@@ -2,22 +2,10 @@
    stripped, in both classes and both orders. */
 #define _GNU_SOURCE
 #include <nlist.h>
-#include <sys/mman.h>
-#include <unistd.h>
 
 #include "check.h"
+#include "file.h"
 #include "image.h"
-
-/* A file of an image, and its name. */
-static int
-file_of (const struct image *m, char *name, size_t size)
-{
-  int fd = memfd_create ("image", 0);
-  if (fd < 0 || write (fd, m->bytes, m->size) != (ssize_t) m->size)
-    exit (2);
-  snprintf (name, size, "/proc/self/fd/%d", fd);
-  return fd;
-}
 
 /* Whether an entry is one of zeros. */
 static int
@@ -31,7 +19,7 @@ static void
 find_symbols (const struct image *m)
 {
   char name[64];
-  int fd = file_of (m, name, sizeof name);
+  int fd = named_file_of (m->bytes, m->size, name);
   struct nlist list[] = { { .n_name = "second", .n_value = 7 }, { .n_name = "none", .n_type = 7 },
                           { .n_name = "first", .n_sclass = 7 }, { .n_name = "second" },
                           { .n_name = "first" }, { .n_name = NULL, .n_value = 7 } };
@@ -57,7 +45,7 @@ find_nothing (struct image *m)
   CHECK (nlist ("/dev/null", list) == -1 && is_none (&list[0]));
   const size_t symbol = m->is64 ? 24 : 16, at = (m->is64 ? 64 : 52) + 64 + 16 + 2 * symbol;
   put (m, at, 4, 1000);
-  int fd = file_of (m, name, sizeof name);
+  int fd = named_file_of (m->bytes, m->size, name);
   list[0].n_value = 7;
   CHECK (nlist (name, list) == -1 && is_none (&list[0]));
   put (m, at, 4, 7);

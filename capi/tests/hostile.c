@@ -2,20 +2,10 @@
    What is asked for is refused or given; nothing else is looked for but what the sanitizers say. */
 #define _GNU_SOURCE
 #include <nlist.h>
-#include <sys/mman.h>
-#include <unistd.h>
 
 #include "archive.h"
 #include "check.h"
-
-static uint32_t state = 1;
-
-static uint32_t
-random_below (uint32_t n)
-{
-  state = state * 1664525 + 1013904223;
-  return (state >> 8) % n;
-}
+#include "file.h"
 
 static void
 read_data (Elf_Data *data)
@@ -147,10 +137,7 @@ read_file (const void *bytes, size_t size)
 {
   char name[64];
   struct nlist list[] = { { .n_name = "second" }, { .n_name = "first" }, { .n_name = NULL } };
-  int fd = memfd_create ("image", 0);
-  if (fd < 0 || write (fd, bytes, size) != (ssize_t) size)
-    exit (2);
-  snprintf (name, sizeof name, "/proc/self/fd/%d", fd);
+  int fd = named_file_of (bytes, size, name);
   nlist (name, list);
   close (fd);
 }
@@ -159,9 +146,7 @@ read_file (const void *bytes, size_t size)
 static void
 pack (struct image *m)
 {
-  int fd = memfd_create ("image", 0);
-  if (fd < 0 || write (fd, m->bytes, m->size) != (ssize_t) m->size)
-    exit (2);
+  int fd = file_of (m->bytes, m->size);
   Elf *elf = elf_begin (fd, ELF_C_RDWR, NULL);
   elf_compress (elf_getscn (elf, STRINGS), ELFCOMPRESS_ZLIB, ELF_CHF_FORCE);
   elf_update (elf, ELF_C_WRITE);

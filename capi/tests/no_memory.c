@@ -1,14 +1,11 @@
 /* no_memory.c: each allocation fails in turn. What is asked for is then refused, with "out of
    memory", and the descriptor can be ended. */
 #define _GNU_SOURCE
-#include <sys/mman.h>
-#include <unistd.h>
-
 #include <nlist.h>
-#include <stdio.h>
 
 #include "archive.h"
 #include "check.h"
+#include "file.h"
 
 extern void *__libc_malloc (size_t size);
 extern void *__libc_calloc (size_t count, size_t size);
@@ -73,9 +70,7 @@ write_once (struct image *m)
 {
   GElf_Sym sym;
   GElf_Shdr shdr;
-  int fd = memfd_create ("image", 0);
-  if (fd < 0 || write (fd, m->bytes, m->size) != (ssize_t) m->size)
-    exit (2);
+  int fd = file_of (m->bytes, m->size);
   Elf *elf = elf_begin (fd, ELF_C_RDWR, NULL);
   Elf_Data *data = elf_getdata (elf_getscn (elf, SYMBOLS), NULL), *added = NULL;
   Elf_Scn *scn = NULL;
@@ -100,10 +95,7 @@ find_once (struct image *m)
 {
   char name[64];
   struct nlist list[] = { { .n_name = "first" }, { .n_name = NULL } };
-  int fd = memfd_create ("image", 0);
-  if (fd < 0 || write (fd, m->bytes, m->size) != (ssize_t) m->size)
-    exit (2);
-  snprintf (name, sizeof name, "/proc/self/fd/%d", fd);
+  int fd = named_file_of (m->bytes, m->size, name);
   int whole = nlist (name, list) == 0 && list[0].n_value == 0x1234;
   Elf *elf = whole ? elf_begin (fd, ELF_C_READ, NULL) : NULL;
   if (whole)

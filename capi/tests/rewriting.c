@@ -4,20 +4,9 @@
 
    usage: rewriting [IMAGES] */
 #define _GNU_SOURCE
-#include <sys/mman.h>
-#include <unistd.h>
-
 #include "check.h"
+#include "file.h"
 #include "image.h"
-
-static uint32_t state = 1;
-
-static uint32_t
-random_below (uint32_t n)
-{
-  state = state * 1664525 + 1013904223;
-  return (state >> 8) % n;
-}
 
 static char bytes[] = "abcdefgh";
 
@@ -145,9 +134,7 @@ main (int argc, char **argv)
       for (uint32_t changes = random_below (5); changes > 0; changes--)
         m.bytes[random_below (m.size)] = random_below (4) == 0 ? 0xff : random_below (256);
       size_t size = random_below (10) == 0 ? random_below (m.size) : m.size;
-      int fd = memfd_create ("image", 0);
-      if (fd < 0 || write (fd, m.bytes, size) != (ssize_t) size)
-        exit (2);
+      int fd = file_of (m.bytes, size);
       written += rewrite (fd, size);
       close (fd);
     }

@@ -2,11 +2,10 @@
    the number of an error is the thread's own. */
 #define _GNU_SOURCE
 #include <pthread.h>
-#include <sys/mman.h>
-#include <unistd.h>
 
 #include "archive.h"
 #include "check.h"
+#include "file.h"
 
 enum { THREADS = 4, ROUNDS = 50 };
 
@@ -28,9 +27,7 @@ static int
 is_written (const struct image *m)
 {
   GElf_Chdr chdr;
-  int fd = memfd_create ("image", 0);
-  if (fd < 0 || write (fd, m->bytes, m->size) != (ssize_t) m->size)
-    exit (2);
+  int fd = file_of (m->bytes, m->size);
   Elf *elf = elf_begin (fd, ELF_C_RDWR, NULL);
   int is_right = elf_compress (elf_getscn (elf, STRINGS), ELFCOMPRESS_ZLIB, ELF_CHF_FORCE) == 1
                  && elf_update (elf, ELF_C_WRITE) > 0 && elf_end (elf) == 0;

@@ -1,7 +1,9 @@
 /* translation.c: what stands in the file with the greatest byte first comes into memory as the C
    records have it, and goes back as it stood; in one buffer and in two. What is no whole item or
    has no room is refused with an error. */
+#define _GNU_SOURCE
 #include "check.h"
+#include "file.h"
 
 /* Puts numbers of the given widths, the greatest byte first. */
 static size_t
@@ -136,6 +138,70 @@ check_lists (void)
   check_both (1, ELF_T_GNUHASH, bytes, &hash, size);
 }
 
+/* Records of the other kinds, in both classes. */
+static void
+check_others (void)
+{
+  uint8_t bytes[64];
+  Elf32_Chdr chdr32 = { 1, 2, 3 };
+  Elf64_Chdr chdr64 = { 1, 0, 2, 3 };
+  put_numbers (bytes, "444", (uint64_t[]) { 1, 2, 3 });
+  check_both (0, ELF_T_CHDR, bytes, &chdr32, sizeof chdr32);
+  put_numbers (bytes, "4488", (uint64_t[]) { 1, 0, 2, 3 });
+  check_both (1, ELF_T_CHDR, bytes, &chdr64, sizeof chdr64);
+  check_both (1, ELF_T_CHDR, bytes, bytes, 5);          /* less than a header stays */
+
+  Elf32_Verdaux verdaux = { 1, 2 };
+  Elf32_Vernaux vernaux = { 1, 2, 3, 4, 5 };
+  Elf32_Lib lib = { 1, 2, 3, 4, 5 };
+  Elf32_Syminfo syminfo = { 1, 2 };
+  Elf32_auxv_t auxv = { 1, { 2 } };
+  put_numbers (bytes, "44", (uint64_t[]) { 1, 2 });
+  check_both (0, ELF_T_VDAUX, bytes, &verdaux, sizeof verdaux);
+  check_both (0, ELF_T_AUXV, bytes, &auxv, sizeof auxv);
+  put_numbers (bytes, "42244", (uint64_t[]) { 1, 2, 3, 4, 5 });
+  check_both (0, ELF_T_VNAUX, bytes, &vernaux, sizeof vernaux);
+  put_numbers (bytes, "44444", (uint64_t[]) { 1, 2, 3, 4, 5 });
+  check_both (0, ELF_T_LIB, bytes, &lib, sizeof lib);
+  put_numbers (bytes, "22", (uint64_t[]) { 1, 2 });
+  check_both (0, ELF_T_SYMINFO, bytes, &syminfo, sizeof syminfo);
+}
+
+/* Lists that end early: a record that does not lie in the bytes is left as it is. */
+static void
+check_ends (void)
+{
+  uint8_t bytes[64];
+  struct
+  {
+    Elf64_Nhdr first;
+    char name[4], desc[16];
+    Elf64_Nhdr second;
+  } notes = { { 1, 5, 77 }, "a", "12345", { 100, 0, 78 } };
+  memcpy (bytes, &notes, sizeof notes);
+  put_numbers (bytes, "444", (uint64_t[]) { 1, 5, 77 });
+  put_numbers (bytes + 24, "444", (uint64_t[]) { 0, 0, 0 });
+  check_both (1, ELF_T_NHDR8, bytes, &notes, 24);
+  notes.first.n_descsz = 100;
+  put_numbers (bytes, "444", (uint64_t[]) { 1, 100, 77 });
+  check_both (1, ELF_T_NHDR, bytes, &notes, 24);
+  notes.first.n_namesz = 100;
+  put_numbers (bytes, "444", (uint64_t[]) { 100, 100, 77 });
+  check_both (1, ELF_T_NHDR, bytes, &notes, 24);
+
+  uint32_t words[5] = { 1, 2, 100, 4, 5 };
+  put_numbers (bytes, "44444", (uint64_t[]) { 1, 2, 100, 4, 5 });
+  check_both (0, ELF_T_GNUHASH, bytes, words, sizeof words);
+  check_both (1, ELF_T_GNUHASH, bytes, words, 8);
+  words[4] = 0;
+  put_numbers (bytes + 16, "4", (uint64_t[]) { 0 });
+  check_both (1, ELF_T_GNUHASH, bytes, words, sizeof words);
+
+  Elf64_Verdef def = { 1, 2, 3, 2, 5, 100, 0 };
+  put_numbers (bytes, "2222444", (uint64_t[]) { 1, 2, 3, 2, 5, 100, 0 });
+  check_both (1, ELF_T_VDEF, bytes, &def, sizeof def);
+}
+
 /* More than a page of symbols. */
 static void
 check_many (void)
@@ -169,6 +235,23 @@ check_refused (void)
   CHECK (elf64_xlatetom (NULL, &from, ELFDATA2MSB) == NULL);
   CHECK (elf64_xlatetof (&to, NULL, ELFDATA2MSB) == NULL);
   CHECK (gelf_xlatetom (NULL, &to, &from, ELFDATA2MSB) == NULL);
+  CHECK (gelf_xlatetof (NULL, &to, &from, ELFDATA2MSB) == NULL);
+  from.d_type = ELF_T_NUM;
+  CHECK (elf32_xlatetof (&to, &from, ELFDATA2MSB) == NULL && elf_errno () != 0);
+}
+
+/* The class is that of a descriptor. */
+static void
+check_class (void)
+{
+  uint8_t bytes[8] = { 1, 2, 3, 4, 5, 6, 7, 8 };
+  int fd = file_of ("", 0);
+  Elf *elf = elf_begin (fd, ELF_C_WRITE, NULL);
+  CHECK (elf32_newehdr (elf) != NULL);
+  Elf_Data data = { .d_buf = bytes, .d_type = ELF_T_ADDR, .d_version = EV_CURRENT, .d_size = 8 };
+  CHECK (gelf_xlatetom (elf, &data, &data, ELFDATA2MSB) == &data && bytes[0] == 4);
+  CHECK (gelf_xlatetof (elf, &data, &data, ELFDATA2MSB) == &data && bytes[0] == 1);
+  CHECK (elf_end (elf) == 0 && close (fd) == 0);
 }
 
 int
@@ -177,7 +260,10 @@ main (void)
   elf_version (EV_CURRENT);
   check_records ();
   check_lists ();
+  check_others ();
+  check_ends ();
   check_many ();
   check_refused ();
+  check_class ();
   return ended ("translation");
 }

@@ -1,26 +1,13 @@
 /* writing.c: images that are made anew, and images that are changed in place, in both classes and
    both orders: they are laid out, written, and read again. */
 #define _GNU_SOURCE
-#include <sys/mman.h>
-#include <fcntl.h>
-#include <unistd.h>
-
 #include "check.h"
+#include "file.h"
 #include "image.h"
 
 enum { TEXT = 1, TABLE = 2, LIST = 3 };
 
 static const char strings[] = "\0.text\0.shstrtab\0.symtab";
-
-/* A file with these bytes, or an empty one. */
-static int
-file_of (const void *bytes, size_t size)
-{
-  int fd = memfd_create ("image", 0);
-  if (fd < 0 || write (fd, bytes, size) != (ssize_t) size)
-    exit (2);
-  return fd;
-}
 
 static Elf_Data *
 add_data (Elf_Scn *scn, Elf_Type type, void *bytes, size_t size, size_t align)
