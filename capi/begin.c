@@ -49,7 +49,8 @@ begin_object (Elf *elf)
   return make_ehdr (elf);
 }
 
-/* Makes what a descriptor of its kind has besides; false and an error where the image is refused. */
+/* Makes what a descriptor of its kind has besides; false and an error where the image is
+   refused. */
 static bool
 begin_kind (Elf *elf)
 {
@@ -221,12 +222,11 @@ leave_archive (Elf *elf)
 static void
 free_sections (Elf *elf)
 {
-  for (size_t i = elf->sections == NULL ? elf->opened : 0; i < elf->shnum; i++)
+  for (size_t i = elf->has_parts ? 0 : elf->opened; i < elf->shnum; i++)
     {
       Elf_Scn *scn = section_at (elf, i);
-      if (scn->has_raw == 0 && scn->shdr == NULL)
-        continue;               /* nobody asked for anything of it */
       free_pieces (scn);
+      free (scn->raw);
       free (scn->shdr);
       if (i >= elf->opened)
         free (scn);

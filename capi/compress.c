@@ -29,7 +29,8 @@ static bool
 replace_data (Elf_Scn *scn, uint8_t *bytes, size_t size, size_t align, Elf_Type type)
 {
   Elf *elf = scn->elf;
-  uint8_t *native = is_foreign (elf, type) ? translated (elf, type, true, bytes, size) : bytes;
+  uint8_t *native = raw_of (scn) == NULL ? NULL
+                    : is_foreign (elf, type) ? translated (elf, type, true, bytes, size) : bytes;
   if (native == NULL)
     {
       free (bytes);
@@ -38,17 +39,17 @@ replace_data (Elf_Scn *scn, uint8_t *bytes, size_t size, size_t align, Elf_Type 
   free_pieces (scn);
   const Elf_Data d = { .d_buf = bytes, .d_type = type, .d_version = EV_CURRENT, .d_size = size,
                        .d_align = align };
-  scn->raw = (struct elfkit_data) { .d = d, .scn = scn, .owned = bytes };
+  *scn->raw = (struct elfkit_data) { .d = d, .scn = scn, .owned = bytes };
   scn->data = (struct elfkit_data) { .d = d, .scn = scn };
   if (native != bytes)
     scn->data.d.d_buf = scn->data.owned = native;
-  tie (&scn->raw, elf);
+  tie (scn->raw, elf);
   tie (&scn->data, elf);
   scn->last = &scn->data;
   scn->is_made = true;
   forget_strings (scn);
   scn->unpacked = NULL;
-  scn->has_raw = scn->has_data = 1;
+  scn->has_data = 1;
   return true;
 }
 

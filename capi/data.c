@@ -53,6 +53,18 @@ tie (struct elfkit_data *d, Elf *elf)
   d->is_native = elf->order == NATIVE_ORDER;
 }
 
+struct elfkit_data *
+raw_of (Elf_Scn *scn)
+{
+  if (scn->raw == NULL && (scn->raw = new_zeros (sizeof *scn->raw)) != NULL)
+    {
+      scn->elf->has_parts = true;
+      scn->raw->scn = scn;
+      tie (scn->raw, scn->elf);
+    }
+  return scn->raw;
+}
+
 /* The raw bytes of a section. */
 static bool
 make_raw (Elf_Scn *scn)
@@ -63,12 +75,12 @@ make_raw (Elf_Scn *scn)
   if (!lies_in (scn->home.at, scn->home.len, scn->elf->size) && scn->home.len > 0)
     return false_with (E_INVALID_SECTION_HEADER);
   bool none = shdr.sh_type == SHT_NOBITS || scn->home.len == 0;
-  scn->raw.d = (Elf_Data) { .d_buf = none ? NULL : scn->elf->shown + scn->home.at,
+  if (raw_of (scn) == NULL)
+    return false;
+  scn->raw->d = (Elf_Data) { .d_buf = none ? NULL : scn->elf->shown + scn->home.at,
                             .d_type = section_type (&shdr), .d_version = EV_CURRENT,
                             .d_size = shdr.sh_type == SHT_NOBITS ? shdr.sh_size : scn->home.len,
                             .d_align = section_align (&shdr, scn->elf->class) };
-  scn->raw.scn = scn;
-  tie (&scn->raw, scn->elf);
   return true;
 }
 
@@ -79,15 +91,11 @@ elf_rawdata (Elf_Scn *scn, Elf_Data *data)
   if (scn == NULL)
     return null_with (E_INVALID_HANDLE);
   if (data != NULL)
-    return data == &scn->raw.d ? NULL : null_with (E_INVALID_OPERAND);
-  if (scn->is_made)
-    return &scn->raw.d;
-  if (scn->has_raw == 0)
-    {
-      scn->has_raw = make_raw (scn) ? 1 : 2;
-      scn->raw_error = scn->has_raw == 2 ? elf_errno () : E_NONE;
-    }
-  return scn->has_raw == 1 ? &scn->raw.d : null_with (scn->raw_error);
+    return scn->raw != NULL && data == &scn->raw->d ? NULL : null_with (E_INVALID_OPERAND);
+  if (scn->raw == NULL && scn->raw_error == E_NONE
+      && !(scn->is_made ? raw_of (scn) != NULL : make_raw (scn)))
+    scn->raw_error = elf_errno ();
+  return scn->raw != NULL ? &scn->raw->d : null_with (scn->raw_error);
 }
 
 /* The core's kind of items that data of a type has; types that the core has no items of are bytes
@@ -132,17 +140,18 @@ make_data (Elf_Scn *scn)
 {
   if (elf_rawdata (scn, NULL) == NULL)
     return false;
-  scn->data.d = scn->raw.d;
+  scn->data.d = scn->raw->d;
   scn->data.scn = scn;
   tie (&scn->data, scn->elf);
   scn->data.from_core = true;
-  if (scn->raw.d.d_buf == NULL)
+  const Elf_Data *raw = &scn->raw->d;
+  if (raw->d_buf == NULL)
     return true;
-  if (!has_items (scn, scn->raw.d.d_type))
+  if (!has_items (scn, raw->d_type))
     return false;
-  if (!is_whole (scn->raw.d.d_type, scn->elf->class, scn->raw.d.d_size))
+  if (!is_whole (raw->d_type, scn->elf->class, raw->d_size))
     return false_with (E_INVALID_DATA);
-  scn->data.d.d_buf = in_memory (scn->elf, scn->raw.d.d_type, scn->home.at, scn->raw.d.d_size,
+  scn->data.d.d_buf = in_memory (scn->elf, raw->d_type, scn->home.at, raw->d_size,
                                  &scn->data.owned);
   return scn->data.d.d_buf != NULL;
 }
@@ -200,7 +209,8 @@ void
 free_pieces (Elf_Scn *scn)
 {
   free (scn->data.owned);
-  free (scn->raw.owned);
+  if (scn->raw != NULL)
+    free (scn->raw->owned);
   free (scn->unpacked);
   for (struct elfkit_data *next, *d = scn->data.next; d != NULL; d = next)
     {
@@ -250,7 +260,7 @@ elf_getdata_rawchunk (Elf *elf, int64_t offset, size_t size, Elf_Type type)
     return NULL;
   if (elf->kind != ELF_K_ELF)
     return null_with (E_INVALID_HANDLE);
-  if (offset < 0 || !lies_in (offset, size, elf->size))
+  if (elf->is_bare || offset < 0 || !lies_in (offset, size, elf->size))
     return null_with (E_INVALID_OP);
   if ((unsigned int) type >= ELF_T_NUM)
     return null_with (E_UNKNOWN_TYPE);

@@ -4,14 +4,14 @@
 
 /* Sets or clears, and gives the flags as they then are. */
 static unsigned int
-flagged (unsigned int *flags, Elf_Cmd cmd, unsigned int which)
+flagged (uint8_t *flags, Elf_Cmd cmd, unsigned int which)
 {
   if (cmd == ELF_C_SET)
     *flags |= which & (ELF_F_DIRTY | ELF_F_LAYOUT | ELF_F_PERMISSIVE);
   else if (cmd == ELF_C_CLR)
     *flags &= ~which;
   else
-    return false_with (E_INVALID_CMD);
+    return false_with (E_INVALID_COMMAND);
   return *flags;
 }
 

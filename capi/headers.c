@@ -196,8 +196,8 @@ elf64_getphdr (Elf *elf)
   return is_elf (elf, ELFCLASS64) ? native_phdrs (elf) : NULL;
 }
 
-/* The core's header of a section. Where the image has headers in the very form that is asked for, it
-   is read there; a library that is built with ELFKIT_CHECK compares it with the core's. */
+/* The core's header of a section. Where the image has headers in the very form that is asked for,
+   it is read there; a library that is built with ELFKIT_CHECK compares it with the core's. */
 static bool
 read_shdr (const Elf_Scn *scn, GElf_Shdr *dst)
 {
@@ -238,6 +238,7 @@ native_shdr (Elf_Scn *scn, unsigned int class)
   GElf_Shdr x;
   if (scn->shdr != NULL || gelf_getshdr (scn, &x) == NULL)
     return scn->shdr;
+  scn->elf->has_parts = true;
   scn->shdr = new_zeros (item_size (ELF_T_SHDR, class));
   if (scn->shdr != NULL)
     from_gelf (ELF_T_SHDR, class, scn->shdr, &x);

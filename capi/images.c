@@ -2,6 +2,7 @@
    is lent to the core and nobody writes it, the other is what programs see, since some write into
    the data of a section. Of ELF_C_READ_MMAP both are one mapping, which nobody can write. A file
    that cannot be mapped is read. */
+#define _GNU_SOURCE
 #include <sys/mman.h>
 #include <sys/stat.h>
 #include <unistd.h>
@@ -110,24 +111,30 @@ let_go (Elf *elf)
     }
 }
 
-void
+bool
 make_private (Elf *elf)
 {
   if (elf->memory != MAPPED && elf->memory != WRITTEN)
-    return;
-  const size_t page = sysconf (_SC_PAGESIZE);
-  for (size_t at = 0; at < elf->size; at += page)
-    {
-      volatile uint8_t *byte = elf->shown + at;
-      *byte = *byte;
-    }
+    return true;
+  void *own = mmap (NULL, elf->size, PROT_READ | PROT_WRITE, MAP_PRIVATE | MAP_ANONYMOUS, -1, 0);
+  if (own == MAP_FAILED)
+    return false_with (E_NOMEM);
+  memcpy (own, elf->shown, elf->size);
+  if (mremap (own, elf->size, elf->size, MREMAP_MAYMOVE | MREMAP_FIXED, elf->shown) != MAP_FAILED)
+    return true;
+  munmap (own, elf->size);
+  return false_with (E_NOMEM);
 }
 
 bool
 own_image (Elf *elf)
 {
+  if (elf->kind == ELF_K_AR || elf->parent != NULL)
+    return false_with (E_UNSUPPORTED);  /* its members are lent from the same place */
   if (elf->memory != MAPPED)
     return true;
+  if (!make_private (elf))
+    return false;
   uint8_t *copy = new_copy (elf->lent, elf->size);
   if (copy == NULL)
     return false;
@@ -146,7 +153,6 @@ own_image (Elf *elf)
   munmap ((void *) elf->lent, elf->size);
   elf->lent = copy;
   elf->memory = WRITTEN;
-  make_private (elf);
   return true;
 }
 

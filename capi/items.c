@@ -58,19 +58,29 @@ check_item (const struct elfkit_data *d, int ndx, const void *dst, size_t size)
 #endif
 }
 
-/* The item at an index, of so many bytes in the form of gelf(3E). */
-static inline __attribute__ ((always_inline)) void *
-get_item (Elf_Data *data, Elf_Type type, int ndx, void *dst, size_t size)
+/* The item at an index, which the buffer has in another form than that of gelf(3E), or has not. */
+static void *
+other_item (Elf_Data *data, Elf_Type type, int ndx, void *dst, size_t size)
 {
   struct elfkit_data *d = item_of (data, type, ndx);
   if (d == NULL)
     return NULL;
   if (is_asked (d, type))
     return is_given (core_item (d, ndx, dst)) ? dst : NULL;
-  if (d->is_64)
-    memcpy (dst, at_index (d, type, ndx), size);
-  else
-    to_gelf (type, ELFCLASS32, dst, at_index (d, type, ndx));
+  to_gelf (type, d->is_64 ? ELFCLASS64 : ELFCLASS32, dst, at_index (d, type, ndx));
+  check_item (d, ndx, dst, size);
+  return dst;
+}
+
+/* The item at an index, of so many bytes in the form of gelf(3E). */
+static inline void *
+get_item (Elf_Data *data, Elf_Type type, int ndx, void *dst, size_t size)
+{
+  const struct elfkit_data *d = data_of (data);
+  if (d == NULL || d->d.d_type != type || !d->is_64 || !d->is_native || ndx < 0
+      || d->d.d_buf == NULL || ((size_t) ndx + 1) * size > d->d.d_size)
+    return other_item (data, type, ndx, dst, size);
+  memcpy (dst, (const uint8_t *) d->d.d_buf + (size_t) ndx * size, size);
   check_item (d, ndx, dst, size);
   return dst;
 }

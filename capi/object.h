@@ -2,13 +2,7 @@
 #ifndef ELFKIT_OBJECT_H
 #define ELFKIT_OBJECT_H 1
 
-#include <stdbool.h>
-#include <stddef.h>
-#include <stdint.h>
-#include <stdlib.h>
-#include <string.h>
-
-#include "core.h"
+#include "errors.h"
 #include "gelf.h"
 
 /* The layer names what programs may call; all else stays inside. */
@@ -31,12 +25,12 @@ struct elfkit_data
   struct elfkit_data *next;     /* the next piece of the section */
   bool from_core;               /* the core's items are those of d_buf */
   bool is_64, is_native;        /* the class and the order of its image */
-  unsigned int flags;
+  uint8_t flags;
 };
 
 /* A section. A chunk of the file is one by itself, which has nothing but its data. The descriptor
    stands where elfutils 0.188 has it, whose libdw goes to it from data, by the section, without a
-   call. */
+   call. An image may have many sections, so what is short is kept short. */
 struct Elf_Scn
 {
   struct elfkit_data data;
@@ -44,18 +38,18 @@ struct Elf_Scn
   uint64_t strings_end;         /* the place behind its last string, 0 where it is not known */
   void *shdr;                   /* its header in native form, once a program asked for it */
   struct elfkit_data *last;     /* its last piece, once a program added one */
+  struct elfkit_data *raw;      /* its bytes as the file has them, once a program asked for them */
   uint32_t index;
   uint32_t extended;            /* its table of extended indexes, 0 for none */
-  unsigned int flags, shdr_flags;
   Elf *elf;
-  uint8_t has_home, has_data, has_raw;  /* 1: there; 2: refused */
+  char *unpacked;               /* its strings, where it is compressed and they were asked for */
+  uint64_t unpacked_size;
+  uint8_t flags, shdr_flags;
+  uint8_t has_home, has_data;   /* 1: there; 2: refused */
+  uint8_t home_error, data_error, raw_error;
   bool is_made;                 /* a program made it, and its data */
   bool is_new;                  /* the image that is open has no such section */
   bool has_end;                 /* where its strings end is known */
-  int home_error, data_error, raw_error;
-  struct elfkit_data raw;
-  char *unpacked;               /* its strings, where it is compressed and they were asked for */
-  uint64_t unpacked_size;
 };
 
 /* What programs saw of an image before it was written: they may look at it still. */
@@ -112,7 +106,8 @@ struct Elf
   size_t shnum;                 /* how many there are of both */
   bool has_links;               /* the sections know their tables of extended indexes */
   void *chunks;                 /* the chunks of the file that were asked for, a tree */
-  unsigned int flags, ehdr_flags, phdr_flags;
+  uint8_t flags, ehdr_flags, phdr_flags;
+  bool has_parts;               /* a program asked for more of a section than its place */
   bool is_bare;                 /* an image that is made anew: there is no object of it */
   struct kept *kept;
   struct elfkit_member *member;         /* its header, where it is a member of an archive */
@@ -156,122 +151,6 @@ _Static_assert (offsetof (struct Elf, kind) == 0x18, "the place of the kind");
 _Static_assert (offsetof (struct Elf, start) == 0x28, "the place of the start");
 _Static_assert (offsetof (struct Elf, marks) == 0x38, "the place of the marks");
 _Static_assert (offsetof (struct Elf, ehdr) == 0x48, "the place of the native ELF header");
-
-/* The error numbers, as elfutils 0.188 has them, since eu-readelf compares one. Their texts are in
-   errors.c. */
-enum
-{
-  E_NONE,
-  E_UNKNOWN,
-  E_UNKNOWN_VERSION,
-  E_UNKNOWN_TYPE,
-  E_INVALID_HANDLE,
-  E_SOURCE_SIZE,
-  E_DEST_SIZE,
-  E_INVALID_ENCODING,
-  E_NOMEM,
-  E_INVALID_FILE,
-  E_INVALID_ELF,
-  E_INVALID_OP,
-  E_NO_VERSION,
-  E_INVALID_CMD,
-  E_RANGE,
-  E_ARCHIVE_FMAG,
-  E_INVALID_ARCHIVE,
-  E_NO_ARCHIVE,
-  E_NO_INDEX,
-  E_READ_ERROR,
-  E_WRITE_ERROR,
-  E_INVALID_CLASS,
-  E_INVALID_INDEX,
-  E_INVALID_OPERAND,
-  E_INVALID_SECTION,
-  E_INVALID_COMMAND,
-  E_WRONG_ORDER_EHDR,
-  E_FD_DISABLED,
-  E_FD_MISMATCH,
-  E_OFFSET_RANGE,
-  E_NOT_NUL_SECTION,
-  E_DATA_MISMATCH,
-  E_INVALID_SECTION_HEADER,
-  E_INVALID_DATA,
-  E_DATA_ENCODING,
-  E_SECTION_TOO_SMALL,
-  E_INVALID_ALIGN,
-  E_INVALID_SHENTSIZE,
-  E_UPDATE_RO,
-  E_NO_FILE,
-  E_GROUP_NOT_REL,
-  E_INVALID_PHDR,
-  E_NO_PHDR,
-  E_INVALID_OFFSET,
-  E_INVALID_SECTION_TYPE,
-  E_INVALID_SECTION_FLAGS,
-  E_NOT_COMPRESSED,
-  E_ALREADY_COMPRESSED,
-  E_UNKNOWN_COMPRESSION_TYPE,
-  E_COMPRESS_ERROR,
-  E_DECOMPRESS_ERROR,
-  E_UNSUPPORTED,                /* of this library alone */
-  E_COUNT
-};
-
-/* Sets the error number of this thread. */
-void set_error (int error);
-
-/* The same, and what a call that fails gives. */
-static inline void *
-null_with (int error)
-{
-  set_error (error);
-  return NULL;
-}
-
-static inline bool
-false_with (int error)
-{
-  set_error (error);
-  return false;
-}
-
-static inline int
-negative_with (int error)
-{
-  set_error (error);
-  return -1;
-}
-
-/* The error number that stands for a refusal of the core, 0 for none. */
-int error_of (uint32_t number);
-
-/* Whether a call of the core gave a value; an error where it did not. */
-static inline bool
-is_given (uint32_t number)
-{
-  return number == REFUSED_NOT || false_with (error_of (number));
-}
-
-/* Memory of a size, of zeros, and with a copy of bytes; NULL and an error where there is none. */
-static inline void *
-new_bytes (size_t size)
-{
-  void *made = malloc (size == 0 ? 1 : size);
-  return made != NULL ? made : null_with (E_NOMEM);
-}
-
-static inline void *
-new_zeros (size_t size)
-{
-  void *made = calloc (1, size);
-  return made != NULL ? made : null_with (E_NOMEM);
-}
-
-static inline void *
-new_copy (const void *from, size_t size)
-{
-  void *made = new_bytes (size);
-  return made == NULL || size == 0 ? made : memcpy (made, from, size);
-}
 
 /* Adds a pointer to a list; false and an error where there is no memory. */
 bool add (struct list *list, void *item);
@@ -352,6 +231,10 @@ is_foreign (const Elf *elf, Elf_Type type)
 /* Makes data that of an image. */
 void tie (struct elfkit_data *d, Elf *elf);
 
+/* The raw data of a section, empty where there is none yet; NULL and an error where there is no
+   memory. */
+struct elfkit_data *raw_of (Elf_Scn *scn);
+
 /* Lets go of the chunks of a file, and of the data of a section. */
 void free_chunks (Elf *elf);
 void free_pieces (Elf_Scn *scn);
@@ -382,12 +265,13 @@ void let_go (Elf *elf);
 /* Maps the file as programs see it, privately; NULL where it cannot be mapped. */
 uint8_t *map_shown (int fd, size_t size);
 
-/* Makes what programs see of a file theirs alone, so that a write of the file does not change
-   it. */
-void make_private (Elf *elf);
+/* Has what programs see of a file in memory, at the same place, so that a write of the file does
+   not change it, nor take it away where the file gets shorter; false and an error where there is no
+   memory. */
+bool make_private (Elf *elf);
 
 /* Has a copy of the image lent, so that a write of the file does not change what is lent; false and
-   an error where there is no memory. */
+   an error where there is no memory, and for an archive and its members. */
 bool own_image (Elf *elf);
 
 /* What the ELF header of an image says of the tables. */
@@ -441,11 +325,17 @@ bool has_home (Elf_Scn *scn);
 /* What programs saw of the strings of a section is not looked for there any more. */
 void forget_strings (Elf_Scn *scn);
 
-/* The section with a number below the count. */
+/* The section with a number below the count. One of the image knows its number and its descriptor
+   from then on. */
 static inline Elf_Scn *
 section_at (Elf *elf, size_t index)
 {
-  return index < elf->opened ? &elf->sections[index] : elf->added.at[index - elf->opened];
+  if (index >= elf->opened)
+    return elf->added.at[index - elf->opened];
+  Elf_Scn *scn = &elf->sections[index];
+  scn->elf = elf;
+  scn->index = index;
+  return scn;
 }
 
 static inline bool

@@ -3,19 +3,6 @@
 #define _GNU_SOURCE
 #include "object.h"
 
-/* Makes the array of the sections of the image that was opened. */
-static Elf_Scn *
-make_sections (Elf *elf)
-{
-  Elf_Scn *sections = new_zeros (elf->opened * sizeof *sections);
-  for (size_t i = 0; sections != NULL && i < elf->opened; i++)
-    {
-      sections[i].elf = elf;
-      sections[i].index = i;
-    }
-  return sections;
-}
-
 bool
 has_sections (Elf *elf)
 {
@@ -24,7 +11,7 @@ has_sections (Elf *elf)
   if (elf->kind != ELF_K_ELF)
     return false_with (E_INVALID_HANDLE);
   if (elf->sections == NULL && elf->opened > 0)
-    elf->sections = make_sections (elf);
+    elf->sections = new_zeros (elf->opened * sizeof *elf->sections);
   return elf->sections != NULL || elf->opened == 0;
 }
 
@@ -96,7 +83,7 @@ gelf_offscn (Elf *elf, GElf_Off offset)
       if (shdr.sh_size != 0 && shdr.sh_type != SHT_NOBITS)
         return found;
     }
-  return found != NULL ? found : null_with (E_OFFSET_RANGE);
+  return found != NULL ? found : null_with (E_INVALID_OFFSET);
 }
 
 PUBLIC Elf_Scn *

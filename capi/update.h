@@ -15,8 +15,8 @@ struct update
   uint8_t bare[sizeof (Elf64_Ehdr)];
 };
 
-/* An image is made in memory, and a file may tell any place and size: so many bytes that no part has
-   are refused. */
+/* An image is made in memory, and a file may tell any place and size: so many bytes that no part
+   has are refused. */
 enum { MOST_FILL = 1 << 30 };
 
 /* handing.c: hands a section over, its header and its data. */

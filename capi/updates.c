@@ -6,7 +6,7 @@
 static bool
 is_own (const struct elfkit_data *d)
 {
-  return d != &d->scn->raw && (d->scn->is_made || d != &d->scn->data);
+  return d != d->scn->raw && (d->scn->is_made || d != &d->scn->data);
 }
 
 /* The data, with a buffer that may be written: a copy, where it lies in an image that the core
@@ -32,10 +32,19 @@ stored (struct elfkit_data *d)
   return 1;
 }
 
+/* Whether data is of another type than what is to be stored, which is an error. */
+static bool
+is_other (const Elf_Data *data, Elf_Type type)
+{
+  return data != NULL && data->d_type != type && !false_with (E_DATA_MISMATCH);
+}
+
 /* Stores an item at an index, which is given in the form of gelf(3E). */
 static int
 store_item (Elf_Data *data, Elf_Type type, int ndx, const void *src)
 {
+  if (is_other (data, type))
+    return 0;
   struct elfkit_data *d = writable (item_of (data, type, ndx));
   if (d == NULL
       || !from_gelf (type, d->is_64 ? ELFCLASS64 : ELFCLASS32, at_index (d, type, ndx), src))
@@ -119,7 +128,8 @@ gelf_update_auxv (Elf_Data *data, int ndx, GElf_auxv_t *src)
 static int
 store_record (Elf_Data *data, Elf_Type type, int offset, const void *src, size_t size)
 {
-  struct elfkit_data *d = writable (record_of (data, type, offset, size));
+  struct elfkit_data *d
+    = is_other (data, type) ? NULL : writable (record_of (data, type, offset, size));
   if (d == NULL)
     return 0;
   memcpy ((uint8_t *) data->d_buf + offset, src, size);

@@ -37,8 +37,8 @@ gelf_getvernaux (Elf_Data *data, int offset, GElf_Vernaux *dst)
   RECORD (elfkit_vernaux, ELF_T_VNEED);
 }
 
-/* A note of a chunk of the file, as the core finds one: header, name and descriptor lie in it; false
-   and an error where they do not. */
+/* A note of a chunk of the file, as the core finds one: header, name and descriptor lie in it;
+   false and an error where they do not. */
 static bool
 note_in (const Elf_Data *data, size_t offset, struct elfkit_note *note)
 {

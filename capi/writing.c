@@ -143,8 +143,8 @@ append_section (Elf *elf)
   *scn = (Elf_Scn) { .elf = elf, .index = elf->shnum, .is_made = true, .is_new = true,
                      .flags = elf->shnum == 0 ? 0 : ELF_F_DIRTY, .shdr_flags = ELF_F_DIRTY,
                      .shdr = shdr };
-  scn->data.scn = scn->raw.scn = scn;
-  scn->data.elf = scn->raw.elf = elf;
+  scn->data.scn = scn;
+  scn->data.elf = elf;
   elf->has_links = false;
   elf->shnum++;
   return scn;

@@ -194,13 +194,12 @@ write_over (Elf *elf, const struct written *w)
   struct elfkit_lent lent = { w->image, w->size }, back = { NULL, 0 };
   struct elfkit_handle handle = { NULL };
   struct kept *kept = new_zeros (sizeof *kept);
-  if (kept == NULL || !is_given (elfkit_begin (lent, &handle, &back)))
+  if (kept == NULL || !make_private (elf) || !is_given (elfkit_begin (lent, &handle, &back)))
     {
       free (kept);
       free (w->image);
       return false;
     }
-  make_private (elf);
   *kept = (struct kept) { elf->kept, elf->shown, elf->size,
                           elf->memory == MAPPED || elf->memory == WRITTEN };
   elf->kept = kept;

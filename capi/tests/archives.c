@@ -203,6 +203,21 @@ check_bad (const struct archive *a)
   CHECK (elf_end (elf) == 0 && elf_end (ar) == 0);
 }
 
+/* A clone would write over what is lent of an archive. */
+static void
+check_clone (const struct archive *a)
+{
+  FILE *file = tmpfile ();
+  CHECK (file != NULL && fwrite (a->bytes, 1, a->size, file) == a->size && fflush (file) == 0);
+  Elf *ar = elf_begin (fileno (file), ELF_C_RDWR, NULL);
+  CHECK (elf_clone (ar, ELF_C_EMPTY) == NULL && elf_errno () == 51);
+  CHECK (elf_rand (ar, a->at[0]) == a->at[0]);
+  Elf *elf = elf_begin (fileno (file), ELF_C_RDWR, ar);
+  CHECK (elf_clone (elf, ELF_C_EMPTY) == NULL && elf_errno () == 51);
+  check_member (a, elf, 0);
+  CHECK (elf_end (elf) == 0 && elf_end (ar) == 0 && fclose (file) == 0);
+}
+
 static void
 check_others (void)
 {
@@ -248,5 +263,6 @@ main (void)
   check_nested (&a);
   check_wide ();
   check_bad (&a);
+  check_clone (&a);
   return ended ("archives");
 }

@@ -1,5 +1,5 @@
-/* file.h: files in memory, and numbers by chance, the same ones in each run. A test that includes it
-   defines _GNU_SOURCE. */
+/* file.h: files in memory, and numbers by chance, the same ones in each run. A test that includes
+   it defines _GNU_SOURCE. */
 #ifndef FILE_H
 #define FILE_H 1
 

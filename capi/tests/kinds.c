@@ -32,7 +32,8 @@ static const struct kind kinds[] = {
   KIND (ELF_T_SYM, SHT_SYMTAB, sym, GElf_Sym, ITEM (1, 0x12, 2, 3, 0x11223344, 8),
         ITEM (5, 6, 0, SHN_ABS, 7, 8), WIDE (GElf_Sym, 1, 2, 3, 4, 1ull << 32, 6)),
   KIND (ELF_T_REL, SHT_REL, rel, GElf_Rel, ITEM (0x30, GELF_R_INFO (2ull, 7)),
-        ITEM (0x40, GELF_R_INFO (0xffffffull, 0xff)), WIDE (GElf_Rel, 1, GELF_R_INFO (1ull << 24, 0))),
+        ITEM (0x40, GELF_R_INFO (0xffffffull, 0xff)),
+        WIDE (GElf_Rel, 1, GELF_R_INFO (1ull << 24, 0))),
   KIND (ELF_T_RELA, SHT_RELA, rela, GElf_Rela, ITEM (0x50, GELF_R_INFO (3ull, 9), -5),
         ITEM (0x60, 0, INT32_MIN), WIDE (GElf_Rela, 1, 0, (int64_t) INT32_MAX + 1)),
   KIND (ELF_T_DYN, SHT_DYNAMIC, dyn, GElf_Dyn, ITEM (DT_NEEDED, { 0x70 }), ITEM (-2, { 0x80 }),
@@ -75,6 +76,7 @@ store (const struct kind *k, Elf_Data *data, const void *first, const void *seco
   CHECK (k->put (data, 1, (void *) second) == 1);
   CHECK (k->put (data, 2, (void *) first) == 0 && elf_errno () == 22);
   CHECK (k->put (NULL, 0, (void *) first) == 0);
+  CHECK (gelf_update_auxv (data, 0, (GElf_auxv_t *) first) == 0 && elf_errno () == 31);
   look (k, data, first, second);
 }
 
@@ -109,7 +111,7 @@ store_versions (Elf_Data *defined, Elf_Data *needed)
   CHECK (gelf_update_verdaux (defined, 20, (GElf_Verdaux *) &verdaux[0]) == 1);
   CHECK (gelf_update_verdaux (defined, 28, (GElf_Verdaux *) &verdaux[1]) == 1);
   CHECK (gelf_update_verdef (defined, 20, (GElf_Verdef *) &verdef) == 0 && elf_errno () != 0);
-  CHECK (gelf_update_verdef (needed, 0, (GElf_Verdef *) &verdef) == 0 && elf_errno () == 4);
+  CHECK (gelf_update_verdef (needed, 0, (GElf_Verdef *) &verdef) == 0 && elf_errno () == 31);
   CHECK (gelf_update_verneed (needed, 0, (GElf_Verneed *) &verneed) == 1);
   CHECK (gelf_update_vernaux (needed, 16, (GElf_Vernaux *) &vernaux[0]) == 1);
   CHECK (gelf_update_vernaux (needed, 32, (GElf_Vernaux *) &vernaux[1]) == 1);

@@ -13,9 +13,9 @@ enum
 {
   UNKNOWN_VERSION = 2, UNKNOWN_TYPE = 3, INVALID_HANDLE = 4, INVALID_FILE = 9, INVALID_OP = 11,
   INVALID_CMD = 13, INVALID_CLASS = 21, INVALID_INDEX = 22, INVALID_OPERAND = 23,
-  INVALID_SECTION = 24, FD_DISABLED = 27, NUL_SECTION = 30, DATA_MISMATCH = 31, INVALID_DATA = 33,
-  UPDATE_RO = 38, NO_PHDR = 42, SECTION_TYPE = 44, SECTION_FLAGS = 45, NOT_COMPRESSED = 46,
-  UNKNOWN_COMPRESSION = 48
+  INVALID_SECTION = 24, INVALID_COMMAND = 25, FD_DISABLED = 27, NUL_SECTION = 30,
+  DATA_MISMATCH = 31, INVALID_DATA = 33, UPDATE_RO = 38, NO_PHDR = 42, INVALID_OFFSET = 43,
+  SECTION_TYPE = 44, SECTION_FLAGS = 45, NOT_COMPRESSED = 46, UNKNOWN_COMPRESSION = 48
 };
 
 /* Whether the last error is this one. */
@@ -100,7 +100,7 @@ ask_commands (const struct image *m)
   CHECK (elf_begin (fd, ELF_C_READ_MMAP_PRIVATE, elf) == NULL && is_error (INVALID_CMD));
   CHECK (elf_update (elf, ELF_C_WRITE) == -1 && is_error (UPDATE_RO));
   CHECK (elf_update (elf, ELF_C_READ) == -1 && is_error (INVALID_CMD));
-  CHECK (elf_flagelf (elf, ELF_C_READ, ELF_F_DIRTY) == 0 && is_error (INVALID_CMD));
+  CHECK (elf_flagelf (elf, ELF_C_READ, ELF_F_DIRTY) == 0 && is_error (INVALID_COMMAND));
   CHECK (elf_cntl (elf, ELF_C_READ) == -1 && is_error (INVALID_CMD));
   CHECK (elf_cntl (elf, ELF_C_FDREAD) == 0 && elf_end (elf) == 0);
   elf = elf_begin (fd, ELF_C_READ_MMAP_PRIVATE, NULL);
@@ -168,7 +168,7 @@ find_places (const struct image *m, Elf *elf)
   elf_errno ();
   CHECK (elf64_offscn (elf, shdr.sh_offset) == (m->is64 ? scn : NULL));
   elf_errno ();
-  CHECK (gelf_offscn (elf, 3) == NULL && elf_errno () != 0);
+  CHECK (gelf_offscn (elf, 3) == NULL && is_error (INVALID_OFFSET));
 }
 
 /* Data of another section, chunks, and notes. */

@@ -140,7 +140,8 @@ refuse_group (void)
   fails (elf, fd, GROUP_NOT_REL);
 }
 
-/* A file that may not be written; an image whose tables do not lie in it; a member of an archive. */
+/* A file that may not be written; an image whose tables do not lie in it; a member of an
+   archive. */
 static void
 refuse_files (void)
 {
@@ -247,6 +248,7 @@ begin_without_header (void)
 {
   int fd = file_of ("", 0);
   Elf *elf = elf_begin (fd, ELF_C_WRITE, NULL);
+  CHECK (elf_getdata_rawchunk (elf, 0, 0, ELF_T_BYTE) == NULL && elf_errno () != 0);
   CHECK (gelf_newphdr (elf, 1) == NULL && elf_errno () == WRONG_ORDER);
   CHECK (elf_newdata (elf_newscn (elf)) == NULL && elf_errno () == WRONG_ORDER);
   CHECK (elf_end (elf) == 0 && close (fd) == 0);

@@ -294,6 +294,32 @@ clone_in_place (struct image *m)
   close (fd);
 }
 
+/* What programs saw of a file stays where the file gets shorter by some pages, whether a clone
+   writes it or the descriptor itself. */
+static void
+shorten_in_place (struct image *m, int by_clone)
+{
+  enum { SIZE = 20000 };
+  static char bytes[SIZE];
+  int fd = file_of (m->bytes, m->size);
+  CHECK (ftruncate (fd, SIZE) == 0 && pwrite (fd, "last", 4, SIZE - 4) == 4);
+  Elf *elf = elf_begin (fd, ELF_C_RDWR, NULL), *clone = NULL;
+  char *raw = elf_rawfile (elf, NULL);
+  CHECK (raw != NULL);
+  if (by_clone)
+    {
+      clone = elf_clone (elf, ELF_C_EMPTY);
+      CHECK (gelf_newehdr (clone, gelf_getclass (elf)) != NULL);
+    }
+  CHECK (elf_update (by_clone ? clone : elf, ELF_C_WRITE) < 4096);
+  CHECK (lseek (fd, 0, SEEK_END) < 4096);
+  memcpy (bytes, raw, SIZE);
+  CHECK (memcmp (bytes + SIZE - 4, "last", 4) == 0);
+  CHECK (memcmp (bytes, m->bytes, m->size) == 0);
+  CHECK (elf_end (clone) == 0 && elf_end (elf) == 0);
+  close (fd);
+}
+
 /* What an image cannot be is refused, and the file stays. */
 static void
 refuse (struct image *m)
@@ -341,6 +367,8 @@ main (void)
       change_in_place (&m);
       grow_in_place (&m);
       clone_in_place (&m);
+      shorten_in_place (&m, 0);
+      shorten_in_place (&m, 1);
       refuse (&m);
     }
   return ended ("writing");
