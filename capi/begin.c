@@ -222,7 +222,8 @@ leave_archive (Elf *elf)
 static void
 free_sections (Elf *elf)
 {
-  for (size_t i = elf->has_parts ? 0 : elf->opened; i < elf->shnum; i++)
+  bool has_parts = elf->sections != NULL && elf->has_parts;
+  for (size_t i = has_parts ? 0 : elf->opened; i < elf->shnum; i++)
     {
       Elf_Scn *scn = section_at (elf, i);
       free_pieces (scn);
