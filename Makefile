@@ -16,26 +16,39 @@
 #   make test-elfutils         elfutils' own test suite on it, compared with elfutils' library
 #   make rust-lib              what the crate for Rust links, build/libelfkit.a and build/liblibc_c.a
 #   make test-rust             the tests of the crate for Rust, rust/elfkit
-#   make install-lib PREFIX=.. the library for C, its headers and its pkg-config file
+#   make install-lib PREFIX=.. the library for C, its headers and its pkg-config files
+#   make dist GATE=LOG         a tar file of the program and the library, in build/dist; the log of a
+#                              gate can be left out
+#   make deb GATE=LOG          Debian packages of both, in build/deb
 PREFIX ?= /usr/local
 ARGS ?= readelf -h -l /bin/true
 sources := $(shell find crates -path '*/out' -prune -o -type f -print)
 
-.PHONY: all try test edits bench install c-tools lib test-c check-c coverage-c fuzz-c \
-    test-programs test-elfutils install-lib clean
+needs := $(addprefix needs-,make try test edits lib test-elfutils test-rust dist deb)
+
+.PHONY: all try test edits bench install lib test-c check-c coverage-c fuzz-c test-programs test-elfutils \
+    install-lib rust-lib test-rust dist deb clean $(needs)
+# tools/build uses all processors by itself, and what a step needs is said before it begins.
+.NOTPARALLEL:
 
 all: build/elfkit
 
 build/elfkit: crates.txt $(sources)
+	@tools/needs make
 	@tools/build elfkit
+	@rt version > build/kit
 
-try:
+# What is not on this machine is said in one line, with the package that has it.
+$(needs): needs-%:
+	@CC='$(CC)' tools/needs $*
+
+try: needs-try
 	@tools/try $(ARGS)
 
-test:
+test: needs-test
 	@tools/test
 
-edits:
+edits: needs-edits
 	@tools/try-edits
 
 bench: build/elfkit
@@ -58,55 +71,58 @@ capi_debug := $(shell $(CC) $(no_mark) -Werror -E -x c /dev/null > /dev/null 2>&
 kit = $(dir $(shell rt doc))
 capi_sources := $(sort $(wildcard capi/*.c))
 capi_headers := $(wildcard capi/*.h capi/include/*.h)
-capi_flags := -std=gnu11 -Wall -Wextra -Werror -fPIC -fvisibility=hidden -Icapi/include -Icapi
+capi_flags := -std=gnu11 -Wall -Wextra -Werror -fPIC -fvisibility=hidden -Icapi/include -Icapi \
+    -ffile-prefix-map=$(CURDIR)=.
 capi_link := -shared -Wl,-soname,libelf.so.1 -Wl,--version-script=capi/libelf.map -Wl,-z,defs
 LIBDIR ?= $(PREFIX)/lib/elfkit
+PKGCONFIGDIR ?= $(PREFIX)/lib/pkgconfig
 
-# What the layer of C needs is said before the proofs begin.
-c-tools:
-	@printf '#include <zlib.h>\n' | $(CC) -E - > /dev/null 2>&1 || \
-	    { echo "make lib needs a C compiler and zlib's headers (Debian: gcc and zlib1g-dev)" >&2; \
-	    exit 1; }
-
-lib: c-tools build/libelf.so.1
+lib: needs-lib build/libelf.so.1 build/liblibc_c.a
 
 build/libelfkit.a: crates.txt $(sources)
+	@tools/needs make
 	@tools/build elfkit_c
+	@rt version > build/kit
 
 build/libelf.so.1: build/libelfkit.a $(capi_sources) $(capi_headers) capi/libelf.map
 	$(CC) $(CFLAGS) $(capi_debug) $(capi_flags) $(capi_link) -o $@ $(capi_sources) build/libelfkit.a \
 	    $(kit)c/liblibc_c.a -lz
 	ln -sf libelf.so.1 build/libelf.so
 
-test-c: c-tools build/libelfkit.a
+test-c: needs-lib build/libelfkit.a
 	@capi/run-tests $(kit)c/liblibc_c.a
 
 check-c:
 	@capi/check-findings
 
-coverage-c: c-tools build/libelfkit.a
+coverage-c: needs-lib build/libelfkit.a
 	@capi/coverage $(kit)c/liblibc_c.a
 
 RUNS ?= 1000000
 
-fuzz-c: c-tools build/libelfkit.a
+fuzz-c: needs-lib build/libelfkit.a
 	@capi/fuzz/run $(kit)c/liblibc_c.a $(RUNS)
 
-test-programs: build/libelf.so.1
+test-programs: needs-lib build/libelf.so.1
 	@capi/compare-programs build
 	@capi/compare-writers build
 
-test-elfutils: build/libelf.so.1
+test-elfutils: needs-test-elfutils build/libelf.so.1
 	@capi/compare-elfutils build
 
-install-lib: build/libelf.so.1
-	install -d $(DESTDIR)$(LIBDIR)/pkgconfig $(DESTDIR)$(PREFIX)/include/elfkit
-	install -m 755 build/libelf.so.1 $(DESTDIR)$(LIBDIR)/libelf.so.1
+# libelf.pc is found where PKG_CONFIG_PATH names its folder, libelfkit.pc by its name.
+install-lib: build/libelf.so.1 build/liblibc_c.a
+	install -d $(DESTDIR)$(LIBDIR)/pkgconfig $(DESTDIR)$(PKGCONFIGDIR)
+	install -d $(DESTDIR)$(PREFIX)/include/elfkit
+	install -m 644 build/libelf.so.1 build/libelfkit.a build/liblibc_c.a $(DESTDIR)$(LIBDIR)
 	ln -sf libelf.so.1 $(DESTDIR)$(LIBDIR)/libelf.so
 	install -m 644 capi/include/libelf.h capi/include/gelf.h capi/include/nlist.h \
 	    $(DESTDIR)$(PREFIX)/include/elfkit
-	sed -e 's|@LIBDIR@|$(LIBDIR)|' -e 's|@INCLUDEDIR@|$(PREFIX)/include/elfkit|' \
-	    capi/libelf.pc.in > $(DESTDIR)$(LIBDIR)/pkgconfig/libelf.pc
+	$(fill_pc) capi/libelf.pc.in > $(DESTDIR)$(LIBDIR)/pkgconfig/libelf.pc
+	$(fill_pc) capi/libelfkit.pc.in > $(DESTDIR)$(PKGCONFIGDIR)/libelfkit.pc
+
+fill_pc = sed -e 's|@LIBDIR@|$(LIBDIR)|' -e 's|@INCLUDEDIR@|$(PREFIX)/include/elfkit|' \
+    -e "s|@VERSION@|$$(tools/version)|"
 
 # ---- The crate for Rust: safe types over the same core
 
@@ -115,8 +131,16 @@ rust-lib: build/libelfkit.a build/liblibc_c.a
 build/liblibc_c.a:
 	install -D -m 644 $(kit)c/liblibc_c.a $@
 
-test-rust: rust-lib
+test-rust: needs-test-rust rust-lib
 	@rust/run-tests
+
+# ---- What is handed out
+
+dist: needs-dist all lib
+	@tools/dist $(GATE)
+
+deb: needs-deb all lib
+	@tools/deb $(GATE)
 
 clean:
 	rm -rf build crates/*/out rust/*/target
