@@ -333,6 +333,7 @@ section_at (Elf *elf, size_t index)
   if (index >= elf->opened)
     return elf->added.at[index - elf->opened];
   Elf_Scn *scn = &elf->sections[index];
+  /* clang: a section below opened is asked for where there are sections (free_sections) */
   scn->elf = elf;               /* -fanalyzer: has_sections made them, where opened is not 0 */
   scn->index = index;
   return scn;
