@@ -1,6 +1,6 @@
 //! What a descriptor tells without reading.
 
-ghost use Rattle.std.specs.Prelude.{◌≡◌, false, Ok, IfOk, length};
+ghost use Rattle.std.specs.Prelude.{◌≡◌, false, Ok, IfOk, is_some, length};
 ghost use Rattle.elf_types.specs.Answers.{err_of};
 ghost use Rattle.section_table.specs.elf_object.Object.{is_dirty};
 ghost use Rattle.section_table.specs.elf_object.Answers.{piece_refusal};
@@ -141,6 +141,7 @@ impl<S: Source> Elf<S> {
     pub fn dirty(&self) -> bool
         ensures dirty { result ≡ is_dirty self.now.o }
         ensures sound { IsSound (S.holds self.now.source) self.now.o }
+        ensures told { self.now.told ≡ is_some (S.holds self.now.source) }
         ensures whole { result ≡ false → HoldsBaseAlone S.Source self.now }
     {
         self.body.dirty()
