@@ -1,7 +1,1 @@
-pub mod Folds
-pub mod FormsHold
-pub mod Groups
-pub mod Numerals
-pub mod OneSplit
-pub mod OptionRules
-pub mod Splits
+pub mod LastLemmas

@@ -1,5 +1,1 @@
-pub mod Forms
-pub mod Numbers
-pub mod Reading
-pub mod Rules
-pub mod Splitting
+pub mod Arguments

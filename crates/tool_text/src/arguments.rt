@@ -2,7 +2,7 @@
 
 ghost use Rattle.std.specs.Prelude.{◌≡◌, ◌++◌, ◌∷◌, ◌==◌, [], length, slice_get, OnOk, OnErr, IfOk, IfErr};
 ghost use Rattle.std.specs.Option.{option_copied};
-ghost use Rattle.tool_text.specs.Reading.{last, only_one, only_two};
+ghost use Rattle.tool_text.specs.Arguments.{last, only_one, only_two};
 ghost use Rattle.elf_types.specs.declared.errors.ElfError.TheVariants.{Memory};
 
 use crate::texts::Text;
@@ -37,7 +37,7 @@ impl Args {
     }
 
     /// A copy of texts. Only memory can be missing for it.
-    pub(crate) fn copy_of(alloc: Global, words: &[Text]) -> Result<Args, ElfError>
+    pub fn copy_of(alloc: Global, words: &[Text]) -> Result<Args, ElfError>
         ensures ok { IfOk result (λ a. a ≡ words.now) }
         ensures err { IfErr result (λ e. e ≡ Memory) }
     {
@@ -49,7 +49,7 @@ impl Args {
     }
 
     /// The list of these texts. It takes no memory.
-    pub(crate) fn from_texts(alloc: Global, words: List<Text>) -> Args
+    pub fn from_texts(alloc: Global, words: List<Text>) -> Args
         ensures { result ≡ words }
     {
         Args { alloc, words }
@@ -97,8 +97,8 @@ impl Args {
     }
 
     /// The last text, if there is one.
-    #[tactic(auto, unfolding(crate::specs::Reading::last))]
-    pub(crate) fn into_last(self) -> Option<Text>
+    #[tactic(auto, unfolding(crate::specs::Arguments::last))]
+    pub fn into_last(self) -> Option<Text>
         ensures { result ≡ last self }
     {
         let Args { alloc: _, words } = self;
@@ -106,8 +106,8 @@ impl Args {
     }
 
     /// The one text, if there is exactly one.
-    #[tactic(auto, unfolding(crate::specs::Reading::only_one))]
-    pub(crate) fn into_one(self) -> Option<Text>
+    #[tactic(auto, unfolding(crate::specs::Arguments::only_one))]
+    pub fn into_one(self) -> Option<Text>
         ensures { result ≡ only_one self }
     {
         if self.len() == 1 {
@@ -118,8 +118,8 @@ impl Args {
     }
 
     /// The two texts, if there are exactly two.
-    #[tactic(auto, unfolding(crate::specs::Reading::only_two))]
-    pub(crate) fn into_two(self) -> Option<(Text, Text)>
+    #[tactic(auto, unfolding(crate::specs::Arguments::only_two))]
+    pub fn into_two(self) -> Option<(Text, Text)>
         ensures { result ≡ only_two self }
     {
         if self.len() != 2 {

@@ -1,5 +1,5 @@
 use Rattle.std.proofs.Common.{length, sym, ap, ◌∙◌}
-use Rattle.tool_text.proofs.Folds.{last_popped}
+use Rattle.tool_text.proofs.LastLemmas.{last_popped}
 use Rattle.tool_text.proofs.arguments.Args.into_last.Goals as goal
 
 pub returns : goal.returns

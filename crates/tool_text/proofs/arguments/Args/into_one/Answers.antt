@@ -1,5 +1,5 @@
 use Rattle.std.proofs.Common.{◌∙◌, rules}
-use Rattle.tool_text.proofs.Folds.{last-one}
+use Rattle.tool_text.proofs.LastLemmas.{last-one}
 use Rattle.tool_text.proofs.arguments.Args.into_one.Goals as goal
 
 pub returns-then-len-eq1 : goal.returns-then-len-eq1

@@ -6,22 +6,6 @@ use Rattle.std.proofs.lemmas.List.Elements.{filter_map-append}
 use Rattle.tool_text.specs.declared.splitting.CommandOption.{CommandOption}
 use Rattle.tool_text.specs.Reading.{last, only_one, option_arguments, option_argument_of}
 
-last_or-push : {X : Type 0} (o : Option X) (xs : List X) (x : X) → last_or o (xs ++ x ∷ []) ≡ Some x
-last_or-push o [] x = refl
-last_or-push o (y ∷ ys) x = last_or-push (Some y) ys x
-
--- what is taken from the end is the last
-pub last_popped : {X : Type 0} (xs rest : List X) (r : Option X) (n m : ℕ) → n ≡ length xs → xs ≡ rest ++ option_to_list r → MatchOption r ((n ≡ 0) × (m ≡ 0)) (λ _. m + 1 ≡ n) → r ≡ last xs
-unfolding last
-last_popped xs rest None n m len parts empty = ap (last_or None) (sym (nil_from_length xs (sym len ∙ empty.0)))
-last_popped xs rest (Some x) n m len parts more = sym (ap (last_or None) parts ∙ last_or-push None rest x)
-
-pub last-one : (xs : List (List ℕ)) → length xs ≡ 1 → last xs ≡ only_one xs
-unfolding last only_one
-last-one [] one = absurd (omega arith)
-last-one (x ∷ []) one = refl
-last-one (x ∷ y ∷ xs) one = absurd (omega arith)
-
 one_option_argument : (a : Option (List ℕ)) → cons_option a [] ≡ option_to_list a
 one_option_argument None = refl
 one_option_argument (Some x) = refl

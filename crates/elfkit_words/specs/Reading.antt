@@ -44,10 +44,6 @@ option_argument_of letter option = if option.letter == letter then option.option
 unfoldable pub option_arguments : ℕ → List CommandOption → List (List ℕ)
 option_arguments letter options = filter_map (option_argument_of letter) options
 
--- of several option-arguments of one letter the last counts
-unfoldable pub last : {X : Type 0} → List X → Option X
-last xs = last_or None xs
-
 -- each option-argument must have a value, also where a later one counts
 unfoldable pub all_values : {X : Type 0} → (List ℕ → Option X) → List (List ℕ) → Option (List X)
 all_values value [] = Some []
@@ -60,14 +56,6 @@ all_values value (w ∷ ws) = do
 unfoldable pub one_or_more : List (List ℕ) → Option (List (List ℕ))
 one_or_more [] = None
 one_or_more (file ∷ files) = Some (file ∷ files)
-
-unfoldable pub only_one : List (List ℕ) → Option (List ℕ)
-only_one (word ∷ []) = Some word
-only_one _ = None
-
-unfoldable pub only_two : List (List ℕ) → Option (List ℕ × List ℕ)
-only_two (first ∷ second ∷ []) = Some (first, second)
-only_two _ = None
 
 -- no two of the words are the same
 unfoldable pub all_differ : List (List ℕ) → Bool
