@@ -18,7 +18,7 @@ use Rattle.elf_object.specs.Image.{image}
 use Rattle.elf_object.specs.Due.{is_loaded, homes_due, update_to_due}
 use Rattle.update_plan.specs.elf_descriptor.State.{State}
 use Rattle.update_plan.proofs.elf_descriptor.ReadsLaws.{dues_stay}
-use Rattle.tool_text.specs.declared.commands.CallsOutput.TheVariants.{To}
+use Rattle.calls_update.specs.declared.outputs.CallsOutput.TheVariants.{To}
 use Rattle.tool_output.specs.declared.stops.Stop.{Stop}
 use Rattle.tool_output.specs.declared.stops.Stop.TheVariants.{Read, Write, Memory}
 use Rattle.tool_output.specs.declared.outputs.Outputs.{Outputs}

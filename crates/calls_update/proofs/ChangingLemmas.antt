@@ -20,7 +20,7 @@ use Rattle.elf_object.proofs.DueLaws.{more_than_none, homes_fall, update_in_plac
 use Rattle.update_plan.specs.elf_descriptor.State.{State}
 use Rattle.update_plan.specs.elf_descriptor.Views.{source_bytes}
 use Rattle.update_plan.specs.elf_descriptor.Begun.{IsBegun, begun_state}
-use Rattle.tool_text.specs.declared.commands.CallsOutput.TheVariants.{InPlace}
+use Rattle.calls_update.specs.declared.outputs.CallsOutput.TheVariants.{InPlace}
 use Rattle.tool_output.specs.declared.stops.Stop.{Stop}
 use Rattle.tool_output.specs.declared.stops.Stop.TheVariants.{Read, Write, Memory}
 use Rattle.tool_output.specs.declared.outputs.Outputs.{Outputs}

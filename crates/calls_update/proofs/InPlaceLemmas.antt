@@ -20,7 +20,7 @@ use Rattle.object_laws.proofs.ImageLaws.{image-clean}
 use Rattle.update_plan.specs.elf_descriptor.State.{State}
 use Rattle.update_writes.specs.Writes.{LeavesTorn}
 use Rattle.update_in_place.specs.Updates.{OnEnd, UpdatesInPlace}
-use Rattle.tool_text.specs.declared.commands.CallsOutput.TheVariants.{InPlace}
+use Rattle.calls_update.specs.declared.outputs.CallsOutput.TheVariants.{InPlace}
 use Rattle.tool_output.specs.declared.stops.Stop.{Stop}
 use Rattle.tool_output.specs.declared.stops.Stop.TheVariants.{Read, Write, Memory}
 use Rattle.tool_output.specs.declared.outputs.Outputs.{Outputs}

@@ -1,3 +1,4 @@
+pub mod Outputs
 pub mod Updates
 pub mod Writes
 pub mod Changes

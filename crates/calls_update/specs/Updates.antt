@@ -9,8 +9,8 @@ use Rattle.elf_object.specs.Runs.{left_by}
 use Rattle.elf_object.specs.Image.{image}
 use Rattle.elf_object.specs.Due.{update_to_due, update_in_place_due}
 use Rattle.elf_object.specs.Changed.{changed_bytes}
-use Rattle.tool_text.specs.declared.commands.CallsOutput.{CallsOutput}
-use Rattle.tool_text.specs.declared.commands.CallsOutput.TheVariants.{To, InPlace}
+use Rattle.calls_update.specs.declared.outputs.CallsOutput.{CallsOutput}
+use Rattle.calls_update.specs.declared.outputs.CallsOutput.TheVariants.{To, InPlace}
 use Rattle.tool_output.specs.Names.{file_name}
 use Rattle.tool_output.specs.Statuses.{refused_status}
 use Rattle.tool_output.specs.Reports.{joined, refusal_report}

@@ -12,7 +12,7 @@ use Rattle.elf_object.specs.Runs.{left_by}
 use Rattle.elf_object.specs.Image.{image}
 use Rattle.elf_object.specs.Due.{update_to_due, homes_due}
 use Rattle.update_plan.specs.elf_descriptor.State.{State}
-use Rattle.tool_text.specs.declared.commands.CallsOutput.TheVariants.{To}
+use Rattle.calls_update.specs.declared.outputs.CallsOutput.TheVariants.{To}
 use Rattle.tool_output.specs.declared.stops.Stop.{Stop}
 use Rattle.tool_output.specs.declared.outputs.Outputs.{Outputs}
 use Rattle.tool_output.specs.Statuses.{refused_status}

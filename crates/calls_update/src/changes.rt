@@ -1,7 +1,7 @@
 //! The calls of a script on the image of a file, and the image that they leave in its place.
 
 ghost use Rattle.std.specs.Prelude.{Some, codes};
-ghost use Rattle.tool_text.specs.declared.commands.CallsOutput.TheVariants.{InPlace};
+ghost use Rattle.calls_update.specs.declared.outputs.CallsOutput.TheVariants.{InPlace};
 ghost use Rattle.object_output.specs.Images.{file_object};
 ghost use Rattle.calls_tool.specs.Files.{calls_asks};
 ghost use Rattle.calls_update.specs.Updates.{updated_by};

@@ -2,7 +2,7 @@
 //! leave.
 
 ghost use Rattle.std.specs.Prelude.{Some, codes};
-ghost use Rattle.tool_text.specs.declared.commands.CallsOutput.TheVariants.{To};
+ghost use Rattle.calls_update.specs.declared.outputs.CallsOutput.TheVariants.{To};
 ghost use Rattle.object_output.specs.Images.{file_object};
 ghost use Rattle.calls_tool.specs.Files.{calls_asks};
 ghost use Rattle.calls_update.specs.Updates.{updated_by};

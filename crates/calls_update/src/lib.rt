@@ -7,9 +7,11 @@
 pub mod changes;
 pub mod changing;
 pub mod edits;
+pub mod outputs;
 pub mod writing;
 
 pub use changes::CallsChange;
 pub use changing::change_calls;
 pub use edits::CallsEdit;
+pub use outputs::CallsOutput;
 pub use writing::write_calls;

@@ -4,7 +4,7 @@ use Rattle.elf_types.specs.Answers.{answered, ◌>>=◌}
 use Rattle.elf_types.specs.Text.{error_text, numbered}
 use Rattle.std.specs.Option.{option_map}
 use Rattle.object_output.specs.elf_outside.Names.{Map}
-use Rattle.tool_text.specs.declared.commands.StripOptions.{StripOptions}
+use Rattle.command_outcomes.specs.declared.options.StripOptions.{StripOptions}
 use Rattle.command_objects.specs.elf_object.Object.{Object}
 use Rattle.command_objects.specs.Removed.{removed_sections}
 use Rattle.command_objects.specs.Rebuilt.{rebuilt}

@@ -3,6 +3,9 @@
 #![tactic(auto)]
 
 pub mod laws;
+pub mod options;
 pub mod prelude;
 #[cfg(test)]
 mod tests;
+
+pub use options::StripOptions;

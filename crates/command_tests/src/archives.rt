@@ -4,8 +4,8 @@ use elf_types::ElfError;
 use std::alloc::Global;
 use test_cases::{Case, Portion, RUN, Stored, are_so, bytes_of};
 use test_images::{NARROW, OBJECT, Recipe};
+use test_runs::prelude::ReadelfParts;
 use test_runs::{DONE, Ending, REFUSED, asked};
-use tool_text::ReadelfParts;
 
 /// The begin of an archive of 662 bytes: a table of symbols at 8, a table of long names at 78, and at
 /// 166 the header of a member with a long name, whose object stands at 226.

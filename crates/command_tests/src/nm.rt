@@ -8,8 +8,9 @@ use test_cases::{Case, Portion, RUN, Stored, are_so};
 use test_images::{
     Field, NARROW, NULL_SECTION, OBJECT, Put, Recipe, SectionField, Start, WIDE, image_of,
 };
+use test_runs::prelude::NmOptions;
 use test_runs::{DONE, Ending, Nm, REFUSED, said_by};
-use tool_text::{NmOptions, Radix};
+use tool_text::Radix;
 
 /// Where the fields of the symbol stand in the object of class 64.
 const NAME: u64 = 96;

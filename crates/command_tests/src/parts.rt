@@ -5,8 +5,8 @@ use std::alloc::Global;
 use test_images::{
     Content, Field, HeaderField, NARROW, OBJECT, Put, Recipe, SectionField, changed_image, image_of,
 };
+use test_runs::prelude::ReadelfParts;
 use test_runs::readelf_of;
-use tool_text::ReadelfParts;
 
 /// No part.
 const NONE: ReadelfParts = ReadelfParts {

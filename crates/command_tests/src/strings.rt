@@ -5,9 +5,10 @@ use elf_types::{ElfError, Octets, Shdr};
 use std::alloc::Global;
 use test_cases::{Case, Portion, RUN, Stored, are_so};
 use test_images::{Field, NULL_SECTION, Put, Recipe, SectionField, Start, WIDE};
+use test_runs::prelude::StringsOptions;
 use test_runs::{DONE, Ending, NOTHING, REFUSED, run_line, strings_of};
 use tool_output::Status;
-use tool_text::{Radix, StringsOptions};
+use tool_text::Radix;
 
 /// Words, the bytes of the file F, and what is shown.
 static SHOWN: [Case; 9] = [

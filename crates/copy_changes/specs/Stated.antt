@@ -4,7 +4,7 @@ use Rattle.std.specs.List.{list_all}
 use Rattle.elf_types.specs.declared.errors.ElfError.{ElfError}
 use Rattle.elf_types.specs.declared.errors.ElfError.TheVariants.{Memory, Read, Write}
 use Rattle.elf_types.specs.Answers.{stated_refusal}
-use Rattle.tool_text.specs.Reading.{is_section_name}
+use Rattle.copy_changes.specs.Names.{is_section_name}
 use Rattle.command_objects.specs.Copied.{Changes as StatedChanges, CopyFault as StatedFault}
 use Rattle.copy_changes.specs.declared.changes.NameBytes.{NameBytes}
 use Rattle.copy_changes.specs.declared.changes.NameBits.{NameBits}

@@ -4,7 +4,9 @@
 mod changes;
 mod faulting;
 mod faults;
+mod options;
 
 pub use changes::{Changes, NameBits, NameBytes};
 pub use faulting::{fault_allocated, fault_fixed, fault_no_bytes, fault_no_section};
 pub use faults::CopyFault;
+pub use options::{CopyChanges, NamedBits, NamedFile, Renaming};

@@ -11,10 +11,10 @@ use Rattle.command_objects.specs.Copied.{CopyFault, copied}
 use Rattle.command_objects.specs.Files.{file_of}
 use Rattle.command_objects.specs.Laws.{AreChanges}
 use Rattle.command_objects.specs.KeepingLaws.{IsCopied, CopyLaw}
-use Rattle.tool_text.specs.declared.commands.CopyChanges.{CopyChanges}
-use Rattle.tool_text.specs.declared.commands.NamedBits.{NamedBits}
-use Rattle.tool_text.specs.declared.commands.NamedFile.{NamedFile}
-use Rattle.tool_text.specs.declared.commands.Renaming.{Renaming}
+use Rattle.command_outcomes.specs.copy_changes.declared.options.CopyChanges.{CopyChanges}
+use Rattle.command_outcomes.specs.copy_changes.declared.options.NamedBits.{NamedBits}
+use Rattle.command_outcomes.specs.copy_changes.declared.options.NamedFile.{NamedFile}
+use Rattle.command_outcomes.specs.copy_changes.declared.options.Renaming.{Renaming}
 use Rattle.tool_output.specs.Outcomes.{FileWrite, write_of}
 use Rattle.tool_output.specs.Made.{Done, Complaint, complaint, made, made_file, of_file, written_outcome}
 use Rattle.command_outcomes.specs.Files.{bytes_named, object_named, bytes_of_each}

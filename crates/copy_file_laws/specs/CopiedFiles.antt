@@ -5,7 +5,7 @@ use Rattle.elf_types.specs.Lists.{AreBytes}
 use Rattle.elf_outside.specs.Names.{Map}
 use Rattle.elf_object.specs.Object.{Object}
 use Rattle.command_objects.specs.KeepingLaws.{IsCopied, SectionsAreKept, BytesAreGiven}
-use Rattle.tool_text.specs.declared.commands.CopyChanges.{CopyChanges}
+use Rattle.command_outcomes.specs.copy_changes.declared.options.CopyChanges.{CopyChanges}
 use Rattle.tool_output.specs.Outcomes.{FileWrite, write_of}
 use Rattle.command_outcomes.specs.Files.{bytes_of_each}
 use Rattle.command_outcomes.specs.Copy.{changes_with, copy_outcome}

@@ -7,7 +7,7 @@ use Rattle.std.proofs.lemmas.Bool.{and_parts, not-true}
 use Rattle.elf_types.specs.declared.errors.ElfError.{ElfError}
 use Rattle.elf_types.specs.declared.errors.ElfError.TheVariants.{Memory, TooLarge}
 use Rattle.strtab_build.specs.Table.{table, place_of, distinct}
-use Rattle.tool_text.specs.Reading.{is_section_name}
+use Rattle.copy_changes.specs.Names.{is_section_name}
 use Rattle.copy_changes.specs.elf_object.Object.{Object}
 use Rattle.copy_changes.specs.elf_object.Strings.{section_name, or_empty_name}
 use Rattle.strip_names.specs.declared.known.KnownPlaces.{KnownPlaces}

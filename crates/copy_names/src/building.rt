@@ -3,7 +3,7 @@
 ghost use Rattle.std.specs.Prelude.{◌≡◌, ◌==◌, ◌+◌, ◌-◌, ◌∷◌, ℕ, List as Seq, [], true, None, drop, length, map, IsTrue, IfOk, IfErr};
 ghost use Rattle.std.specs.List.{list_all};
 ghost use Rattle.elf_types.specs.declared.errors.ElfError.TheVariants.{Memory};
-ghost use Rattle.tool_text.specs.Reading.{is_section_name};
+ghost use Rattle.copy_changes.specs.Names.{is_section_name};
 ghost use Rattle.copy_changes.specs.command_objects.Copied.{changes_names};
 ghost use Rattle.copy_edits.specs.strip_removed.Calls.{ReadsNames};
 ghost use Rattle.strip_names.specs.Known.{known_at};

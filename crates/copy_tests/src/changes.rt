@@ -83,7 +83,7 @@ pub fn bytes_and_flags(
 }
 
 /// Puts a change of each kind.
-#[tactic(auto, unfolding(tool_text::specs::Reading::is_section_name))]
+#[tactic(auto, unfolding(copy_changes::specs::Names::is_section_name))]
 fn put_each_kind(changes: &mut Changes, alloc: Global) -> Result<(), ElfError>
     requires update { changes.old.update ≡ [] }
     requires rename { changes.old.rename ≡ [] }

@@ -7,7 +7,7 @@ use Rattle.elf_outside.specs.declared.file_sets.Files.{Ghosts as FilesGhosts}
 use Rattle.command_objects.specs.Copied.{Changes}
 use Rattle.strip_tool.specs.command_outcomes.Files.{bytes_of_each, object_named}
 use Rattle.strip_tool.specs.command_outcomes.Copy.{changes_with, copy_done, copy_outcome}
-use Rattle.tool_text.specs.declared.commands.CopyChanges.{CopyChanges}
+use Rattle.copy_changes.specs.declared.options.CopyChanges.{CopyChanges}
 use Rattle.tool_output.specs.declared.stops.Stop.{Stop}
 use Rattle.tool_output.specs.declared.outputs.Outputs.{Outputs}
 use Rattle.tool_output.specs.Names.{file_name}

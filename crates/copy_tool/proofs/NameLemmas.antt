@@ -3,11 +3,11 @@ use Rattle.std.proofs.Common.{◌≡◌, ◌+◌, ◌<◌, ◌++◌, ◌∷◌, 
 use Rattle.std.specs.List.{list_all}
 use Rattle.std.proofs.lemmas.List.{map-append, map_more}
 use Rattle.std.proofs.lemmas.List.Folds.{list_all-map}
-use Rattle.tool_text.specs.declared.commands.CopyChanges.{CopyChanges}
-use Rattle.tool_text.specs.declared.commands.NamedFile.{NamedFile}
-use Rattle.tool_text.specs.declared.commands.Renaming.{Renaming}
-use Rattle.tool_text.specs.Reading.{is_section_name}
-use Rattle.tool_text.specs.Forms.{HasNames}
+use Rattle.copy_changes.specs.declared.options.CopyChanges.{CopyChanges}
+use Rattle.copy_changes.specs.declared.options.NamedFile.{NamedFile}
+use Rattle.copy_changes.specs.declared.options.Renaming.{Renaming}
+use Rattle.copy_changes.specs.Names.{is_section_name}
+use Rattle.copy_changes.specs.Names.{HasNames}
 use Rattle.tool_output.specs.declared.stops.Stop.{Stop}
 use Rattle.tool_output.specs.declared.stops.Stop.TheVariants.{Memory}
 use Rattle.strip_tool.specs.command_outcomes.Copy.{changes_with}

@@ -2,7 +2,7 @@
 use Rattle.std.specs.Prelude.{ℕ, ◌+◌, List, Result, Ok}
 use Rattle.elf_types.specs.Answers.{◌>>=◌}
 use Rattle.elf_outside.specs.Names.{Map}
-use Rattle.tool_text.specs.declared.commands.CopyChanges.{CopyChanges}
+use Rattle.copy_changes.specs.declared.options.CopyChanges.{CopyChanges}
 use Rattle.tool_output.specs.Made.{Complaint}
 use Rattle.copy_changes.specs.declared.changes.NameBits.{NameBits}
 use Rattle.command_objects.specs.Copied.{Changes}

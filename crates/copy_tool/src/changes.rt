@@ -2,16 +2,16 @@
 
 ghost use Rattle.std.specs.Prelude.{◌≡◌, map, IfOk, IfErr};
 ghost use Rattle.elf_types.specs.declared.errors.ElfError.TheVariants.{Memory};
-ghost use Rattle.tool_text.specs.Forms.{HasNames};
+ghost use Rattle.copy_changes.specs.Names.{HasNames};
 ghost use Rattle.strip_tool.specs.command_outcomes.Copy.{changes_with};
 ghost use Rattle.copy_changes.specs.Stated.{bits_pair, stated_changes, HasPlainNames};
 ghost use Rattle.copy_tool.specs.Files.{named_bytes, pairs, byte_names, file_names};
 ghost use Rattle.copy_tool.specs.Words.{named_flags};
 
-use copy_changes::{Changes, NameBits, NameBytes};
+use copy_changes::{Changes, CopyChanges, NameBits, NameBytes, NamedBits, Renaming};
 use elf_types::{ElfError, List, Octets};
 use std::alloc::Global;
-use tool_text::{Args, CopyChanges, NamedBits, Renaming, Text};
+use tool_text::{Args, Text};
 
 /// A copy of names. It refuses `Memory` alone.
 fn copied_names(alloc: Global, names: &[Text]) -> Result<Args, ElfError>

@@ -2,7 +2,7 @@
 //! with the changes.
 
 ghost use Rattle.std.specs.Prelude.{◌≡◌, ◌≢◌, codes, IsTrue};
-ghost use Rattle.tool_text.specs.Forms.{HasNames};
+ghost use Rattle.copy_changes.specs.Names.{HasNames};
 ghost use Rattle.tool_output.specs.Files.{LeavesFiles};
 ghost use Rattle.tool_output.specs.Made.{written_outcome};
 ghost use Rattle.tool_output.specs.Outcomes.{Does};
@@ -15,13 +15,12 @@ ghost use Rattle.copy_tool.specs.Writes.{copying_of, copied_done};
 
 use crate::reading::read_changes;
 use crate::writing::write_copied;
-use copy_changes::Changes;
+use copy_changes::{Changes, CopyChanges};
 use elf_outside::{Files, Sink, Source};
 use std::alloc::Global;
 use std::marker::Model;
 use strip_tool::prelude::{FileEdit, begin_image, edit_file, refuse_for};
 use tool_output::{Outputs, Stop};
-use tool_text::CopyChanges;
 
 /// The changes that are made, and the name of the file that is made. No name in them that a section
 /// gets holds a NUL byte.

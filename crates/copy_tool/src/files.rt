@@ -7,13 +7,13 @@ ghost use Rattle.tool_output.specs.Reports.{refusal_report};
 ghost use Rattle.tool_output.specs.Steps.{Performs, LeavesOutputs};
 ghost use Rattle.copy_tool.specs.Files.{ReadsWhole, ReadsFiles, length_held, lengths_named, named_bytes, pairs, byte_names, file_names, with_file, onto, filled, seen_in};
 
-use copy_changes::NameBytes;
+use copy_changes::{NameBytes, NamedFile};
 use elf_outside::reads::read_range;
 use elf_outside::{Files, OpenFault, Sink, Source};
 use elf_types::{ElfError, List, Octets};
 use std::alloc::Global;
 use tool_output::{FileName, Message, Outputs, Stop};
-use tool_text::{NamedFile, Text};
+use tool_text::Text;
 
 /// All bytes of a source. It refuses `Memory`, and `Read` where a read failed.
 fn read_whole<S: Source>(alloc: Global, src: &mut S) -> Result<Octets, ElfError>

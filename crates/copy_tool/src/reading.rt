@@ -1,7 +1,7 @@
 //! What is read before the file itself is opened: the files of `-u`, and then those of `-a`.
 
 ghost use Rattle.std.specs.Prelude.{◌≡◌, Some, Ok, IfOk, IfErr, IfSome, OnOk};
-ghost use Rattle.tool_text.specs.Forms.{HasNames};
+ghost use Rattle.copy_changes.specs.Names.{HasNames};
 ghost use Rattle.strip_tool.specs.command_outcomes.Copy.{changes_with};
 ghost use Rattle.copy_changes.specs.Stated.{stated_changes, HasPlainNames};
 ghost use Rattle.copy_tool.specs.Files.{ReadsFiles, lengths_named, pairs, byte_names, file_names, seen_in};
@@ -9,12 +9,11 @@ ghost use Rattle.copy_tool.specs.Words.{added_changes, word_changes, words_due};
 
 use crate::changes::changes_of;
 use crate::files::read_files;
-use copy_changes::{Changes, NameBytes};
+use copy_changes::{Changes, CopyChanges, NameBytes};
 use elf_outside::{Files, Sink};
 use elf_types::List;
 use std::alloc::Global;
 use tool_output::{Outputs, Stop};
-use tool_text::CopyChanges;
 
 /// The changes of words, where all their files are there. It stops by `Memory` alone.
 fn all_changes(

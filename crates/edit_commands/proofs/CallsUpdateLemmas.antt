@@ -11,8 +11,8 @@ use Rattle.elf_object.specs.Object.{Object}
 use Rattle.elf_object.specs.Calls as calls
 use Rattle.elf_object.specs.Runs.{left_by}
 use Rattle.elf_object.specs.Image.{image}
-use Rattle.tool_text.specs.declared.commands.CallsOutput.{CallsOutput}
-use Rattle.tool_text.specs.declared.commands.CallsOutput.TheVariants.{To, InPlace}
+use Rattle.calls_update.specs.declared.outputs.CallsOutput.{CallsOutput}
+use Rattle.calls_update.specs.declared.outputs.CallsOutput.TheVariants.{To, InPlace}
 use Rattle.tool_output.specs.declared.stops.Stop.{Stop}
 use Rattle.tool_output.specs.declared.outputs.Outputs.{Outputs}
 use Rattle.tool_output.specs.Names.{file_name}

@@ -3,7 +3,7 @@ use Rattle.std.specs.Prelude.{ℕ, List, length, IsTrue, codes, Option, Some, No
 use Rattle.elf_outside.specs.Names.{Map}
 use Rattle.elf_outside.specs.declared.sinks.Sink.{Ghosts as SinkGhosts}
 use Rattle.elf_outside.specs.declared.file_sets.Files.{Ghosts as FilesGhosts}
-use Rattle.tool_text.specs.declared.commands.CallsOutput.{CallsOutput}
+use Rattle.calls_update.specs.declared.outputs.CallsOutput.{CallsOutput}
 use Rattle.tool_output.specs.declared.stops.Stop.{Stop}
 use Rattle.tool_output.specs.declared.outputs.Outputs.{Outputs}
 use Rattle.tool_output.specs.Names.{file_name}

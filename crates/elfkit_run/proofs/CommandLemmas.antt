@@ -14,13 +14,13 @@ use Rattle.tool_output.specs.Outcomes.{Does}
 use Rattle.tool_output.specs.declared.statuses.Status.TheVariants.{Done, BadWords}
 use Rattle.tool_output.proofs.StepLemmas.{stops_as, writes_went}
 use Rattle.tool_output.proofs.OutcomeLemmas.{says_done}
-use Rattle.usage_text.specs.Usages.{usage_line}
-use Rattle.usage_text.specs.Notices.{notice_text}
-use Rattle.usage_text.specs.declared.usages.Usage.{Usage}
-use Rattle.usage_text.specs.declared.notices.Notice.{Notice}
-use Rattle.tool_text.specs.declared.commands.Request.{Request}
-use Rattle.tool_text.specs.declared.commands.Request.TheVariants.{Run, Tell}
-use Rattle.tool_text.specs.Reading.{reading}
+use Rattle.elfkit_words.specs.Usages.{usage_line}
+use Rattle.elfkit_words.specs.Notices.{notice_text}
+use Rattle.elfkit_words.specs.declared.usages.Usage.{Usage}
+use Rattle.elfkit_words.specs.declared.notices.Notice.{Notice}
+use Rattle.elfkit_words.specs.declared.commands.Request.{Request}
+use Rattle.elfkit_words.specs.declared.commands.Request.TheVariants.{Run, Tell}
+use Rattle.elfkit_words.specs.Reading.{reading}
 use Rattle.elfkit_run.specs.Sentences.{line_of, says}
 use Rattle.elfkit_run.specs.Program.{usage_outcome, notice_outcome, request_outcome, outcome_by, program, IsStatusOf}
 

@@ -10,7 +10,7 @@ use Rattle.command_objects.specs.Removed.{removed_sections}
 use Rattle.command_objects.specs.Rebuilt.{rebuilt}
 use Rattle.command_objects.specs.Split.{debug_of}
 use Rattle.command_objects.specs.Files.{file_of}
-use Rattle.tool_text.specs.declared.commands.StripOptions.{StripOptions}
+use Rattle.selftest_tool.specs.command_outcomes.declared.options.StripOptions.{StripOptions}
 use Rattle.tool_output.specs.Outcomes.{write_of}
 use Rattle.tool_output.specs.Made.{Done, Complaint, made_file, of_file, written_outcome}
 use Rattle.selftest_tool.specs.command_outcomes.Files.{object_named}

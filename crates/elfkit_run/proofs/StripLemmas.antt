@@ -7,7 +7,7 @@ use Rattle.elf_object.specs.Object.{Object}
 use Rattle.command_objects.specs.Removed.{removed_sections}
 use Rattle.command_objects.specs.Rebuilt.{rebuilt}
 use Rattle.command_objects.specs.Files.{file_of}
-use Rattle.tool_text.specs.declared.commands.StripOptions.{StripOptions}
+use Rattle.selftest_tool.specs.command_outcomes.declared.options.StripOptions.{StripOptions}
 use Rattle.tool_output.specs.Outcomes.{write_of}
 use Rattle.tool_output.specs.Made.{of_file, written_outcome}
 use Rattle.selftest_tool.specs.command_outcomes.Files.{object_named}

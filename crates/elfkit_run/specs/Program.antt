@@ -7,15 +7,15 @@ use Rattle.tool_output.specs.Statuses.{status_code}
 use Rattle.tool_output.specs.declared.outputs.Side.TheVariants.{Out}
 use Rattle.tool_output.specs.Marks.{said}
 use Rattle.tool_output.specs.Outcomes.{Outcome, only_says}
-use Rattle.usage_text.specs.declared.usages.Usage.{Usage}
-use Rattle.usage_text.specs.declared.notices.Notice.{Notice}
-use Rattle.tool_text.specs.declared.commands.Request.{Request}
-use Rattle.tool_text.specs.declared.commands.Request.TheVariants.{Run, Tell}
-use Rattle.tool_text.specs.declared.commands.Command.{Command}
-use Rattle.tool_text.specs.declared.commands.Command.TheVariants.{Readelf, Nm, Size, Strings, Strip, Elflint, Calls, Selftest, Rehash, Copy, Unstrip, Lines}
-use Rattle.usage_text.specs.Usages.{usage_line}
-use Rattle.usage_text.specs.Notices.{notice_text}
-use Rattle.tool_text.specs.Reading.{reading}
+use Rattle.elfkit_words.specs.declared.usages.Usage.{Usage}
+use Rattle.elfkit_words.specs.declared.notices.Notice.{Notice}
+use Rattle.elfkit_words.specs.declared.commands.Request.{Request}
+use Rattle.elfkit_words.specs.declared.commands.Request.TheVariants.{Run, Tell}
+use Rattle.elfkit_words.specs.declared.commands.Command.{Command}
+use Rattle.elfkit_words.specs.declared.commands.Command.TheVariants.{Readelf, Nm, Size, Strings, Strip, Elflint, Calls, Selftest, Rehash, Copy, Unstrip, Lines}
+use Rattle.elfkit_words.specs.Usages.{usage_line}
+use Rattle.elfkit_words.specs.Notices.{notice_text}
+use Rattle.elfkit_words.specs.Reading.{reading}
 use Rattle.selftest_tool.specs.command_outcomes.Selftest.{selftest_outcome}
 use Rattle.selftest_tool.specs.command_outcomes.Strip.{strip_outcome, unstrip_outcome}
 use Rattle.selftest_tool.specs.command_outcomes.Copy.{copy_outcome, rehash_outcome}

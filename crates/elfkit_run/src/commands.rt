@@ -4,7 +4,8 @@ ghost use Rattle.std.specs.Prelude.{◌≡◌, false, IsTrue};
 ghost use Rattle.tool_output.specs.Files.{LeavesFiles};
 ghost use Rattle.tool_output.specs.Statuses.{refused_status};
 ghost use Rattle.tool_output.specs.Outcomes.{Does};
-ghost use Rattle.tool_text.specs.Forms.{IsOutputApart, IsWellFormed};
+ghost use Rattle.edit_commands.specs.calls_update.Outputs.{IsOutputApart};
+ghost use Rattle.elfkit_words.specs.Forms.{IsWellFormed};
 ghost use Rattle.elfkit_run.specs.Program.{command_outcome, writes_files};
 
 pub mod copy;
@@ -20,11 +21,13 @@ use edit_commands::prelude::{
 };
 use edit_commands::{calls, calls_into, rehash};
 use elf_outside::{Files, Sink};
+use elfkit_words::Command;
+use elfkit_words::prelude::CallsOutput;
 use selftest::selftest;
 use split::strip_by_debug;
 use std::alloc::Global;
 use tool_output::{Outputs, Stop};
-use tool_text::{CallsOutput, Command, Text};
+use tool_text::Text;
 use unstrip::unstrip;
 
 /// Runs calls, and writes the image that they leave where it is to go.

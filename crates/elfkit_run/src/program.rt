@@ -1,8 +1,8 @@
 //! The program, from its words to its status.
 
 ghost use Rattle.std.specs.Prelude.{false, ◌≡◌, IfOk, IsErr, IsTrue};
-ghost use Rattle.tool_text.specs.Forms.{IsGoodRequest};
-ghost use Rattle.tool_text.specs.Reading.{reading};
+ghost use Rattle.elfkit_words.specs.Forms.{IsGoodRequest};
+ghost use Rattle.elfkit_words.specs.Reading.{reading};
 ghost use Rattle.tool_output.specs.Outcomes.{Does, Delivers, Costs, RunLeaves};
 ghost use Rattle.tool_output.specs.Statuses.{status_code};
 ghost use Rattle.tool_output.specs.Steps.{OnRead};
@@ -13,9 +13,10 @@ use crate::commands::run_command;
 use crate::sentences::{say, tell};
 use elf_outside::{Files, Sink};
 use elf_types::Octets;
+use elfkit_words::{Request, WordsFault, read_words};
 use std::alloc::Global;
 use tool_output::{Outputs, Status, Stop};
-use tool_text::{Args, Request, WordsFault, read_words};
+use tool_text::Args;
 
 /// Runs the command that the words ask for, or tells what they ask for.
 #[tactic(auto, unfolding(crate::specs::Program::needs_files, crate::specs::Program::needs_writes))]

@@ -3,8 +3,9 @@ use Rattle.std.proofs.Common.{◌-◌, slice_get, ◌≡◌, ◌++◌, ◌+◌, 
 use Rattle.std.specs.List.{last_or, filter_map, cons_option}
 use Rattle.std.proofs.lemmas.List.{nil_from_length, take_more}
 use Rattle.std.proofs.lemmas.List.Elements.{filter_map-append}
-use Rattle.tool_text.specs.declared.splitting.CommandOption.{CommandOption}
-use Rattle.tool_text.specs.Reading.{last, only_one, option_arguments, option_argument_of}
+use Rattle.elfkit_words.specs.declared.splitting.CommandOption.{CommandOption}
+use Rattle.tool_text.specs.Arguments.{last, only_one}
+use Rattle.elfkit_words.specs.Reading.{option_arguments, option_argument_of}
 
 one_option_argument : (a : Option (List ℕ)) → cons_option a [] ≡ option_to_list a
 one_option_argument None = refl

@@ -5,18 +5,22 @@ use Rattle.std.specs.List.{list_all, last_or}
 use Rattle.std.proofs.lemmas.Bool.{and_parts, and_from, or_parts, leb-true, not-true}
 use Rattle.std.proofs.lemmas.Bool.Decides.{not_from_Decides}
 use Rattle.std.proofs.lemmas.Slice.Eq.{bytes_eq-Decides}
-use Rattle.usage_text.specs.declared.usages.Usage.{Usage}
-use Rattle.usage_text.specs.declared.usages.Usage.TheVariants as usage
-use Rattle.tool_text.specs.declared.splitting.CommandOption.{CommandOption}
-use Rattle.tool_text.specs.declared.splitting.Split.{Split}
-use Rattle.tool_text.specs.declared.commands.Command.{Command}
-use Rattle.tool_text.specs.declared.commands.Request.{Request}
-use Rattle.tool_text.specs.declared.commands.Request.TheVariants.{Run, Tell}
-use Rattle.usage_text.specs.declared.notices.Notice.TheVariants.{Help}
-use Rattle.tool_text.specs.Splitting.{split_of}
-use Rattle.tool_text.specs.Numbers.{word_number_of, script_number_of}
-use Rattle.tool_text.specs.Reading.{one_or_more, only_one, only_two, option_arguments, has_option, radix_of, split_at_equals, readelf_command, nm_command, size_command, strings_command, strip_command, elflint_command, calls_command, output_of, selftest_command, rehash_command, copy_command, changes_of, unstrip_command, lines_command, of_split, request_of, all_values, all_differ, last, least_of, number_within, name_of, named_file_of, renaming_of, named_bits_of, is_section_name, is_file_of}
-use Rattle.tool_text.specs.Forms.{IsGoodRequest, IsWellFormed, ThreeDiffer, HasNames, IsOutputApart}
+use Rattle.elfkit_words.specs.declared.usages.Usage.{Usage}
+use Rattle.elfkit_words.specs.declared.usages.Usage.TheVariants as usage
+use Rattle.elfkit_words.specs.declared.splitting.CommandOption.{CommandOption}
+use Rattle.elfkit_words.specs.declared.splitting.Split.{Split}
+use Rattle.elfkit_words.specs.declared.commands.Command.{Command}
+use Rattle.elfkit_words.specs.declared.commands.Request.{Request}
+use Rattle.elfkit_words.specs.declared.commands.Request.TheVariants.{Run, Tell}
+use Rattle.elfkit_words.specs.declared.notices.Notice.TheVariants.{Help}
+use Rattle.elfkit_words.specs.Splitting.{split_of}
+use Rattle.elfkit_words.specs.Numbers.{word_number_of, script_number_of}
+use Rattle.elfkit_words.specs.Reading.{one_or_more, option_arguments, has_option, radix_of, split_at_equals, readelf_command, nm_command, size_command, strings_command, strip_command, elflint_command, calls_command, output_of, selftest_command, rehash_command, copy_command, changes_of, unstrip_command, lines_command, of_split, request_of, all_values, all_differ, least_of, number_within, name_of, named_file_of, renaming_of, named_bits_of, is_file_of}
+use Rattle.tool_text.specs.Arguments.{only_one, only_two, last}
+use Rattle.copy_changes.specs.Names.{is_section_name}
+use Rattle.elfkit_words.specs.Forms.{IsGoodRequest, IsWellFormed, ThreeDiffer}
+use Rattle.copy_changes.specs.Names.{HasNames}
+use Rattle.calls_update.specs.Outputs.{IsOutputApart}
 
 -- Q holds of the value, if there is one
 record Yields {A : Type 0} (Q : A → Type 0) (o : Option A) : Type 0 where

@@ -2,10 +2,10 @@
 use Rattle.std.proofs.Common.{◌≡◌, ◌++◌, ◌+◌, ◌<◌, ◌≤◌, List, [], ◌∷◌, ℕ, true, false, length, drop, get_or, Option, Some, None, option_map, refl, sym, ap, ◌∙◌, append_assoc, arith}
 use Rattle.std.proofs.lemmas.Bool.{cond-true, cond-false}
 use Rattle.std.proofs.lemmas.List.{append-nil, drop_more, drop_all, length-drop}
-use Rattle.usage_text.specs.declared.usages.Usage.{Usage}
-use Rattle.tool_text.specs.declared.splitting.CommandOption.{CommandOption}
-use Rattle.usage_text.specs.Usages.{stands_alone, takes_option_argument}
-use Rattle.tool_text.specs.Splitting.{Group, group_of, group_after, last_of_group, lone_option, option_with}
+use Rattle.elfkit_words.specs.declared.usages.Usage.{Usage}
+use Rattle.elfkit_words.specs.declared.splitting.CommandOption.{CommandOption}
+use Rattle.elfkit_words.specs.Usages.{stands_alone, takes_option_argument}
+use Rattle.elfkit_words.specs.Splitting.{Group, group_of, group_after, last_of_group, lone_option, option_with}
 
 -- what comes after nothing, and after two lists of options
 pub group_after-nil : (o : Option Group) → group_after [] o ≡ o

@@ -4,10 +4,10 @@ use Rattle.std.specs.Bool.{OnTrue}
 use Rattle.std.specs.List.{list_any, list_all}
 use Rattle.std.specs.Str.{byte}
 use Rattle.std.proofs.lemmas.Bool.{and_parts, or_cases, ltb-true, eqb-true, false≢true, not-true, OnTrue_from}
-use Rattle.usage_text.specs.declared.usages.Usage.{Usage}
-use Rattle.usage_text.specs.declared.usages.Usage.TheVariants.{Readelf, Nm, Size, Strings, Strip, Elflint, Calls, Selftest, Rehash, Copy, Unstrip, Lines, General}
-use Rattle.usage_text.specs.Usages.{letters_alone, letters_with_option_argument}
-use Rattle.usage_text.specs.Usages.{stands_alone, takes_option_argument}
+use Rattle.elfkit_words.specs.declared.usages.Usage.{Usage}
+use Rattle.elfkit_words.specs.declared.usages.Usage.TheVariants.{Readelf, Nm, Size, Strings, Strip, Elflint, Calls, Selftest, Rehash, Copy, Unstrip, Lines, General}
+use Rattle.elfkit_words.specs.Usages.{letters_alone, letters_with_option_argument}
+use Rattle.elfkit_words.specs.Usages.{stands_alone, takes_option_argument}
 
 -- what holds of all letters holds of one of them
 member_passes : (test : ℕ → Bool) (letters : List ℕ) (letter : ℕ) → list_all test letters ≡ true → list_any (λ c. c == letter) letters ≡ true → test letter ≡ true

@@ -6,7 +6,7 @@ use Rattle.std.specs.Char.{digit_value}
 use Rattle.std.proofs.lemmas.Bool.{and_parts, ltb-true, false_from_ne_true, cond-true, cond-false, le-leb, leb-true, lt-ltb, and_from}
 use Rattle.std.proofs.lemmas.Str.Parse.{without_leading_plus_none}
 use Rattle.elf_types.specs.Digits.{are_digits}
-use Rattle.tool_text.specs.Numbers.{numeral}
+use Rattle.elfkit_words.specs.Numbers.{numeral}
 
 all_digits : (radix : ℕ) (word : List ℕ) → are_digits radix word ≡ true → AllDigits radix word
 all_digits radix [] d = tt

@@ -4,11 +4,11 @@ use Rattle.std.specs.Str.{byte}
 use Rattle.std.proofs.lemmas.Bool.{and_right, ne_eqb, cases_eq, cases_Bool}
 use Rattle.std.proofs.lemmas.Bool.Decides.{not_from_Decides}
 use Rattle.std.proofs.lemmas.Slice.Eq.{bytes_eq-Decides}
-use Rattle.usage_text.specs.declared.usages.Usage.{Usage}
-use Rattle.tool_text.specs.declared.splitting.Split.{Split}
-use Rattle.usage_text.specs.Usages.{stands_alone, takes_option_argument}
-use Rattle.tool_text.specs.Splitting.{is_option_word, lone_option, option_with, split_after}
-use Rattle.tool_text.specs.Rules.{FollowsRules, dash}
+use Rattle.elfkit_words.specs.declared.usages.Usage.{Usage}
+use Rattle.elfkit_words.specs.declared.splitting.Split.{Split}
+use Rattle.elfkit_words.specs.Usages.{stands_alone, takes_option_argument}
+use Rattle.elfkit_words.specs.Splitting.{is_option_word, lone_option, option_with, split_after}
+use Rattle.elfkit_words.specs.Rules.{FollowsRules, dash}
 
 -- how much there is to read
 size : List (List ℕ) → ℕ

@@ -3,15 +3,15 @@ use Rattle.std.proofs.Common.{◌≡◌, ◌≢◌, List, [], ◌∷◌, ℕ, Bo
 use Rattle.std.specs.Str.{byte}
 use Rattle.std.proofs.lemmas.Slice.Eq.{bytes_eq-Decides}
 use Rattle.std.proofs.lemmas.Bool.{true≢false, cases_Bool, le-leb, ne_eqb, and_from, and_left, cond-true, cond-false}
-use Rattle.usage_text.specs.declared.usages.Usage.{Usage}
-use Rattle.tool_text.specs.declared.splitting.CommandOption.{CommandOption}
-use Rattle.tool_text.specs.declared.splitting.Split.{Split}
-use Rattle.usage_text.specs.Usages.{stands_alone, takes_option_argument}
-use Rattle.tool_text.specs.Splitting.{Group, is_option_word, lone_option, option_with, group_of, group_after, last_of_group, split_of, split_after, operands_alone, help_alone}
-use Rattle.tool_text.specs.Rules.{FollowsRules, dash}
-use Rattle.usage_text.proofs.Letters.{lone_letter, dash_takes_no_option_argument, dash_stands_not_alone}
-use Rattle.tool_text.proofs.Groups.{group_of-option_argument, group_of-alone, group_of-other, group_of-nil}
-use Rattle.tool_text.proofs.Splits.{split_after-nil, split_after-append}
+use Rattle.elfkit_words.specs.declared.usages.Usage.{Usage}
+use Rattle.elfkit_words.specs.declared.splitting.CommandOption.{CommandOption}
+use Rattle.elfkit_words.specs.declared.splitting.Split.{Split}
+use Rattle.elfkit_words.specs.Usages.{stands_alone, takes_option_argument}
+use Rattle.elfkit_words.specs.Splitting.{Group, is_option_word, lone_option, option_with, group_of, group_after, last_of_group, split_of, split_after, operands_alone, help_alone}
+use Rattle.elfkit_words.specs.Rules.{FollowsRules, dash}
+use Rattle.elfkit_words.proofs.Letters.{lone_letter, dash_takes_no_option_argument, dash_stands_not_alone}
+use Rattle.elfkit_words.proofs.Groups.{group_of-option_argument, group_of-alone, group_of-other, group_of-nil}
+use Rattle.elfkit_words.proofs.Splits.{split_after-nil, split_after-append}
 
 is_no_dash : (test : ℕ → Bool) (letter : ℕ) → test (byte "-") ≡ false → test letter ≡ true → letter ≢ byte "-"
 is_no_dash test letter none here e = true≢false (sym here ∙ ap test e ∙ none)

@@ -2,12 +2,12 @@
 use Rattle.std.proofs.Common.{◌≡◌, ◌++◌, List, [], ◌∷◌, ℕ, true, false, drop, bytes_eq, codes, Option, Some, None, Err, option_and_then, refl, sym, ap, ◌∙◌, append_assoc}
 use Rattle.std.proofs.lemmas.Bool.{cond-true, cond-false}
 use Rattle.std.proofs.lemmas.List.{append-nil}
-use Rattle.usage_text.specs.declared.usages.Usage.{Usage}
-use Rattle.tool_text.specs.declared.splitting.CommandOption.{CommandOption}
-use Rattle.tool_text.specs.declared.splitting.Split.{Split}
-use Rattle.tool_text.specs.Splitting.{Group, option_with, group_of, group_after, split_of, split_after, is_option_word, AddsGroup, Reads}
-use Rattle.tool_text.specs.declared.faults.Fault.{Fault}
-use Rattle.tool_text.specs.declared.faults.Fault.TheVariants.{Memory, Words}
+use Rattle.elfkit_words.specs.declared.usages.Usage.{Usage}
+use Rattle.elfkit_words.specs.declared.splitting.CommandOption.{CommandOption}
+use Rattle.elfkit_words.specs.declared.splitting.Split.{Split}
+use Rattle.elfkit_words.specs.Splitting.{Group, option_with, group_of, group_after, split_of, split_after, is_option_word, AddsGroup, Reads}
+use Rattle.elfkit_words.specs.declared.faults.Fault.{Fault}
+use Rattle.elfkit_words.specs.declared.faults.Fault.TheVariants.{Memory, Words}
 
 pub split_after-nil : (o : Option Split) → split_after [] o ≡ o
 split_after-nil None = refl

@@ -1,35 +1,19 @@
 -- What holds of every request that is read.
-use Rattle.std.specs.Prelude.{◌≡◌, ◌≢◌, ◌≤◌, List, ℕ, true, false, Option, Some, None, IfSome}
-use Rattle.std.specs.List.{list_all}
-use Rattle.tool_text.specs.declared.commands.Command.{Command}
-use Rattle.tool_text.specs.declared.commands.Command.TheVariants.{Readelf, Nm, Size, Strings, Strip, Elflint, Calls, Selftest, Rehash, Copy, Unstrip, Lines}
-use Rattle.tool_text.specs.declared.commands.CallsOutput.{CallsOutput}
-use Rattle.tool_text.specs.declared.commands.CallsOutput.TheVariants.{To, InPlace}
-use Rattle.tool_text.specs.declared.commands.CopyChanges.{CopyChanges}
-use Rattle.tool_text.specs.declared.commands.Request.{Request}
-use Rattle.tool_text.specs.declared.commands.Request.TheVariants.{Run, Tell}
-use Rattle.tool_text.specs.Reading.{is_section_name, is_file_of}
+use Rattle.std.specs.Prelude.{◌≡◌, ◌≢◌, ◌≤◌, List, ℕ, false, IfSome}
+use Rattle.elfkit_words.specs.declared.commands.Command.{Command}
+use Rattle.elfkit_words.specs.declared.commands.Command.TheVariants.{Readelf, Nm, Size, Strings, Strip, Elflint, Calls, Selftest, Rehash, Copy, Unstrip, Lines}
+use Rattle.calls_update.specs.Outputs.{IsOutputApart}
+use Rattle.copy_changes.specs.declared.options.CopyChanges.{CopyChanges}
+use Rattle.copy_changes.specs.Names.{HasNames}
+use Rattle.elfkit_words.specs.declared.commands.Request.{Request}
+use Rattle.elfkit_words.specs.declared.commands.Request.TheVariants.{Run, Tell}
+use Rattle.elfkit_words.specs.Reading.{is_file_of}
 
 -- no two of three words are the same
 pub record ThreeDiffer (first second third : List ℕ) : Type 0 where
   pub second_differs : first ≢ second
   pub third_differs : first ≢ third
   pub last_two_differ : second ≢ third
-
--- the output of calls is neither its file nor its script
-abbrev pub IsOutputApart : Option CallsOutput → List ℕ → List ℕ → Type 0
-IsOutputApart (Some (To out)) file script = (out ≢ file) × (out ≢ script)
-IsOutputApart (Some InPlace) file script = Unit {0}
-IsOutputApart None file script = Unit {0}
-
--- no name of a section holds a NUL byte
-pub record HasNames (changes : CopyChanges) : Type 0 where
-  pub remove : list_all is_section_name changes.remove ≡ true
-  pub update : list_all (λ n. is_section_name n.name) changes.update ≡ true
-  pub rename_old : list_all (λ n. is_section_name n.old) changes.rename ≡ true
-  pub rename_new : list_all (λ n. is_section_name n.new) changes.rename ≡ true
-  pub flags : list_all (λ n. is_section_name n.name) changes.flags ≡ true
-  pub add : list_all (λ n. is_section_name n.name) changes.add ≡ true
 
 -- the output of copy is neither its file nor a file of its changes
 pub record IsCopyApart (changes : CopyChanges) (out file : List ℕ) : Type 0 where

@@ -4,11 +4,11 @@ use Rattle.std.specs.Prelude.{◌++◌, ◌-◌, List, [], ◌∷◌, ℕ, Optio
 use Rattle.std.specs.List.{flat_map}
 use Rattle.std.specs.Str.{byte}
 use Rattle.elf_types.specs.Tables.{value_in}
-use Rattle.usage_text.specs.declared.usages.Usage.{Usage}
-use Rattle.usage_text.specs.declared.usages.Usage.TheVariants.{Readelf, Nm, Size, Strings, Strip, Elflint, Calls, Selftest, Rehash, Copy, Unstrip, Lines, General}
-use Rattle.usage_text.specs.declared.notices.Notice.{Notice}
-use Rattle.usage_text.specs.declared.notices.Notice.TheVariants.{Help, Version}
-use Rattle.usage_text.specs.Usages.{usage_line}
+use Rattle.elfkit_words.specs.declared.usages.Usage.{Usage}
+use Rattle.elfkit_words.specs.declared.usages.Usage.TheVariants.{Readelf, Nm, Size, Strings, Strip, Elflint, Calls, Selftest, Rehash, Copy, Unstrip, Lines, General}
+use Rattle.elfkit_words.specs.declared.notices.Notice.{Notice}
+use Rattle.elfkit_words.specs.declared.notices.Notice.TheVariants.{Help, Version}
+use Rattle.elfkit_words.specs.Usages.{usage_line}
 
 -- the first words that ask for a notice
 unfoldable pub notices : List (List ℕ × Notice)

@@ -1,34 +1,36 @@
 -- The reading of the words: the command with its options and operands, or what elfkit is to tell of
 -- itself, or the usage line that is due.
 use Rattle.std.specs.Prelude.{◌&&◌, ◌||◌, ◌==◌, List, [], ◌∷◌, ℕ, Bool, true, false, not, length, nat_le, nat_lt, bytes_eq, Option, Some, None, option_map, option_and_then, option_to_list, unwrap_or, ok_or, Result, Ok, Err, codes, if◌then◌else◌}
-use Rattle.std.specs.List.{list_any, filter_map, last_or, position_or_len, before_first, after_first}
+use Rattle.std.specs.List.{list_any, filter_map, position_or_len, before_first, after_first}
 use Rattle.std.specs.Str.{byte}
-use Rattle.usage_text.specs.declared.usages.Usage.{Usage}
-use Rattle.usage_text.specs.declared.usages.Usage.TheVariants as usage
-use Rattle.tool_text.specs.declared.splitting.CommandOption.{CommandOption}
-use Rattle.tool_text.specs.declared.splitting.Split.{Split}
-use Rattle.tool_text.specs.declared.options.Radix.{Radix}
-use Rattle.tool_text.specs.declared.options.Radix.TheVariants.{Decimal, Octal, Hex}
-use Rattle.tool_text.specs.declared.options.ReadelfParts.{ReadelfParts}
-use Rattle.tool_text.specs.declared.commands.Command.{Command}
-use Rattle.tool_text.specs.declared.commands.Command.TheVariants as command
-use Rattle.tool_text.specs.declared.commands.CallsOutput.{CallsOutput}
-use Rattle.tool_text.specs.declared.commands.CallsOutput.TheVariants.{To, InPlace}
-use Rattle.tool_text.specs.declared.commands.NamedFile.{NamedFile}
-use Rattle.tool_text.specs.declared.commands.Renaming.{Renaming}
-use Rattle.tool_text.specs.declared.commands.NamedBits.{NamedBits}
-use Rattle.tool_text.specs.declared.commands.CopyChanges.{CopyChanges}
-use Rattle.tool_text.specs.declared.commands.Request.{Request}
-use Rattle.tool_text.specs.declared.commands.Request.TheVariants.{Run, Tell}
-use Rattle.tool_text.specs.declared.commands.WordsFault.{WordsFault}
-use Rattle.tool_text.specs.declared.commands.WordsFault.TheVariants as fault
-use Rattle.tool_text.specs.Numbers.{word_number_of, script_number_of}
-use Rattle.usage_text.specs.declared.notices.Notice.{Notice}
-use Rattle.usage_text.specs.declared.notices.Notice.TheVariants as notice
+use Rattle.elfkit_words.specs.declared.usages.Usage.{Usage}
+use Rattle.elfkit_words.specs.declared.usages.Usage.TheVariants as usage
+use Rattle.elfkit_words.specs.declared.splitting.CommandOption.{CommandOption}
+use Rattle.elfkit_words.specs.declared.splitting.Split.{Split}
+use Rattle.tool_text.specs.declared.radixes.Radix.{Radix}
+use Rattle.tool_text.specs.declared.radixes.Radix.TheVariants.{Decimal, Octal, Hex}
+use Rattle.readelf_tool.specs.declared.options.ReadelfParts.{ReadelfParts}
+use Rattle.elfkit_words.specs.declared.commands.Command.{Command}
+use Rattle.elfkit_words.specs.declared.commands.Command.TheVariants as command
+use Rattle.calls_update.specs.declared.outputs.CallsOutput.{CallsOutput}
+use Rattle.calls_update.specs.declared.outputs.CallsOutput.TheVariants.{To, InPlace}
+use Rattle.copy_changes.specs.declared.options.NamedFile.{NamedFile}
+use Rattle.copy_changes.specs.declared.options.Renaming.{Renaming}
+use Rattle.copy_changes.specs.declared.options.NamedBits.{NamedBits}
+use Rattle.copy_changes.specs.declared.options.CopyChanges.{CopyChanges}
+use Rattle.elfkit_words.specs.declared.commands.Request.{Request}
+use Rattle.elfkit_words.specs.declared.commands.Request.TheVariants.{Run, Tell}
+use Rattle.elfkit_words.specs.declared.commands.WordsFault.{WordsFault}
+use Rattle.elfkit_words.specs.declared.commands.WordsFault.TheVariants as fault
+use Rattle.elfkit_words.specs.Numbers.{word_number_of, script_number_of}
+use Rattle.elfkit_words.specs.declared.notices.Notice.{Notice}
+use Rattle.elfkit_words.specs.declared.notices.Notice.TheVariants as notice
 use Rattle.elf_types.specs.Tables.{value_in}
-use Rattle.usage_text.specs.Usages.{command_named}
-use Rattle.usage_text.specs.Notices.{notice_named}
-use Rattle.tool_text.specs.Splitting.{split_of}
+use Rattle.elfkit_words.specs.Usages.{command_named}
+use Rattle.elfkit_words.specs.Notices.{notice_named}
+use Rattle.elfkit_words.specs.Splitting.{split_of}
+use Rattle.tool_text.specs.Arguments.{last, only_one, only_two}
+use Rattle.copy_changes.specs.Names.{is_section_name}
 
 infixl 10 ◌>>=◌
 abbrev pub ◌>>=◌ : {A B : Type 0} → Option A → (A → Option B) → Option B
@@ -186,10 +188,6 @@ split_at_equals word =
     && nat_lt (position_or_len is_equals word) (length word)
     then Some (before_first is_equals word, after_first is_equals word)
     else None
-
--- a name of a section holds no NUL byte
-unfoldable pub is_section_name : List ℕ → Bool
-is_section_name word = not (list_any (λ c. c == 0) word)
 
 -- NAME, NAME=FILE, OLD=NEW and NAME=BITS
 unfoldable pub name_of : List ℕ → Option (List ℕ)

@@ -2,10 +2,10 @@
 -- 12.2.
 use Rattle.std.specs.Prelude.{◌≡◌, ◌≢◌, List, [], ◌∷◌, ℕ, true, false, Option, Some, None, codes}
 use Rattle.std.specs.Str.{byte}
-use Rattle.usage_text.specs.declared.usages.Usage.{Usage}
-use Rattle.tool_text.specs.declared.splitting.Split.{Split}
-use Rattle.usage_text.specs.Usages.{stands_alone, takes_option_argument}
-use Rattle.tool_text.specs.Splitting.{is_option_word, lone_option, option_with, operands_alone, help_alone, split_after}
+use Rattle.elfkit_words.specs.declared.usages.Usage.{Usage}
+use Rattle.elfkit_words.specs.declared.splitting.Split.{Split}
+use Rattle.elfkit_words.specs.Usages.{stands_alone, takes_option_argument}
+use Rattle.elfkit_words.specs.Splitting.{is_option_word, lone_option, option_with, operands_alone, help_alone, split_after}
 
 -- the word of a dash and these letters
 abbrev pub dash : List ℕ → List ℕ

@@ -3,12 +3,12 @@
 -- long option is `--help` of the GNU Coding Standards (section 4.8).
 use Rattle.std.specs.Prelude.{◌≡◌, ◌++◌, ◌&&◌, ◌==◌, List, [], ◌∷◌, ℕ, Bool, true, false, length, drop, nat_le, slice_index, bytes_eq, Option, Some, None, option_map, option_and_then, Result, Ok, Err, codes, if◌then◌else◌}
 use Rattle.std.specs.Str.{byte}
-use Rattle.tool_text.specs.declared.faults.Fault.{Fault}
-use Rattle.tool_text.specs.declared.faults.Fault.TheVariants.{Memory, Words}
-use Rattle.usage_text.specs.declared.usages.Usage.{Usage}
-use Rattle.tool_text.specs.declared.splitting.CommandOption.{CommandOption}
-use Rattle.tool_text.specs.declared.splitting.Split.{Split}
-use Rattle.usage_text.specs.Usages.{stands_alone, takes_option_argument}
+use Rattle.elfkit_words.specs.declared.faults.Fault.{Fault}
+use Rattle.elfkit_words.specs.declared.faults.Fault.TheVariants.{Memory, Words}
+use Rattle.elfkit_words.specs.declared.usages.Usage.{Usage}
+use Rattle.elfkit_words.specs.declared.splitting.CommandOption.{CommandOption}
+use Rattle.elfkit_words.specs.declared.splitting.Split.{Split}
+use Rattle.elfkit_words.specs.Usages.{stands_alone, takes_option_argument}
 
 -- what a part of the code returned is what the words say, unless memory ran out
 abbrev pub Reads : {X : Type 0} → Result X Fault → Option X → Type 0

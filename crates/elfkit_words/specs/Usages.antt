@@ -2,8 +2,8 @@
 use Rattle.std.specs.Prelude.{◌++◌, ◌==◌, List, [], ◌∷◌, ℕ, Bool, Option, codes}
 use Rattle.std.specs.List.{list_any}
 use Rattle.elf_types.specs.Tables.{value_in}
-use Rattle.usage_text.specs.declared.usages.Usage.{Usage}
-use Rattle.usage_text.specs.declared.usages.Usage.TheVariants.{Readelf, Nm, Size, Strings, Strip, Elflint, Calls, Selftest, Rehash, Copy, Unstrip, Lines, General}
+use Rattle.elfkit_words.specs.declared.usages.Usage.{Usage}
+use Rattle.elfkit_words.specs.declared.usages.Usage.TheVariants.{Readelf, Nm, Size, Strings, Strip, Elflint, Calls, Selftest, Rehash, Copy, Unstrip, Lines, General}
 
 -- the twelve commands
 unfoldable pub commands : List (List ℕ × Usage)

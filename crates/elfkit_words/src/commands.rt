@@ -1,10 +1,14 @@
 //! The commands of elfkit, with their options and operands as the words give them.
 
-use crate::arguments::Args;
-use crate::options::{NmOptions, ReadelfParts, StringsOptions};
-use crate::texts::Text;
-use elf_types::List;
-use usage_text::{Notice, Usage};
+use crate::notices::Notice;
+use crate::usages::Usage;
+use calls_update::CallsOutput;
+use command_outcomes::StripOptions;
+use copy_changes::CopyChanges;
+use nm_tool::NmOptions;
+use readelf_tool::ReadelfParts;
+use strings_tool::StringsOptions;
+use tool_text::{Args, Text};
 
 /// A command with its options and operands.
 #[derive(Drop)]
@@ -93,71 +97,6 @@ pub enum Command {
         /// The files, at least one.
         files: Args,
     },
-}
-
-/// The options of strip.
-#[derive(Drop)]
-pub struct StripOptions {
-    /// `-g`: only what serves debugging is removed.
-    pub debug_only: bool,
-    /// `-R`: the names of sections to remove, in the order of the words.
-    pub names: Args,
-    /// `-f`: where what is removed goes.
-    pub debug: Option<Text>,
-    /// `-o`: the output.
-    pub out: Text,
-}
-
-/// Where the image of `calls` goes.
-#[derive(Drop)]
-pub enum CallsOutput {
-    /// `-o`: to this file, whose name is another word than the file and the script.
-    To(Text),
-    /// `-i`: into the file itself.
-    InPlace,
-}
-
-/// The changes of `copy`, one list for each letter, in the order of the words. No name of a section
-/// holds a NUL byte.
-#[derive(Drop)]
-pub struct CopyChanges {
-    /// `-R`: the names of sections to remove.
-    pub remove: Args,
-    /// `-u`: the sections that get new bytes.
-    pub update: List<NamedFile>,
-    /// `-n`: the sections that get a new name.
-    pub rename: List<Renaming>,
-    /// `-f`: the sections that get new flags.
-    pub flags: List<NamedBits>,
-    /// `-a`: the sections that are added.
-    pub add: List<NamedFile>,
-}
-
-/// The option-argument `NAME=FILE`, split at its first `=`.
-#[derive(Drop)]
-pub struct NamedFile {
-    /// The name of the section, which is not empty.
-    pub name: Text,
-    /// The file of its bytes.
-    pub file: Text,
-}
-
-/// The option-argument `OLD=NEW`, split at its first `=`.
-#[derive(Drop)]
-pub struct Renaming {
-    /// The name of the section, which is not empty.
-    pub old: Text,
-    /// Its new name.
-    pub new: Text,
-}
-
-/// The option-argument `NAME=BITS`, split at its first `=`.
-#[derive(Drop)]
-pub struct NamedBits {
-    /// The name of the section, which is not empty.
-    pub name: Text,
-    /// Its flags.
-    pub bits: u64,
 }
 
 /// What the words ask for.

@@ -1,7 +1,7 @@
 //! Why a part of the words is not read.
 
 ghost use Rattle.std.specs.Prelude.{◌≡◌};
-ghost use Rattle.tool_text.specs.declared.faults.Fault.TheVariants.{Memory};
+ghost use Rattle.elfkit_words.specs.declared.faults.Fault.TheVariants.{Memory};
 
 use elf_types::ElfError;
 use std::alloc::{AllocError, AllocFailed};

@@ -1,7 +1,7 @@
 //! What elfkit tells of itself.
 
 ghost use Rattle.std.specs.Prelude.{◌≡◌};
-ghost use Rattle.usage_text.specs.Notices.{notice_named, notice_text, help_text, general_help};
+ghost use Rattle.elfkit_words.specs.Notices.{notice_named, notice_text, help_text, general_help};
 
 use crate::usages::Usage;
 

@@ -1,7 +1,7 @@
 //! Words that are numbers.
 
 ghost use Rattle.std.specs.Prelude.{◌≡◌, ◌≤◌};
-ghost use Rattle.tool_text.specs.Numbers.{numeral, word_number_of, script_number_of};
+ghost use Rattle.elfkit_words.specs.Numbers.{numeral, word_number_of, script_number_of};
 
 use elf_types::are_digits;
 

@@ -1,17 +1,17 @@
 //! What the options of the words say, letter by letter.
 
 ghost use Rattle.std.specs.Prelude.{◌≡◌, IfOk, IfErr, option_map};
-ghost use Rattle.tool_text.specs.Splitting.{Reads};
-ghost use Rattle.tool_text.specs.Reading.{has_option, option_arguments, all_values, last};
-ghost use Rattle.tool_text.specs.declared.faults.Fault.TheVariants.{Memory};
+ghost use Rattle.elfkit_words.specs.Splitting.{Reads};
+ghost use Rattle.elfkit_words.specs.Reading.{has_option, option_arguments, all_values};
+ghost use Rattle.tool_text.specs.Arguments.{last};
+ghost use Rattle.elfkit_words.specs.declared.faults.Fault.TheVariants.{Memory};
 
-use crate::arguments::Args;
 use crate::faults::Fault;
 use crate::splitting::CommandOption;
-use crate::texts::Text;
 use crate::values::OptionArgument;
 use elf_types::List;
 use std::alloc::Global;
+use tool_text::{Args, Text};
 
 /// Whether an option is among them.
 #[tactic(auto, unfolding(crate::specs::Reading::has_option))]

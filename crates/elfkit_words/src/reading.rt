@@ -3,24 +3,28 @@
 ghost use Rattle.std.specs.Prelude.{◌≡◌, ◌∷◌, [], option_to_list, IfOk};
 ghost use Rattle.std.specs.Str.{byte};
 ghost use Rattle.elf_types.specs.Answers.{FollowsBy};
-ghost use Rattle.tool_text.specs.Forms.{IsGoodRequest};
-ghost use Rattle.tool_text.specs.Splitting.{Reads};
-ghost use Rattle.tool_text.specs.Reading.{reading, stated_usage, request_of, option_arguments, last, one_or_more, of_split, readelf_command, parts_of, nm_command, size_command, strings_command, strip_command, elflint_command, calls_command, selftest_command, rehash_command, copy_command, changes_of, unstrip_command, lines_command, all_differ, is_file_of};
+ghost use Rattle.elfkit_words.specs.Forms.{IsGoodRequest};
+ghost use Rattle.elfkit_words.specs.Splitting.{Reads};
+ghost use Rattle.elfkit_words.specs.Reading.{reading, stated_usage, request_of, option_arguments, one_or_more, of_split, readelf_command, parts_of, nm_command, size_command, strings_command, strip_command, elflint_command, calls_command, selftest_command, rehash_command, copy_command, changes_of, unstrip_command, lines_command, all_differ, is_file_of};
+ghost use Rattle.tool_text.specs.Arguments.{last};
 
-use crate::arguments::Args;
-use crate::commands::{
-    CallsOutput, Command, CopyChanges, NamedFile, Request, StripOptions, WordsFault,
-};
+use crate::commands::{Command, Request, WordsFault};
 use crate::faults::Fault;
+use crate::notices::Notice;
 use crate::option_arguments::{
     all_values, has_option, last_option_argument, last_value, option_arguments,
 };
-use crate::options::{NmOptions, Radix, ReadelfParts, StringsOptions};
 use crate::splitting::{CommandOption, Split, split_words};
-use crate::texts::Text;
+use crate::usages::Usage;
 use crate::values::number_within;
+use calls_update::CallsOutput;
+use command_outcomes::StripOptions;
+use copy_changes::{CopyChanges, NamedFile};
+use nm_tool::NmOptions;
+use readelf_tool::ReadelfParts;
 use std::alloc::Global;
-use usage_text::{Notice, Usage};
+use strings_tool::StringsOptions;
+use tool_text::{Args, Radix, Text};
 
 /// Reads the words after the program's name, of which the first is the command, or asks for a
 /// notice. It refuses with the usage line that is due exactly where the words are not of that form,

@@ -1,10 +1,10 @@
 //! The rules of option words, which hold of the reading of every command.
 
 ghost use Rattle.std.specs.Prelude.{◌≡◌, List, ℕ, Option, None};
-ghost use Rattle.tool_text.specs.declared.splitting.Split.{Split};
-ghost use Rattle.usage_text.specs.declared.usages.Usage.{Usage};
-ghost use Rattle.tool_text.specs.Rules.{FollowsRules};
-ghost use Rattle.tool_text.specs.Splitting.{split_of};
+ghost use Rattle.elfkit_words.specs.declared.splitting.Split.{Split};
+ghost use Rattle.elfkit_words.specs.declared.usages.Usage.{Usage};
+ghost use Rattle.elfkit_words.specs.Rules.{FollowsRules};
+ghost use Rattle.elfkit_words.specs.Splitting.{split_of};
 
 /// The split of the words after a command into options and operands follows the rules of option
 /// words, sentence by sentence, and no other split does. The function does nothing: its contract is

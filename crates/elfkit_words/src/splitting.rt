@@ -1,14 +1,13 @@
 //! The words after a command, as options and operands.
 
 ghost use Rattle.std.specs.Prelude.{◌≡◌, ◌≤◌, ◌<◌, None, length, drop};
-ghost use Rattle.tool_text.specs.Splitting.{Reads, is_option_word, split_of, AddsGroup};
+ghost use Rattle.elfkit_words.specs.Splitting.{Reads, is_option_word, split_of, AddsGroup};
 
-use crate::arguments::Args;
 use crate::faults::Fault;
-use crate::texts::Text;
+use crate::usages::Usage;
 use elf_types::List;
 use std::alloc::Global;
-use usage_text::Usage;
+use tool_text::{Args, Text};
 
 /// An option, as the words give it.
 #[derive(Drop)]

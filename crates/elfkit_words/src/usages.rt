@@ -2,7 +2,7 @@
 
 ghost use Rattle.std.specs.Prelude.{◌≡◌, ◌<◌};
 ghost use Rattle.std.specs.Bool.{OnTrue};
-ghost use Rattle.usage_text.specs.Usages.{command_named, usage_line, letters_alone, letters_with_option_argument, stands_alone, takes_option_argument};
+ghost use Rattle.elfkit_words.specs.Usages.{command_named, usage_line, letters_alone, letters_with_option_argument, stands_alone, takes_option_argument};
 
 /// Which usage line is due: that of a command, or the general one.
 #[derive(Clone, Copy, PartialEq, Eq)]

@@ -1,15 +1,15 @@
 //! The values of option-arguments.
 
 ghost use Rattle.std.specs.Prelude.{◌≡◌, List, ℕ, Option, option_map};
-ghost use Rattle.tool_text.specs.Splitting.{Reads};
-ghost use Rattle.tool_text.specs.Reading.{radix_of, number_within, least_of, is_section_name, name_of, named_file_of, renaming_of, named_bits_of, split_at_equals};
+ghost use Rattle.elfkit_words.specs.Splitting.{Reads};
+ghost use Rattle.elfkit_words.specs.Reading.{radix_of, number_within, least_of, name_of, named_file_of, renaming_of, named_bits_of, split_at_equals};
+ghost use Rattle.copy_changes.specs.Names.{is_section_name};
 
-use crate::commands::{NamedBits, NamedFile, Renaming};
 use crate::faults::Fault;
 use crate::numbers::{script_number, word_number};
-use crate::options::Radix;
-use crate::texts::Text;
+use copy_changes::{NamedBits, NamedFile, Renaming};
 use std::alloc::Global;
+use tool_text::{Radix, Text};
 
 /// A value that an option-argument stands for.
 pub(crate) trait OptionArgument: Drop {
@@ -141,7 +141,7 @@ fn split_at_equals(word: &str) -> Option<(&str, &str)>
 }
 
 /// Whether a word can be the name of a section: it holds no NUL byte.
-#[tactic(auto, unfolding(crate::specs::Reading::is_section_name))]
+#[tactic(auto, unfolding(copy_changes::specs::Names::is_section_name))]
 fn is_section_name(word: &str) -> bool
     ensures { result ≡ is_section_name word.now }
 {

@@ -13,7 +13,7 @@ use Rattle.elf_object.specs.Answers.{syms_of}
 use Rattle.elf_object.specs.Strings.{string_answer, readable}
 use Rattle.section_data.specs.Held.{items_of_bytes}
 use Rattle.object_output.specs.gelf_view.Records.{string_front}
-use Rattle.tool_text.specs.declared.options.NmOptions.{NmOptions}
+use Rattle.nm_tool.specs.declared.options.NmOptions.{NmOptions}
 use Rattle.tool_output.specs.Names.{Name}
 use Rattle.tool_output.specs.Reports.{Report, no_report}
 use Rattle.object_output.specs.Images.{image_report, object_report as image_object_report}

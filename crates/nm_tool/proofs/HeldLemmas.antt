@@ -8,7 +8,7 @@ use Rattle.elf_object.specs.Object.{Object}
 use Rattle.elf_object.specs.Answers.{syms_of}
 use Rattle.elf_object.specs.SymbolSections.{shndx_table}
 use Rattle.object_output.specs.gelf_view.declared.symbols.SymPlace.{SymPlace}
-use Rattle.tool_text.specs.declared.options.NmOptions.{NmOptions}
+use Rattle.nm_tool.specs.declared.options.NmOptions.{NmOptions}
 use Rattle.tool_output.specs.Names.{Name}
 use Rattle.tool_output.specs.Reports.{no_report, shown, all_joined, reports_of}
 use Rattle.object_output.specs.Symbols.{symbol_place}

@@ -10,7 +10,7 @@ use Rattle.elf_types.specs.declared.records.Sym.{Sym}
 use Rattle.elf_object.specs.Object.{Object, section_at}
 use Rattle.elf_object.specs.Strings.{string_answer, readable, symbol_name}
 use Rattle.object_output.specs.elf_descriptor.State.{State}
-use Rattle.tool_text.specs.declared.options.NmOptions.{NmOptions}
+use Rattle.nm_tool.specs.declared.options.NmOptions.{NmOptions}
 use Rattle.tool_output.specs.Names.{Name}
 use Rattle.tool_output.specs.Reports.{Report, no_report, joined, all_joined, reports_of}
 use Rattle.bytes_at_hand.specs.Strings.{HoldsStrings}

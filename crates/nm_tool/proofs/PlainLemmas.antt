@@ -5,7 +5,7 @@ use Rattle.elf_types.specs.declared.records.Sym.{Sym}
 use Rattle.elf_outside.specs.declared.sources.Source.{Ghosts as SourceGhosts}
 use Rattle.elf_object.specs.Object.{Object}
 use Rattle.object_output.specs.elf_descriptor.State.{State}
-use Rattle.tool_text.specs.declared.options.NmOptions.{NmOptions}
+use Rattle.nm_tool.specs.declared.options.NmOptions.{NmOptions}
 use Rattle.tool_output.specs.declared.stops.Stop.{Stop}
 use Rattle.tool_output.specs.declared.stops.Stop.TheVariants.{Memory}
 use Rattle.object_output.specs.Steps.{Learns}

@@ -5,7 +5,7 @@ use Rattle.std.proofs.lemmas.List.{take-append-le, drop-append-le, length-append
 use Rattle.std.proofs.Math.Seq.{take-length}
 use Rattle.elf_types.specs.declared.records.Sym.{Sym}
 use Rattle.elf_object.specs.Object.{Object}
-use Rattle.tool_text.specs.declared.options.NmOptions.{NmOptions}
+use Rattle.nm_tool.specs.declared.options.NmOptions.{NmOptions}
 use Rattle.nm_tool.specs.declared.pools.Spot.{Spot}
 use Rattle.nm_tool.specs.declared.pools.Pool.{Pool}
 use Rattle.nm_tool.specs.Order.{Entry}

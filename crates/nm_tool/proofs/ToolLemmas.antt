@@ -16,7 +16,7 @@ use Rattle.elf_object.specs.Answers.{count_at, items_at, lend_refusal}
 use Rattle.object_output.specs.elf_descriptor.State.{State}
 use Rattle.object_output.specs.gelf_view.Calls.{IsTable}
 use Rattle.object_output.specs.gelf_view.declared.symbols.SymPlace.{SymPlace}
-use Rattle.tool_text.specs.declared.options.NmOptions.{NmOptions}
+use Rattle.nm_tool.specs.declared.options.NmOptions.{NmOptions}
 use Rattle.tool_output.specs.declared.stops.Stop.{Stop}
 use Rattle.tool_output.specs.declared.stops.Stop.TheVariants.{Memory}
 use Rattle.tool_output.specs.declared.outputs.Outputs.{Outputs}

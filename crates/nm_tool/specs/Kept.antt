@@ -8,7 +8,7 @@ use Rattle.elf_types.specs.declared.records.Sym.{Sym}
 use Rattle.elf_object.specs.Object.{Object, section_at}
 use Rattle.elf_object.specs.Strings.{string_answer, readable}
 use Rattle.object_output.specs.gelf_view.Records.{string_front}
-use Rattle.tool_text.specs.declared.options.NmOptions.{NmOptions}
+use Rattle.nm_tool.specs.declared.options.NmOptions.{NmOptions}
 use Rattle.tool_output.specs.Names.{Name}
 use Rattle.tool_output.specs.Reports.{Report, no_report, shown}
 use Rattle.nm_tool.specs.declared.kept.Kept.{Kept}

@@ -7,7 +7,7 @@ use Rattle.elf_types.specs.Kinds.{is_compressed}
 use Rattle.elf_object.specs.Object.{Object, Section}
 use Rattle.elf_object.specs.Answers.{items_at, syms_of}
 use Rattle.elf_object.specs.Strings.{symbol_name}
-use Rattle.tool_text.specs.declared.options.NmOptions.{NmOptions}
+use Rattle.nm_tool.specs.declared.options.NmOptions.{NmOptions}
 use Rattle.object_output.specs.Symbols.{symbol_place}
 use Rattle.elf_types.specs.Symbols.{has_type, is_local}
 use Rattle.nm_tool.specs.Letters.{is_undefined}

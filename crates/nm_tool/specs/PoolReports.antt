@@ -1,7 +1,7 @@
 -- What is said of a row that is sorted, and of the symbols of a pool.
 use Rattle.std.specs.Prelude.{ℕ}
 use Rattle.elf_object.specs.Object.{Object}
-use Rattle.tool_text.specs.declared.options.NmOptions.{NmOptions}
+use Rattle.nm_tool.specs.declared.options.NmOptions.{NmOptions}
 use Rattle.tool_output.specs.Names.{Name}
 use Rattle.tool_output.specs.Reports.{Report}
 use Rattle.nm_tool.specs.declared.order.Row.{Row}

@@ -3,7 +3,7 @@
 use Rattle.std.specs.Prelude.{◌++◌, ◌+◌, ℕ, zero, suc, Bool, List, [], ◌∷◌, length, take, drop, slice_get, Option, Some, None, if◌then◌else◌}
 use Rattle.elf_types.specs.declared.records.Sym.{Sym}
 use Rattle.elf_object.specs.Object.{Object}
-use Rattle.tool_text.specs.declared.options.NmOptions.{NmOptions}
+use Rattle.nm_tool.specs.declared.options.NmOptions.{NmOptions}
 use Rattle.nm_tool.specs.declared.pools.Spot.{Spot}
 use Rattle.nm_tool.specs.declared.pools.Pool.{Pool}
 use Rattle.nm_tool.specs.Order.{Entry}

@@ -3,8 +3,8 @@ use Rattle.std.specs.Prelude.{◌++◌, ◌∷◌, [], ℕ, List, Bool, codes, i
 use Rattle.elf_types.specs.declared.records.Class.{Class}
 use Rattle.elf_types.specs.declared.records.Class.TheVariants.{C32, C64}
 use Rattle.elf_types.specs.declared.records.Sym.{Sym}
-use Rattle.tool_text.specs.declared.options.NmOptions.{NmOptions}
-use Rattle.tool_text.specs.declared.options.Radix.{Radix}
+use Rattle.nm_tool.specs.declared.options.NmOptions.{NmOptions}
+use Rattle.tool_text.specs.declared.radixes.Radix.{Radix}
 use Rattle.tool_output.specs.Names.{Name, shown_name}
 use Rattle.number_columns.specs.Columns.{number, spaces, zero_filled}
 

@@ -9,12 +9,12 @@ ghost use Rattle.nm_tool.specs.Tool.{placed_row};
 
 use crate::headers::ObjectHeaders;
 use crate::letters::{is_undefined, symbol_letter};
+use crate::options::NmOptions;
 use crate::rows::SymbolRow;
 use elf_outside::Sink;
 use elf_types::{Class, Sym};
 use object_output::prelude::SymPlace;
 use tool_output::{FileName, Outputs, Stop};
-use tool_text::NmOptions;
 
 /// What the rows of a table show besides its symbols.
 #[derive(Clone, Copy)]

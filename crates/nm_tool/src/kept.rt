@@ -15,6 +15,7 @@ ghost use Rattle.nm_tool.specs.Listed.{name_or_none, symbols as stated_symbols};
 ghost use Rattle.nm_tool.specs.Tables.{AreTables, ArePlain};
 
 use crate::listed::{is_plain_wanted, wanted_at};
+use crate::options::NmOptions;
 use crate::symbols::{Tables, symbol_bytes};
 use bytes_at_hand::{ItemBytes, item_of, load};
 use elf_outside::Source;
@@ -22,7 +23,6 @@ use elf_types::{ElfError, List, Sym};
 use object_output::prelude::Elf;
 use std::alloc::Global;
 use tool_output::Stop;
-use tool_text::NmOptions;
 
 /// A symbol that is wanted whatever its name.
 #[derive(Clone, Copy, PartialEq, Eq, PartialOrd, Ord)]

@@ -10,6 +10,7 @@ mod kept;
 mod laws;
 mod letters;
 mod listed;
+mod options;
 mod order;
 mod ordered;
 mod pools;
@@ -19,4 +20,5 @@ mod symbols;
 mod tool;
 
 pub use laws::order_law;
+pub use options::NmOptions;
 pub use tool::{NmTool, nm};

@@ -9,6 +9,7 @@ ghost use Rattle.nm_tool.specs.Pools.{if_wanted, wanted_at, with_name, with_symb
 ghost use Rattle.nm_tool.specs.Tables.{AreTables};
 
 use crate::letters::is_undefined;
+use crate::options::NmOptions;
 use crate::pools::Pool;
 use crate::symbols::{Tables, place_at, plain_place, symbol_at};
 use elf_outside::Source;
@@ -18,7 +19,6 @@ use object_output::prelude::Elf;
 use object_output::string_at;
 use std::alloc::Global;
 use tool_output::Stop;
-use tool_text::NmOptions;
 
 /// Whether a symbol is neither a section nor a file, and with `-g` not local.
 #[tactic(auto, unfolding(crate::specs::Listed::is_kept))]

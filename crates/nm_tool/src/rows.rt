@@ -5,10 +5,11 @@ ghost use Rattle.elf_types.specs.Writers.{WantsMemory};
 ghost use Rattle.number_columns.specs.Columns.{number, spaces};
 ghost use Rattle.nm_tool.specs.Rows.{file_column, width_of, value_column, value_and_size, plain_row, portable_row, row_by, row_text};
 
+use crate::options::NmOptions;
 use elf_types::{Class, ElfError, Octets, Sym, put_bytes, put_text};
 use number_columns::{put_number, put_zero_filled_before};
 use tool_output::{FileName, Line};
-use tool_text::{NmOptions, Radix};
+use tool_text::Radix;
 
 /// The row of a symbol.
 #[derive(Clone, Copy)]

@@ -27,6 +27,7 @@ use crate::copied::show_copied;
 use crate::form::Form;
 use crate::front::show_plain;
 use crate::kept::{Kept, kept_of};
+use crate::options::NmOptions;
 use crate::ordered::show_order;
 use crate::ranked::order_at_hand;
 use crate::symbols::{Tables, table_bytes, tables_of};
@@ -40,7 +41,6 @@ use object_output::prelude::{Elf, item_count};
 use object_output::{ObjectTool, refuse, section_header, show_object};
 use std::alloc::Global;
 use tool_output::{FileName, Message, Outputs, Stop};
-use tool_text::NmOptions;
 
 /// As many symbols as have indexes of 32 bits.
 const MOST_KEPT: u64 = 1 << 32;

@@ -3,8 +3,8 @@ use Rattle.std.specs.Prelude.{◌++◌, ◌-◌, ℕ, false, List, length}
 use Rattle.std.specs.Fmt.{digits}
 use Rattle.std.specs.Str.{byte}
 use Rattle.std.proofs.Math.ListN.{replicate}
-use Rattle.tool_text.specs.declared.options.Radix.{Radix}
-use Rattle.tool_text.specs.declared.options.Radix.TheVariants.{Decimal, Octal, Hex}
+use Rattle.tool_text.specs.declared.radixes.Radix.{Radix}
+use Rattle.tool_text.specs.declared.radixes.Radix.TheVariants.{Decimal, Octal, Hex}
 
 -- the numbers of a radix below it
 abbrev pub base_of : Radix → ℕ

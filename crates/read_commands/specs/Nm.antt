@@ -2,7 +2,7 @@
 use Rattle.std.specs.Prelude.{ℕ, List, not, ◌&&◌, length, nat_lt, codes}
 use Rattle.elf_outside.specs.Names.{Map}
 use Rattle.tool_output.specs.Outcomes.{Outcome}
-use Rattle.tool_text.specs.declared.options.NmOptions.{NmOptions}
+use Rattle.nm_tool.specs.declared.options.NmOptions.{NmOptions}
 use Rattle.object_output.specs.Looks.{looks_over}
 use Rattle.nm_tool.specs.Tool.{nm_report}
 use Rattle.read_commands.specs.Titles.{title_if, titled_report}

@@ -2,7 +2,7 @@
 use Rattle.std.specs.Prelude.{ℕ, List, length, nat_lt, codes}
 use Rattle.elf_outside.specs.Names.{Map}
 use Rattle.tool_output.specs.Outcomes.{Outcome}
-use Rattle.tool_text.specs.declared.options.ReadelfParts.{ReadelfParts}
+use Rattle.readelf_tool.specs.declared.options.ReadelfParts.{ReadelfParts}
 use Rattle.readelf_tool.specs.Parts.{readelf_report, readelf_looks}
 use Rattle.read_commands.specs.Titles.{title_if, titled_report}
 use Rattle.read_commands.specs.declared.titles.Title.{Title}

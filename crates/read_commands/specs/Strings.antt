@@ -1,7 +1,7 @@
 -- The command strings: the printable runs of each file that it names.
 use Rattle.std.specs.Prelude.{ℕ, List, Some, map, codes}
 use Rattle.elf_outside.specs.Names.{Map}
-use Rattle.tool_text.specs.declared.options.StringsOptions.{StringsOptions}
+use Rattle.strings_tool.specs.declared.options.StringsOptions.{StringsOptions}
 use Rattle.tool_output.specs.Files.{report_on, asks_on, all_bounds}
 use Rattle.tool_output.specs.Outcomes.{Outcome, report_outcome}
 use Rattle.tool_output.specs.Reports.{reports_of}

@@ -4,7 +4,7 @@ use Rattle.std.specs.Prelude.{if◌then◌else◌}
 use Rattle.std.specs.List.{count_by}
 use Rattle.std.proofs.lemmas.List.Folds.{list_any_at}
 use Rattle.std.proofs.lemmas.List.Sums.{count_by_more_yes, count_by_more_no, sum_by-take-le}
-use Rattle.tool_text.specs.declared.options.ReadelfParts.{ReadelfParts}
+use Rattle.readelf_tool.specs.declared.options.ReadelfParts.{ReadelfParts}
 use Rattle.elf_object.specs.Object.{Object}
 use Rattle.tool_output.specs.Names.{Name}
 use Rattle.tool_output.specs.Reports.{no_report}

@@ -2,7 +2,7 @@
 use Rattle.std.specs.Prelude.{ℕ, Bool, true, false, ◌&&◌, List, [], ◌∷◌, if◌then◌else◌}
 use Rattle.std.specs.List.{list_any, count_by}
 use Rattle.elf_object.specs.Object.{Object, header_of}
-use Rattle.tool_text.specs.declared.options.ReadelfParts.{ReadelfParts}
+use Rattle.readelf_tool.specs.declared.options.ReadelfParts.{ReadelfParts}
 use Rattle.tool_output.specs.Names.{Name}
 use Rattle.tool_output.specs.Reports.{Report, no_report, reports_of}
 use Rattle.object_output.specs.Looks.{Looks}

@@ -6,6 +6,7 @@ ghost use Rattle.object_output.specs.Steps.{ReportsOver};
 ghost use Rattle.object_output.specs.Shows.{ShowsOver};
 ghost use Rattle.readelf_tool.specs.Parts.{is_asked, reads_sections, letter_report, letter_part, readelf_report, shows_sections, goes_over, passes_of, readelf_looks};
 
+use crate::options::ReadelfParts;
 use crate::versions::show_versions;
 use elf_outside::{Sink, Source};
 use object_output::prelude::Elf;
@@ -15,7 +16,6 @@ use readelf_headers::{show_header, show_sections, show_segments};
 use readelf_tables::{show_dynamic, show_relocations, show_symbols};
 use std::alloc::Global;
 use tool_output::{FileName, Outputs, Stop};
-use tool_text::ReadelfParts;
 
 /// A letter of readelf.
 #[derive(Clone, Copy)]

@@ -16,8 +16,8 @@ use Rattle.elf_object.specs.Refusal.{refusal}
 use Rattle.elf_object.specs.Runs.{left_by}
 use Rattle.command_objects.specs.Files.{file_of}
 use Rattle.tool_output.specs.Outcomes.{FileWrite, Outcome, write_of, report_outcome}
-use Rattle.tool_text.specs.declared.commands.CallsOutput.{CallsOutput}
-use Rattle.tool_text.specs.declared.commands.CallsOutput.TheVariants.{To, InPlace}
+use Rattle.elfkit_run.specs.calls_update.declared.outputs.CallsOutput.{CallsOutput}
+use Rattle.elfkit_run.specs.calls_update.declared.outputs.CallsOutput.TheVariants.{To, InPlace}
 use Rattle.object_output.specs.Images.{object_by, file_object}
 use Rattle.calls_script.specs.declared.calls.Call.{Call}
 use Rattle.reopen_laws.specs.calls_tool.declared.scripts.BadLine.{BadLine}

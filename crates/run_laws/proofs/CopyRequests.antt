@@ -9,18 +9,20 @@ use Rattle.std.proofs.lemmas.List.Elements.{filter_map-append, All-nil, All-cons
 use Rattle.elf_types.specs.Digits.{are_digits}
 use Rattle.elf_types.specs.Lists.{AreBytes}
 use Rattle.elf_outside.specs.Names.{Map}
-use Rattle.usage_text.specs.declared.usages.Usage.{Usage}
-use Rattle.usage_text.specs.declared.usages.Usage.TheVariants as usage
-use Rattle.usage_text.specs.declared.notices.Notice.TheVariants.{Help}
-use Rattle.usage_text.specs.Usages.{stands_alone, takes_option_argument}
-use Rattle.tool_text.specs.declared.commands.Command.{Command}
-use Rattle.tool_text.specs.declared.commands.Command.TheVariants as command
-use Rattle.tool_text.specs.declared.commands.CopyChanges.{CopyChanges}
-use Rattle.tool_text.specs.declared.commands.Request.{Request}
-use Rattle.tool_text.specs.declared.commands.Request.TheVariants.{Run, Tell}
-use Rattle.tool_text.specs.Numbers.{numeral, script_number_of}
-use Rattle.tool_text.specs.Splitting.{Group, last_of_group, group_of, split_of, is_option_word}
-use Rattle.tool_text.specs.Reading.{option_argument_of, option_arguments, all_values, one_or_more, only_one, only_two, last, radix_of, least_of, number_within, has_option, output_of, is_equals, split_at_equals, is_section_name, name_of, named_file_of, renaming_of, named_bits_of, readelf_command, nm_command, size_command, strings_command, strip_command, elflint_command, calls_command, selftest_command, rehash_command, changes_of, copy_command, unstrip_command, lines_command, of_split, request_of, reading}
+use Rattle.elfkit_run.specs.elfkit_words.declared.usages.Usage.{Usage}
+use Rattle.elfkit_run.specs.elfkit_words.declared.usages.Usage.TheVariants as usage
+use Rattle.elfkit_run.specs.elfkit_words.declared.notices.Notice.TheVariants.{Help}
+use Rattle.elfkit_run.specs.elfkit_words.Usages.{stands_alone, takes_option_argument}
+use Rattle.elfkit_run.specs.elfkit_words.declared.commands.Command.{Command}
+use Rattle.elfkit_run.specs.elfkit_words.declared.commands.Command.TheVariants as command
+use Rattle.command_outcomes.specs.copy_changes.declared.options.CopyChanges.{CopyChanges}
+use Rattle.elfkit_run.specs.elfkit_words.declared.commands.Request.{Request}
+use Rattle.elfkit_run.specs.elfkit_words.declared.commands.Request.TheVariants.{Run, Tell}
+use Rattle.elfkit_run.specs.elfkit_words.Numbers.{numeral, script_number_of}
+use Rattle.elfkit_run.specs.elfkit_words.Splitting.{Group, last_of_group, group_of, split_of, is_option_word}
+use Rattle.elfkit_run.specs.elfkit_words.Reading.{option_argument_of, option_arguments, all_values, one_or_more, radix_of, least_of, number_within, has_option, output_of, is_equals, split_at_equals, name_of, named_file_of, renaming_of, named_bits_of, readelf_command, nm_command, size_command, strings_command, strip_command, elflint_command, calls_command, selftest_command, rehash_command, changes_of, copy_command, unstrip_command, lines_command, of_split, request_of, reading}
+use Rattle.tool_text.specs.Arguments.{only_one, only_two, last}
+use Rattle.command_outcomes.specs.copy_changes.Names.{is_section_name}
 use Rattle.copy_file_laws.specs.CopiedFiles.{AreInRange}
 use Rattle.run_laws.specs.Copied.{AreAllBytes}
 use Rattle.run_laws.proofs.Requests.{request_known}

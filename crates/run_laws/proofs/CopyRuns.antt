@@ -2,7 +2,7 @@
 use Rattle.std.proofs.Common.{◌≡◌, ◌<◌, Option, sym, ap, ◌∙◌, subst, arith}
 use Rattle.tool_output.specs.Statuses.{status_code}
 use Rattle.tool_output.specs.Outcomes.{FileWrite, Outcome, held_after}
-use Rattle.tool_text.specs.declared.commands.Command.TheVariants.{Copy}
+use Rattle.elfkit_run.specs.elfkit_words.declared.commands.Command.TheVariants.{Copy}
 use Rattle.command_outcomes.specs.Copy.{copy_outcome}
 use Rattle.copy_file_laws.specs.CopiedFiles.{CopiedFilesKeep, CopyGivesFile}
 use Rattle.elfkit_run.specs.Program.{command_outcome, program}

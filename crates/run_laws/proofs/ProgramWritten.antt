@@ -11,16 +11,16 @@ use Rattle.command_objects.specs.Generated.{generated_and_shifted, told_lines}
 use Rattle.command_objects.specs.Rebuilt.{stripped}
 use Rattle.command_objects.specs.Rehashed.{RehashFault, rehashed}
 use Rattle.command_objects.specs.Split.{unstripped}
-use Rattle.usage_text.specs.declared.usages.Usage.{Usage}
+use Rattle.elfkit_run.specs.elfkit_words.declared.usages.Usage.{Usage}
 use Rattle.tool_output.specs.Outcomes.{FileWrite, Outcome, write_of, report_outcome, only_says}
 use Rattle.tool_output.specs.Made.{Done, Complaint, complaint, made, made_file, of_file, written_outcome}
-use Rattle.tool_text.specs.declared.commands.Command.{Command}
-use Rattle.tool_text.specs.declared.commands.Command.TheVariants.{Readelf, Nm, Size, Strings, Strip, Elflint, Calls, Selftest, Rehash, Copy, Unstrip, Lines}
-use Rattle.tool_text.specs.declared.commands.CopyChanges.{CopyChanges}
-use Rattle.tool_text.specs.declared.commands.StripOptions.{StripOptions}
-use Rattle.tool_text.specs.declared.commands.Request.{Request}
-use Rattle.tool_text.specs.declared.commands.Request.TheVariants.{Run, Tell}
-use Rattle.tool_text.specs.Reading.{reading}
+use Rattle.elfkit_run.specs.elfkit_words.declared.commands.Command.{Command}
+use Rattle.elfkit_run.specs.elfkit_words.declared.commands.Command.TheVariants.{Readelf, Nm, Size, Strings, Strip, Elflint, Calls, Selftest, Rehash, Copy, Unstrip, Lines}
+use Rattle.command_outcomes.specs.copy_changes.declared.options.CopyChanges.{CopyChanges}
+use Rattle.command_outcomes.specs.declared.options.StripOptions.{StripOptions}
+use Rattle.elfkit_run.specs.elfkit_words.declared.commands.Request.{Request}
+use Rattle.elfkit_run.specs.elfkit_words.declared.commands.Request.TheVariants.{Run, Tell}
+use Rattle.elfkit_run.specs.elfkit_words.Reading.{reading}
 use Rattle.elfkit_run.specs.read_commands.Objects.{objects_outcome}
 use Rattle.elfkit_run.specs.read_commands.Readelf.{readelf_outcome}
 use Rattle.elfkit_run.specs.read_commands.Nm.{nm_outcome}

@@ -2,7 +2,7 @@
 use Rattle.std.proofs.Common.{◌≡◌, ◌<◌, Option, sym, ap, ◌∙◌, subst, arith}
 use Rattle.tool_output.specs.Statuses.{status_code}
 use Rattle.tool_output.specs.Outcomes.{FileWrite, Outcome, held_after}
-use Rattle.tool_text.specs.declared.commands.Command.TheVariants.{Rehash}
+use Rattle.elfkit_run.specs.elfkit_words.declared.commands.Command.TheVariants.{Rehash}
 use Rattle.command_outcomes.specs.Copy.{rehash_outcome}
 use Rattle.rehash_file_laws.specs.RehashedFiles.{RehashFilesKeep, RehashGivesFile}
 use Rattle.elfkit_run.specs.Program.{command_outcome, program}

@@ -2,16 +2,16 @@
 use Rattle.std.proofs.Common.{◌≡◌, ℕ, List, [], ◌∷◌, Option, Some, None, Result, Ok, refl, ap}
 use Rattle.std.specs.Option.{ok_or}
 use Rattle.elf_outside.specs.Names.{Map}
-use Rattle.usage_text.specs.declared.notices.Notice.{Notice}
-use Rattle.usage_text.specs.declared.usages.Usage.{Usage}
-use Rattle.usage_text.specs.Notices.{notice_named}
-use Rattle.usage_text.specs.Usages.{command_named}
-use Rattle.tool_text.specs.declared.commands.Command.{Command}
-use Rattle.tool_text.specs.declared.commands.Request.{Request}
-use Rattle.tool_text.specs.declared.commands.Request.TheVariants.{Run}
-use Rattle.tool_text.specs.Forms.{IsWellFormed}
-use Rattle.tool_text.specs.Reading.{request_of, reading}
-use Rattle.tool_text.proofs.FormsHold.{read_form}
+use Rattle.elfkit_run.specs.elfkit_words.declared.notices.Notice.{Notice}
+use Rattle.elfkit_run.specs.elfkit_words.declared.usages.Usage.{Usage}
+use Rattle.elfkit_run.specs.elfkit_words.Notices.{notice_named}
+use Rattle.elfkit_run.specs.elfkit_words.Usages.{command_named}
+use Rattle.elfkit_run.specs.elfkit_words.declared.commands.Command.{Command}
+use Rattle.elfkit_run.specs.elfkit_words.declared.commands.Request.{Request}
+use Rattle.elfkit_run.specs.elfkit_words.declared.commands.Request.TheVariants.{Run}
+use Rattle.elfkit_run.specs.elfkit_words.Forms.{IsWellFormed}
+use Rattle.elfkit_run.specs.elfkit_words.Reading.{request_of, reading}
+use Rattle.elfkit_run.proofs.elfkit_words.FormsHold.{read_form}
 use Rattle.elfkit_run.specs.Program.{command_outcome, request_outcome, outcome_by, program}
 
 -- ---- Words

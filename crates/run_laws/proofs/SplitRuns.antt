@@ -7,8 +7,8 @@ use Rattle.tool_output.specs.Reports.{refusal_report, shown}
 use Rattle.tool_output.specs.Statuses.{status_code}
 use Rattle.tool_output.specs.Outcomes.{FileWrite, Outcome, write_of, held_after}
 use Rattle.tool_output.specs.Made.{made, written_outcome}
-use Rattle.tool_text.specs.declared.commands.Command.TheVariants.{Strip, Unstrip}
-use Rattle.tool_text.specs.Forms.{ThreeDiffer}
+use Rattle.elfkit_run.specs.elfkit_words.declared.commands.Command.TheVariants.{Strip, Unstrip}
+use Rattle.elfkit_run.specs.elfkit_words.Forms.{ThreeDiffer}
 use Rattle.command_outcomes.specs.Strip.{strip_outcome, unstrip_outcome}
 use Rattle.split_file_laws.specs.SplitFiles.{WasSplit, too_large_outcome, Rejoins, SplitFilesRejoin}
 use Rattle.strip_file_laws.proofs.Written.{first_found}

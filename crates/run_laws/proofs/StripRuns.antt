@@ -15,8 +15,8 @@ use Rattle.command_objects.specs.Split.{debug_of}
 use Rattle.tool_output.specs.Statuses.{status_code}
 use Rattle.tool_output.specs.Outcomes.{FileWrite, Outcome, write_of, held_after}
 use Rattle.tool_output.specs.Made.{Done, Complaint, made, made_file, of_file, written_outcome}
-use Rattle.tool_text.specs.declared.commands.Command.TheVariants.{Strip}
-use Rattle.tool_text.specs.declared.commands.StripOptions.{StripOptions}
+use Rattle.elfkit_run.specs.elfkit_words.declared.commands.Command.TheVariants.{Strip}
+use Rattle.command_outcomes.specs.declared.options.StripOptions.{StripOptions}
 use Rattle.command_outcomes.specs.Files.{object_named}
 use Rattle.command_outcomes.specs.Strip.{strip_alone, strip_split, strip_done, strip_outcome}
 use Rattle.strip_file_laws.specs.LoadedFiles.{LoadedFilesStay}

@@ -5,10 +5,10 @@ use Rattle.elf_outside.specs.Names.{Map}
 use Rattle.tool_output.specs.declared.statuses.Status.{Status}
 use Rattle.tool_output.specs.declared.statuses.Status.TheVariants.{Done}
 use Rattle.tool_output.specs.Outcomes.{FileWrite}
-use Rattle.tool_text.specs.declared.commands.Command.TheVariants.{Copy}
-use Rattle.tool_text.specs.declared.commands.CopyChanges.{CopyChanges}
-use Rattle.tool_text.specs.declared.commands.Request.TheVariants.{Run}
-use Rattle.tool_text.specs.Reading.{reading}
+use Rattle.elfkit_run.specs.elfkit_words.declared.commands.Command.TheVariants.{Copy}
+use Rattle.command_outcomes.specs.copy_changes.declared.options.CopyChanges.{CopyChanges}
+use Rattle.elfkit_run.specs.elfkit_words.declared.commands.Request.TheVariants.{Run}
+use Rattle.elfkit_run.specs.elfkit_words.Reading.{reading}
 use Rattle.copy_file_laws.specs.CopiedFiles.{CopyWrites}
 use Rattle.run_laws.specs.Runs.{Around, Ran}
 

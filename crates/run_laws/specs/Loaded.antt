@@ -8,10 +8,10 @@ use Rattle.elf_ident.specs.Front.{front}
 use Rattle.command_objects.specs.Laws.{IsUsual, IsLoaded, may_change}
 use Rattle.tool_output.specs.declared.statuses.Status.{Status}
 use Rattle.tool_output.specs.declared.statuses.Status.TheVariants.{Done}
-use Rattle.tool_text.specs.declared.commands.Command.TheVariants.{Strip}
-use Rattle.tool_text.specs.declared.commands.Request.TheVariants.{Run}
-use Rattle.tool_text.specs.declared.commands.StripOptions.{StripOptions}
-use Rattle.tool_text.specs.Reading.{reading}
+use Rattle.elfkit_run.specs.elfkit_words.declared.commands.Command.TheVariants.{Strip}
+use Rattle.elfkit_run.specs.elfkit_words.declared.commands.Request.TheVariants.{Run}
+use Rattle.command_outcomes.specs.declared.options.StripOptions.{StripOptions}
+use Rattle.elfkit_run.specs.elfkit_words.Reading.{reading}
 use Rattle.run_laws.specs.Runs.{Around, Ran}
 
 -- the words ask for strip, with -f or without, FILE holds an image with a usual header, and the run

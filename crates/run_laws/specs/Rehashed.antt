@@ -6,9 +6,9 @@ use Rattle.elf_outside.specs.Names.{Map}
 use Rattle.tool_output.specs.declared.statuses.Status.{Status}
 use Rattle.tool_output.specs.declared.statuses.Status.TheVariants.{Done}
 use Rattle.tool_output.specs.Outcomes.{FileWrite}
-use Rattle.tool_text.specs.declared.commands.Command.TheVariants.{Rehash}
-use Rattle.tool_text.specs.declared.commands.Request.TheVariants.{Run}
-use Rattle.tool_text.specs.Reading.{reading}
+use Rattle.elfkit_run.specs.elfkit_words.declared.commands.Command.TheVariants.{Rehash}
+use Rattle.elfkit_run.specs.elfkit_words.declared.commands.Request.TheVariants.{Run}
+use Rattle.elfkit_run.specs.elfkit_words.Reading.{reading}
 use Rattle.rehash_file_laws.specs.RehashedFiles.{RehashMakes}
 use Rattle.run_laws.specs.Runs.{Around, Ran}
 

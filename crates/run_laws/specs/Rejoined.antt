@@ -11,10 +11,10 @@ use Rattle.split_laws.specs.Getters.{SameAnswers}
 use Rattle.tool_output.specs.declared.statuses.Status.{Status}
 use Rattle.tool_output.specs.declared.statuses.Status.TheVariants.{Done, Refused}
 use Rattle.tool_output.specs.Marks.{Gained}
-use Rattle.tool_text.specs.declared.commands.Command.TheVariants.{Strip, Unstrip}
-use Rattle.tool_text.specs.declared.commands.Request.TheVariants.{Run}
-use Rattle.tool_text.specs.declared.commands.StripOptions.{StripOptions}
-use Rattle.tool_text.specs.Reading.{reading}
+use Rattle.elfkit_run.specs.elfkit_words.declared.commands.Command.TheVariants.{Strip, Unstrip}
+use Rattle.elfkit_run.specs.elfkit_words.declared.commands.Request.TheVariants.{Run}
+use Rattle.command_outcomes.specs.declared.options.StripOptions.{StripOptions}
+use Rattle.elfkit_run.specs.elfkit_words.Reading.{reading}
 use Rattle.split_file_laws.specs.SplitFiles.{too_large_outcome}
 use Rattle.run_laws.specs.Runs.{Around, Ran}
 

@@ -1,7 +1,7 @@
 -- The lines of size.
 use Rattle.std.specs.Prelude.{◌++◌, ℕ, List, codes}
-use Rattle.tool_text.specs.declared.options.Radix.{Radix}
-use Rattle.tool_text.specs.declared.options.Radix.TheVariants.{Decimal, Hex}
+use Rattle.tool_text.specs.declared.radixes.Radix.{Radix}
+use Rattle.tool_text.specs.declared.radixes.Radix.TheVariants.{Decimal, Hex}
 use Rattle.tool_output.specs.Names.{Name, name_ex}
 use Rattle.number_columns.specs.Columns.{column}
 use Rattle.size_tool.specs.declared.sums.Sums.{Sums}

@@ -28,7 +28,7 @@ use Rattle.split_laws.specs.Getters.{AlikeImagesAnswerAlike}
 use Rattle.split_laws.specs.Halves.{HalvesCombine}
 use Rattle.split_laws.proofs.DebugHalf.{debug_half_written}
 use Rattle.split_laws.proofs.StrippedHalf.{stripped_written}
-use Rattle.tool_text.specs.declared.commands.StripOptions.{StripOptions}
+use Rattle.command_outcomes.specs.declared.options.StripOptions.{StripOptions}
 use Rattle.tool_output.specs.Reports.{refusal_report}
 use Rattle.tool_output.specs.Outcomes.{FileWrite, write_of, held_after}
 use Rattle.tool_output.specs.Made.{Done, Complaint, complaint, made, made_file, of_file, written_outcome}

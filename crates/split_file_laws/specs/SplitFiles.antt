@@ -10,7 +10,7 @@ use Rattle.elf_object.specs.Open.{opened}
 use Rattle.elf_object.specs.Sections.{header_at}
 use Rattle.command_objects.specs.KeepingLaws.{SameButPlaces}
 use Rattle.split_laws.specs.Getters.{SameAnswers}
-use Rattle.tool_text.specs.declared.commands.StripOptions.{StripOptions}
+use Rattle.command_outcomes.specs.declared.options.StripOptions.{StripOptions}
 use Rattle.tool_output.specs.Outcomes.{Outcome, write_of, held_after}
 use Rattle.tool_output.specs.Made.{made, complaint, written_outcome}
 use Rattle.command_outcomes.specs.Strip.{strip_outcome, unstrip_outcome}

@@ -18,7 +18,7 @@ use Rattle.command_objects.specs.Files.{file_of, file_made}
 use Rattle.command_objects.specs.Laws.{LoadableBytesStay}
 use Rattle.tool_output.specs.Outcomes.{FileWrite, write_of}
 use Rattle.tool_output.specs.Made.{Done, Complaint, complaint, made, made_file, of_file}
-use Rattle.tool_text.specs.declared.commands.StripOptions.{StripOptions}
+use Rattle.command_outcomes.specs.declared.options.StripOptions.{StripOptions}
 use Rattle.command_outcomes.specs.Files.{object_named}
 use Rattle.command_outcomes.specs.Strip.{allocated_text, allocated_complaint, strip_alone, strip_split, strip_done, strip_outcome}
 use Rattle.strip_file_laws.specs.LoadedFiles.{StripWrites, LoadedFilesStay}

@@ -6,7 +6,7 @@ use Rattle.elf_outside.specs.Names.{Map}
 use Rattle.elf_ident.specs.declared.fronts.Front.{Front}
 use Rattle.elf_ident.specs.Front.{front}
 use Rattle.command_objects.specs.Laws.{IsUsual, IsLoaded, may_change}
-use Rattle.tool_text.specs.declared.commands.StripOptions.{StripOptions}
+use Rattle.command_outcomes.specs.declared.options.StripOptions.{StripOptions}
 use Rattle.tool_output.specs.Outcomes.{FileWrite, write_of}
 use Rattle.command_outcomes.specs.Strip.{strip_outcome}
 

@@ -5,6 +5,7 @@
 #![tactic(auto)]
 
 mod objects;
+pub mod prelude;
 mod runs;
 
 pub use objects::{

@@ -4,14 +4,14 @@ use elf_descriptor::Elf;
 use elf_outside::{MemSink, MemSource, Sink, Source};
 use elf_types::{Addrs, ElfError, Octets};
 use elfkit_run::prelude::{
-    LintTool, ObjectTool, ReadelfTool, elflint_tool_elflint as elflint, lines_tool_lines as lines,
-    nm_tool_nm as nm, readelf_tool_readelf as readelf, show_file, size_tool_size as size,
+    LintTool, NmOptions, ObjectTool, ReadelfParts, ReadelfTool, StringsOptions,
+    elflint_tool_elflint as elflint, lines_tool_lines as lines, nm_tool_nm as nm,
+    readelf_tool_readelf as readelf, show_file, size_tool_size as size,
     strings_tool_strings as strings,
 };
 use std::alloc::Global;
 use test_images::Image;
 use tool_output::{Outputs, Stop};
-use tool_text::{NmOptions, ReadelfParts, StringsOptions};
 
 /// The room of each output, more than a test writes.
 const ROOM: u64 = 1 << 16;

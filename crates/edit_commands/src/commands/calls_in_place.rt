@@ -2,7 +2,7 @@
 //! place.
 
 ghost use Rattle.std.specs.Prelude.{IsTrue};
-ghost use Rattle.tool_text.specs.declared.commands.CallsOutput.TheVariants.{InPlace};
+ghost use Rattle.calls_update.specs.declared.outputs.CallsOutput.TheVariants.{InPlace};
 ghost use Rattle.tool_output.specs.Files.{LeavesFiles};
 ghost use Rattle.tool_output.specs.Statuses.{refused_status};
 ghost use Rattle.tool_output.specs.Outcomes.{Does};

@@ -2,7 +2,7 @@
 //! leave.
 
 ghost use Rattle.std.specs.Prelude.{IsTrue, Some};
-ghost use Rattle.tool_text.specs.Forms.{IsOutputApart};
+ghost use Rattle.calls_update.specs.Outputs.{IsOutputApart};
 ghost use Rattle.tool_output.specs.Files.{LeavesFiles};
 ghost use Rattle.tool_output.specs.Statuses.{refused_status};
 ghost use Rattle.tool_output.specs.Outcomes.{Does};
@@ -10,10 +10,11 @@ ghost use Rattle.edit_commands.specs.Calls.{calls_update_outcome};
 
 use crate::commands::calls_in_place::calls_in_place;
 use crate::commands::calls_to::calls_to;
+use calls_update::CallsOutput;
 use elf_outside::{Files, Sink};
 use std::alloc::Global;
 use tool_output::{Outputs, Stop};
-use tool_text::{CallsOutput, Text};
+use tool_text::Text;
 
 /// The command calls with -o and with -i: the calls of a script are run on an image, and the image
 /// that they leave is written to a new file, or into FILE in place. Without calls the file is not

@@ -2,7 +2,7 @@
 //! leave.
 
 ghost use Rattle.std.specs.Prelude.{◌≢◌, IsTrue};
-ghost use Rattle.tool_text.specs.declared.commands.CallsOutput.TheVariants.{To};
+ghost use Rattle.calls_update.specs.declared.outputs.CallsOutput.TheVariants.{To};
 ghost use Rattle.tool_output.specs.Files.{LeavesFiles};
 ghost use Rattle.tool_output.specs.Statuses.{refused_status};
 ghost use Rattle.tool_output.specs.Outcomes.{Does};

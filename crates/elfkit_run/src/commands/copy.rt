@@ -1,7 +1,7 @@
 //! copy: the image of a file with changes, and the new file of it.
 
 ghost use Rattle.std.specs.Prelude.{◌≢◌, IsTrue};
-ghost use Rattle.tool_text.specs.Forms.{HasNames};
+ghost use Rattle.elfkit_words.specs.copy_changes.Names.{HasNames};
 ghost use Rattle.tool_output.specs.Files.{LeavesFiles};
 ghost use Rattle.tool_output.specs.Statuses.{refused_status};
 ghost use Rattle.tool_output.specs.Outcomes.{Does};
@@ -9,9 +9,10 @@ ghost use Rattle.selftest_tool.specs.command_outcomes.Copy.{copy_outcome};
 
 use copy_tool::copy_file;
 use elf_outside::{Files, Sink};
+use elfkit_words::prelude::CopyChanges;
 use std::alloc::Global;
 use tool_output::{Outputs, Stop};
-use tool_text::{CopyChanges, Text};
+use tool_text::Text;
 
 /// The command copy: the files of `-u` and then those of `-a` are read, and the image with the
 /// changes is written to a new file while the old one is open. Where a file is not there or

@@ -1,7 +1,7 @@
 //! strip with `-f`: the two halves of the image of a file, and the new files of them.
 
 ghost use Rattle.std.specs.Prelude.{◌≡◌, ◌≢◌, Some, IfSome, IsTrue};
-ghost use Rattle.tool_text.specs.Forms.{ThreeDiffer};
+ghost use Rattle.elfkit_words.specs.Forms.{ThreeDiffer};
 ghost use Rattle.tool_output.specs.Files.{LeavesFiles};
 ghost use Rattle.tool_output.specs.Statuses.{refused_status};
 ghost use Rattle.tool_output.specs.Outcomes.{Does};
@@ -9,9 +9,10 @@ ghost use Rattle.selftest_tool.specs.command_outcomes.Strip.{strip_outcome};
 
 use crate::commands::strip::strip;
 use elf_outside::{Files, Sink};
+use elfkit_words::prelude::StripOptions;
 use std::alloc::Global;
 use tool_output::{Outputs, Stop};
-use tool_text::{StripOptions, Text};
+use tool_text::Text;
 use unstrip_tool::{HalfNames, SplitCommand, split_named};
 
 /// The command strip with `-f`: the image without what is removed, and its debug half, are written

@@ -7,10 +7,11 @@ ghost use Rattle.tool_output.specs.Outcomes.{Does};
 ghost use Rattle.selftest_tool.specs.command_outcomes.Strip.{strip_outcome};
 
 use elf_outside::{Files, Sink};
+use elfkit_words::prelude::StripOptions;
 use std::alloc::Global;
 use strip_tool::{StripCommand, strip_named};
 use tool_output::{Outputs, Stop};
-use tool_text::{StripOptions, Text};
+use tool_text::Text;
 
 /// The command strip without `-f`: the image without what is removed is written to a new file while
 /// the old one is open, and what stays as it is is copied range by range. Where it is refused, the

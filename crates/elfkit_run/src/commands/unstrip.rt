@@ -1,7 +1,7 @@
 //! unstrip: the images of two files, joined, and the new file of what they are halves of.
 
 ghost use Rattle.std.specs.Prelude.{IsTrue};
-ghost use Rattle.tool_text.specs.Forms.{ThreeDiffer};
+ghost use Rattle.elfkit_words.specs.Forms.{ThreeDiffer};
 ghost use Rattle.tool_output.specs.Files.{LeavesFiles};
 ghost use Rattle.tool_output.specs.Statuses.{refused_status};
 ghost use Rattle.tool_output.specs.Outcomes.{Does};

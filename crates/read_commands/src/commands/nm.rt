@@ -10,10 +10,10 @@ use crate::objects::each_object;
 use crate::titled_nm::TitledNm;
 use crate::titles::Title;
 use elf_outside::{Files, Sink};
-use nm_tool::NmTool;
+use nm_tool::{NmOptions, NmTool};
 use std::alloc::Global;
 use tool_output::{Outputs, Stop};
-use tool_text::{Args, NmOptions};
+use tool_text::Args;
 
 /// The command nm: the symbols of each file, in the order of the names, and of each member of one
 /// that is an archive, under titles where rows do not have the file's name. The answer tells

@@ -9,10 +9,10 @@ ghost use Rattle.read_commands.specs.Readelf.{readelf_outcome};
 use crate::objects::each_object;
 use crate::titles::{Title, Titled};
 use elf_outside::{Files, Sink};
-use readelf_tool::ReadelfTool;
+use readelf_tool::{ReadelfParts, ReadelfTool};
 use std::alloc::Global;
 use tool_output::{Outputs, Stop};
-use tool_text::{Args, ReadelfParts};
+use tool_text::Args;
 
 /// The command readelf: the parts of each file, in the order of the names, and of each member of
 /// one that is an archive. The answer tells whether something was refused.

@@ -10,9 +10,9 @@ ghost use Rattle.read_commands.specs.Strings.{strings_outcome};
 use crate::files::{FileTool, each_file};
 use elf_outside::{Files, Sink, Source};
 use std::alloc::Global;
-use strings_tool::show_strings;
+use strings_tool::{StringsOptions, show_strings};
 use tool_output::{FileName, Outputs, Stop};
-use tool_text::{Args, StringsOptions};
+use tool_text::Args;
 
 /// The tool of the command strings, which speaks of files and of no objects.
 #[derive(Clone, Copy)]

@@ -1,5 +1,5 @@
 use Rattle.std.proofs.Common.{ap}
-use Rattle.tool_text.specs.declared.commands.NamedBits.{NamedBits}
+use Rattle.copy_changes.specs.declared.options.NamedBits.{NamedBits}
 use Rattle.copy_changes.specs.Stated.{bits_pair}
 use Rattle.copy_tool.proofs.NameLemmas.{mapped_more}
 use Rattle.copy_tool.proofs.changes.flags_of_each.Goals as goal

@@ -1,5 +1,5 @@
 use Rattle.std.proofs.Common.{ap}
-use Rattle.tool_text.specs.declared.commands.Renaming.{Renaming}
+use Rattle.copy_changes.specs.declared.options.Renaming.{Renaming}
 use Rattle.copy_changes.specs.Stated.{bytes_pair}
 use Rattle.copy_tool.proofs.NameLemmas.{mapped_more}
 use Rattle.copy_tool.proofs.changes.renamings.Goals as goal

@@ -1,7 +1,7 @@
 use Rattle.std.proofs.Common.{◌+◌, ◌++◌, List, Ok, Result, Option, sym, ap, ◌∙◌, subst, append-nil}
 use Rattle.std.proofs.lemmas.List.{take_all}
 use Rattle.std.proofs.lemmas.Result.{err_from_is_err_and}
-use Rattle.tool_text.specs.declared.commands.NamedFile.{NamedFile}
+use Rattle.copy_changes.specs.declared.options.NamedFile.{NamedFile}
 use Rattle.tool_output.specs.declared.stops.Stop.{Stop}
 use Rattle.copy_tool.specs.Files.{ReadsFiles, pairs, byte_names, file_names, filled}
 use Rattle.copy_tool.proofs.ByteLemmas.{NamedPairs, read_upto, due_upto, upto_none}

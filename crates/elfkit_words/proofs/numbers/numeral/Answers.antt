@@ -1,6 +1,6 @@
 use Rattle.std.proofs.Common.{◌∙◌, arith, rules}
-use Rattle.tool_text.proofs.Numerals.{numeral_read}
-use Rattle.tool_text.proofs.numbers.numeral.Goals as goal
+use Rattle.elfkit_words.proofs.Numerals.{numeral_read}
+use Rattle.elfkit_words.proofs.numbers.numeral.Goals as goal
 
 pub returns : goal.returns
 returns c =

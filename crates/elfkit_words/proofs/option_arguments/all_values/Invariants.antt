@@ -1,6 +1,6 @@
 use Rattle.std.proofs.Common.{◌≡◌, ◌++◌, drop, option_map}
-use Rattle.tool_text.specs.Reading.{all_values, option_arguments}
-use Rattle.tool_text.proofs.option_arguments.all_values.Given as goal
+use Rattle.elfkit_words.specs.Reading.{all_values, option_arguments}
+use Rattle.elfkit_words.proofs.option_arguments.all_values.Given as goal
 
 -- the arguments that are left complete the values so far
 abbrev pub invariant-loop-word : goal.invariant-loop-word

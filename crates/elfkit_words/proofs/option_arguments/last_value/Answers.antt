@@ -1,7 +1,7 @@
 use Rattle.std.proofs.Common.{◌-◌, length, slice_get, Some, option_map, ap, sym, ◌∙◌}
-use Rattle.tool_text.specs.Reading.{last}
-use Rattle.tool_text.proofs.Folds.{last_read}
-use Rattle.tool_text.proofs.option_arguments.last_value.Goals as goal
+use Rattle.tool_text.specs.Arguments.{last}
+use Rattle.elfkit_words.proofs.Folds.{last_read}
+use Rattle.elfkit_words.proofs.option_arguments.last_value.Goals as goal
 
 pub returns : goal.returns
 returns g c =

@@ -1,9 +1,9 @@
 use Rattle.std.proofs.Common.{◌++◌, ◌∷◌, [], None, Some, sym, ap, ◌∙◌}
 use Rattle.std.proofs.lemmas.Bool.{cond-true, cond-false, eq-eqb, ne_eqb}
 use Rattle.std.proofs.lemmas.List.{append-nil}
-use Rattle.tool_text.proofs.Folds.{option_arguments_more}
-use Rattle.tool_text.proofs.option_arguments.option_arguments.Goals as goal
-use Rattle.tool_text.proofs.option_arguments.option_arguments.Goals.{then-option-letter+in-Some+in_ok-add, then-option-letter+in_default, else-option-letter}
+use Rattle.elfkit_words.proofs.Folds.{option_arguments_more}
+use Rattle.elfkit_words.proofs.option_arguments.option_arguments.Goals as goal
+use Rattle.elfkit_words.proofs.option_arguments.option_arguments.Goals.{then-option-letter+in-Some+in_ok-add, then-option-letter+in_default, else-option-letter}
 
 pub loop-option-preserved : goal.loop-option-preserved
 loop-option-preserved c =

@@ -1,8 +1,8 @@
 use Rattle.std.proofs.Common.{None}
-use Rattle.tool_text.specs.Splitting.{split_of}
-use Rattle.tool_text.proofs.OptionRules.{split_rules}
-use Rattle.tool_text.proofs.OneSplit.{one_split}
-use Rattle.tool_text.proofs.rules.split_follows_rules.Goals as goal
+use Rattle.elfkit_words.specs.Splitting.{split_of}
+use Rattle.elfkit_words.proofs.OptionRules.{split_rules}
+use Rattle.elfkit_words.proofs.OneSplit.{one_split}
+use Rattle.elfkit_words.proofs.rules.split_follows_rules.Goals as goal
 
 pub returns-clause-follows : goal.returns-clause-follows
 returns-clause-follows c = split_rules

@@ -1,7 +1,7 @@
 use Rattle.std.proofs.Common.{◌<◌, get_or, ap, arith, rules}
 use Rattle.std.proofs.lemmas.Str.{IsCharBoundary-after_ascii}
-use Rattle.tool_text.proofs.Groups.{option_argument_apart, option_argument_joined, alone_taken, letter_refused, group_ended, none_from_map}
-use Rattle.tool_text.proofs.splitting.read_group.Goals as goal
+use Rattle.elfkit_words.proofs.Groups.{option_argument_apart, option_argument_joined, alone_taken, letter_refused, group_ended, none_from_map}
+use Rattle.elfkit_words.proofs.splitting.read_group.Goals as goal
 
 pub returns-then-i-letters : goal.returns-then-i-letters
 returns-then-i-letters c =

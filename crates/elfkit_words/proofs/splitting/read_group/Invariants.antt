@@ -1,6 +1,6 @@
 use Rattle.std.proofs.Common.{◌≡◌, drop}
-use Rattle.tool_text.specs.Splitting.{group_of, group_after}
-use Rattle.tool_text.proofs.splitting.read_group.Given as goal
+use Rattle.elfkit_words.specs.Splitting.{group_of, group_after}
+use Rattle.elfkit_words.proofs.splitting.read_group.Given as goal
 
 -- the letters that are left give what the whole word gives
 abbrev pub invariant-loop-i : goal.invariant-loop-i

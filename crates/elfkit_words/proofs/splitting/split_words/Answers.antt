@@ -1,10 +1,10 @@
 use Rattle.std.proofs.Common.{◌≡◌, [], ◌∷◌, true, false, drop, codes, bytes_eq, Some, None, ap, sym, ◌∙◌, rules}
 use Rattle.std.proofs.lemmas.List.{nil_from_length}
 use Rattle.std.proofs.lemmas.Result.{err_from_is_err_and}
-use Rattle.tool_text.specs.Splitting.{split_of, split_after, is_option_word}
-use Rattle.tool_text.proofs.Splits.{with_options, words_ended, operand_met, end_met, help_met, group_refused, group_taken, group_fault, option_argument_missing, option_argument_taken}
-use Rattle.tool_text.proofs.splitting.split_words.Goals as goal
-use Rattle.tool_text.proofs.splitting.split_words.Goals.{After-read_group, In_ok-letter, in-Some+then-not-is_option_word, in-Some+else-not-is_option_word+then-eq, in_default}
+use Rattle.elfkit_words.specs.Splitting.{split_of, split_after, is_option_word}
+use Rattle.elfkit_words.proofs.Splits.{with_options, words_ended, operand_met, end_met, help_met, group_refused, group_taken, group_fault, option_argument_missing, option_argument_taken}
+use Rattle.elfkit_words.proofs.splitting.split_words.Goals as goal
+use Rattle.elfkit_words.proofs.splitting.split_words.Goals.{After-read_group, In_ok-letter, in-Some+then-not-is_option_word, in-Some+else-not-is_option_word+then-eq, in_default}
 
 -- the words from here on give what is left of the whole
 so_far : (c : After-read_group) → split_after c.loop-word.options (split_of c.args.usage None (c.in-Some.word.now ∷ c.in-Some.after.now)) ≡ split_of c.args.usage None c.args.words.now

@@ -1,6 +1,6 @@
 use Rattle.std.proofs.Common.{◌≡◌, None, length}
-use Rattle.tool_text.specs.Splitting.{split_of, split_after}
-use Rattle.tool_text.proofs.splitting.split_words.Given as goal
+use Rattle.elfkit_words.specs.Splitting.{split_of, split_after}
+use Rattle.elfkit_words.proofs.splitting.split_words.Given as goal
 
 -- the words that are left complete what the options so far begin
 abbrev pub invariant-loop-word : goal.invariant-loop-word

@@ -1,6 +1,6 @@
 use Rattle.std.proofs.Common.{Some}
 use Rattle.std.proofs.lemmas.Result.{err_from_is_err_and}
-use Rattle.tool_text.specs.declared.commands.CallsOutput.TheVariants.{InPlace}
+use Rattle.calls_update.specs.declared.outputs.CallsOutput.TheVariants.{InPlace}
 use Rattle.edit_commands.proofs.CallsLemmas.{left_then}
 use Rattle.edit_commands.proofs.CallsUpdateLemmas.{others_unwritten, update_done, no_update_done, update_stopped}
 use Rattle.edit_commands.proofs.commands.calls_in_place.calls_in_place.Goals as goal

@@ -1,6 +1,6 @@
 use Rattle.std.proofs.Common.{Some}
 use Rattle.std.proofs.lemmas.Result.{err_from_is_err_and}
-use Rattle.tool_text.specs.declared.commands.CallsOutput.TheVariants.{To}
+use Rattle.calls_update.specs.declared.outputs.CallsOutput.TheVariants.{To}
 use Rattle.edit_commands.proofs.CallsLemmas.{left_then}
 use Rattle.edit_commands.proofs.CallsUpdateLemmas.{unwritten, update_done, no_update_done, update_stopped}
 use Rattle.edit_commands.proofs.commands.calls_to.calls_to.Goals as goal

@@ -1,8 +1,9 @@
 //! The usage lines, and the words that they refuse.
 
 use super::{Comparison, Reading, are_read_as, is_read_as};
+use elfkit_words::{Usage, WordsFault};
 use std::alloc::Global;
-use tool_text::{Args, Usage, WordsFault};
+use tool_text::Args;
 
 /// Lines that name no command.
 const NO_COMMAND: [&str; 13] = [

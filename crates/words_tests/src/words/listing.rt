@@ -1,7 +1,9 @@
 //! The commands that list what files hold.
 
 use super::{Comparison, Reading, Row, all_hold, are, command};
-use tool_text::{Args, Command, NmOptions, Radix, ReadelfParts, StringsOptions};
+use elfkit_words::Command;
+use elfkit_words::prelude::{NmOptions, ReadelfParts, StringsOptions};
+use tool_text::{Args, Radix};
 
 /// The letters of readelf's parts, for the file F.
 struct Readelf;

@@ -1,7 +1,8 @@
 //! The changes of copy. What is wanted of a list stands behind its letter, each item behind a bar.
 
 use super::{Comparison, Reading, Row, Worded, all_hold, are, are_two, command, is};
-use tool_text::{Command, CopyChanges, NamedBits, NamedFile, Renaming};
+use elfkit_words::Command;
+use elfkit_words::prelude::{CopyChanges, NamedBits, NamedFile, Renaming};
 
 /// The lists of copy that have items, for the output O and the file F.
 struct Letters;

@@ -1,6 +1,6 @@
 //! Words that are numbers.
 
-use tool_text::{script_number, word_number};
+use elfkit_words::{script_number, word_number};
 
 /// Words, and the number of the command line that each is.
 const OF_WORDS: [(&str, Option<u64>); 9] = [

@@ -10,8 +10,9 @@ mod refusals;
 mod writing;
 
 use elf_types::ElfError;
+use elfkit_words::{Command, Request, WordsFault, read_words};
 use std::alloc::Global;
-use tool_text::{Args, Command, Request, Text, WordsFault, read_words};
+use tool_text::{Args, Text};
 
 /// A line, and a text that tells what it is to be read as.
 type Row = (&'static str, &'static str);

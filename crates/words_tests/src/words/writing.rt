@@ -1,7 +1,9 @@
 //! The commands that write a file, but for the changes of copy.
 
 use super::{Comparison, Reading, Row, all_hold, are, are_two, command, is};
-use tool_text::{CallsOutput, Command, StripOptions, Text};
+use elfkit_words::Command;
+use elfkit_words::prelude::{CallsOutput, StripOptions};
+use tool_text::Text;
 
 /// Whether a text is this one, behind `=`, or there is neither.
 fn is_maybe(text: &Option<Text>, wanted: &str) -> bool {

@@ -1,7 +1,7 @@
 //! Help and the version: where they are asked for, and what they show.
 
 use super::{Comparison, Reading, Row, all_hold};
-use tool_text::{Notice, Request, Usage};
+use elfkit_words::{Notice, Request, Usage};
 
 /// What elfkit tells of itself: its version, or help on the command of this name.
 struct Told;

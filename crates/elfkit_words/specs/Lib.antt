@@ -1,0 +1,8 @@
+pub use Rattle.copy_changes.specs as copy_changes
+pub mod Forms
+pub mod Notices
+pub mod Numbers
+pub mod Reading
+pub mod Rules
+pub mod Splitting
+pub mod Usages
