@@ -1,5 +1,5 @@
 -- What strip and rehash keep, and how hash sections are built, as laws over the definitions. They
--- are stated here; section 10 of docs/COMMANDS.md says which of them are proved.
+-- are stated here; docs/PROVED.md says which of them are proved.
 use Rattle.std.specs.Prelude.{◌≡◌, ◌↔◌, ℕ, ◌+◌, ◌<◌, ◌≤◌, ◌^◌, Bool, true, false, ◌&&◌, nat_le, nat_lt, List, [], ◌∷◌, length, slice_get, slice_index, All, Option, Some, None, Result, Ok, Err}
 use Rattle.std.proofs.Math.ListN.{replicate}
 use Rattle.std.specs.List.{list_any, range_with_len}

@@ -1,4 +1,4 @@
--- How the answer that came meets the stated one: one family of words. docs/OBJECT.md has the table
+-- How the answer that came meets the stated one: one family of words. docs/MODEL.md has the table
 -- of which call uses which.
 --
 -- Memory, want of memory, is tied to nothing, and the cause of Read is a count of the outside. Both

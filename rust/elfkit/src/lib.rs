@@ -29,7 +29,7 @@
 //! # What is proved, and what is trusted
 //!
 //! The core is a static library, `libelfkit.a`, of elfkit's calls, which are proved: each export
-//! `elfkit_*` gives exactly the answer that docs/OBJECT.md states, is refused exactly where it is
+//! `elfkit_*` gives exactly the answer that docs/MODEL.md states, is refused exactly where it is
 //! stated, touches no memory that it was not handed, and returns, on every input. The doc comment
 //! of a call here names the exports whose clauses it rests on; the clauses are in
 //! `crates/elfkit_c/src`.

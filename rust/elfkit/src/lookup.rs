@@ -5,7 +5,7 @@
 //! listed by the name. In a hash section that a link editor made all three find the same.
 //!
 //! The core has no export for a lookup, but for the two hashes: these walks are this crate's. They
-//! are written after the definitions of docs/OBJECT.md, and tested, beside each other and beside
+//! are written after the definitions of docs/MODEL.md, and tested, beside each other and beside
 //! the crate `object`.
 
 use crate::error::{Error, Result};
