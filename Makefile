@@ -5,6 +5,7 @@
 #   make try ARGS="WORDS"      the program without any proof, for a first look
 #   make test                  the gate: all proofs, tests and edits that must fail
 #   make edits                 the edits of crates/*/edits/, which the gate does not try
+#   make docs                  the pages and pictures that scripts write: the map of the crates and others
 #   make bench                 the times of bench/ beside other programs, in one table
 #   make install PREFIX=..     the program, its manual page and its completion
 #   make lib                   the library for C, build/libelf.so.1 and build/libelfkit.a
@@ -26,7 +27,7 @@ sources := $(shell find crates -path '*/out' -prune -o -type f -print)
 
 needs := $(addprefix needs-,make try test edits lib test-elfutils test-rust dist deb)
 
-.PHONY: all try test edits bench install lib test-c check-c coverage-c fuzz-c test-programs test-elfutils \
+.PHONY: all try test edits docs bench install lib test-c check-c coverage-c fuzz-c test-programs test-elfutils \
     install-lib rust-lib test-rust dist deb clean $(needs)
 # tools/build uses all processors by itself, and what a step needs is said before it begins.
 .NOTPARALLEL:
@@ -50,6 +51,9 @@ test: needs-test
 
 edits: needs-edits
 	@tools/try-edits
+
+docs:
+	@tools/layers
 
 bench: build/elfkit
 	@tools/bench
