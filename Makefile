@@ -54,6 +54,7 @@ edits: needs-edits
 
 docs:
 	@tools/layers
+	@tools/proved
 
 bench: build/elfkit
 	@tools/bench
