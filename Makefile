@@ -55,6 +55,7 @@ edits: needs-edits
 docs:
 	@tools/layers
 	@tools/proved
+	@tools/draw
 
 bench: build/elfkit
 	@tools/bench

@@ -10,14 +10,8 @@ COLOURS = {
     "line": ("#7d93a8", "#4a6078"),
     "own": ("#1a6fc4", "#58a6ff"),
     "other": ("#b4bec9", "#4b5662"),
-    "changed": ("#d97706", "#f0a23b"),
-    "gone": ("#f1d9d9", "#4a2526"),
+    "changed": ("#fbd9a4", "#6b4410"),
 }
-
-
-def text_width(text, size, mono=False):
-    """About how wide a text is: of letters of one width exactly, of others what the widest fonts take."""
-    return len(text) * size * (0.61 if mono else 0.6)
 
 
 class Picture:
@@ -38,7 +32,7 @@ class Picture:
 
     def path(self, points, fill="box"):
         joined = " ".join(f"{x:.1f},{y:.1f}" for x, y in points)
-        self.shapes.append(f'<polygon class="f-{fill}" opacity="0.6" points="{joined}"/>')
+        self.shapes.append(f'<polygon class="f-{fill}" opacity="0.7" points="{joined}"/>')
 
     def done(self, height):
         """The text of the file."""
