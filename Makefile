@@ -7,7 +7,7 @@
 #   make edits                 the edits of crates/*/edits/, which the gate does not try
 #   make docs                  the pages and pictures that scripts write: the map of the crates and others
 #   make bench                 the times of bench/ beside other programs, in one table
-#   make install PREFIX=..     the program, its manual page and its completion
+#   make install PREFIX=..     the program, its manual pages and its completion
 #   make lib                   the library for C, build/libelf.so.1 and build/libelfkit.a
 #   make test-c                the tests of the library for C, with sanitizers
 #   make check-c               gcc's and clang's analyzers over its layer of C
@@ -61,10 +61,12 @@ bench: build/elfkit
 	@tools/bench
 
 install: build/elfkit
-	install -d $(DESTDIR)$(PREFIX)/bin $(DESTDIR)$(PREFIX)/share/man/man1
+	install -d $(DESTDIR)$(PREFIX)/bin
+	install -d $(DESTDIR)$(PREFIX)/share/man/man1 $(DESTDIR)$(PREFIX)/share/man/man5
 	install -d $(DESTDIR)$(PREFIX)/share/bash-completion/completions
 	install -m 755 build/elfkit $(DESTDIR)$(PREFIX)/bin/elfkit
-	install -m 644 man/elfkit.1 $(DESTDIR)$(PREFIX)/share/man/man1/elfkit.1
+	install -m 644 man/elfkit.1 $(DESTDIR)$(PREFIX)/share/man/man1
+	install -m 644 man/elfkit-calls.5 $(DESTDIR)$(PREFIX)/share/man/man5
 	install -m 644 completions/elfkit.bash \
 	    $(DESTDIR)$(PREFIX)/share/bash-completion/completions/elfkit
 
