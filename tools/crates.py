@@ -7,7 +7,7 @@ CRATES = TOP / "crates"
 
 
 class Group:
-    """The crates behind a comment of crates.txt, in its order, each with the crates that its line names."""
+    """The crates after a comment of crates.txt, in its order, each with the crates that its line names."""
 
     def __init__(self, title):
         self.title = title
