@@ -6,6 +6,7 @@
 #   make test                  the gate: all proofs, tests and edits that must fail
 #   make edits                 the edits of crates/*/edits/, which the gate does not try
 #   make docs                  the pages and pictures that scripts write: the map of the crates and others
+#   make test-docs             what is stale in the pages: examples, links, names, sizes
 #   make bench                 the times of bench/ beside other programs, in one table
 #   make install PREFIX=..     the program, its manual pages and its completion
 #   make lib                   the library for C, build/libelf.so.1 and build/libelfkit.a
@@ -27,7 +28,7 @@ sources := $(shell find crates -path '*/out' -prune -o -type f -print)
 
 needs := $(addprefix needs-,make try test edits lib test-elfutils test-rust dist deb)
 
-.PHONY: all try test edits docs bench install lib test-c check-c coverage-c fuzz-c test-programs test-elfutils \
+.PHONY: all try test edits docs test-docs bench install lib test-c check-c coverage-c fuzz-c test-programs test-elfutils \
     install-lib rust-lib test-rust dist deb clean $(needs)
 # tools/build uses all processors by itself; tools/needs checks what a step needs before it begins.
 .NOTPARALLEL:
@@ -56,6 +57,9 @@ docs:
 	@tools/layers
 	@tools/proved
 	@tools/draw
+
+test-docs:
+	@tools/test-docs
 
 bench: build/elfkit
 	@tools/bench
