@@ -2,11 +2,13 @@
 #
 #   make                       the program build/elfkit, a line for each crate that is proved;
 #                              LANES=N proves N at a time, else one for each processor
-#   make try ARGS="WORDS"      the program without any proof, for a first look
+#   make try ARGS="ARGUMENTS"  the program without any proof, for a first look
 #   make test                  the gate: all proofs, tests and edits that must fail
 #   make edits                 the edits of crates/*/edits/, which the gate does not try
+#   make docs                  the pages and pictures that scripts write: the map of the crates and others
+#   make test-docs             what is stale in the pages: examples, links, names, sizes
 #   make bench                 the times of bench/ beside other programs, in one table
-#   make install PREFIX=..     the program, its manual page and its completion
+#   make install PREFIX=..     the program, its manual pages and its completion
 #   make lib                   the library for C, build/libelf.so.1 and build/libelfkit.a
 #   make test-c                the tests of the library for C, with sanitizers
 #   make check-c               gcc's and clang's analyzers over its layer of C
@@ -17,8 +19,8 @@
 #   make rust-lib              what the crate for Rust links, build/libelfkit.a and build/liblibc_c.a
 #   make test-rust             the tests of the crate for Rust, rust/elfkit
 #   make install-lib PREFIX=.. the library for C, its headers and its pkg-config files
-#   make dist GATE=LOG         a tar file of the program and the library, in build/dist; the log of a
-#                              gate can be left out
+#   make dist GATE=LOG         a tar file of the program and the library, in build/dist; GATE names the
+#                              log of a gate and is optional
 #   make deb GATE=LOG          Debian packages of both, in build/deb
 PREFIX ?= /usr/local
 ARGS ?= readelf -h -l /bin/true
@@ -26,9 +28,9 @@ sources := $(shell find crates -path '*/out' -prune -o -type f -print)
 
 needs := $(addprefix needs-,make try test edits lib test-elfutils test-rust dist deb)
 
-.PHONY: all try test edits bench install lib test-c check-c coverage-c fuzz-c test-programs test-elfutils \
+.PHONY: all try test edits docs test-docs bench install lib test-c check-c coverage-c fuzz-c test-programs test-elfutils \
     install-lib rust-lib test-rust dist deb clean $(needs)
-# tools/build uses all processors by itself, and what a step needs is said before it begins.
+# tools/build uses all processors by itself; tools/needs checks what a step needs before it begins.
 .NOTPARALLEL:
 
 all: build/elfkit
@@ -38,7 +40,7 @@ build/elfkit: crates.txt $(sources)
 	@tools/build elfkit
 	@rt version > build/kit
 
-# What is not on this machine is said in one line, with the package that has it.
+# One line names what this machine lacks, with the package that has it.
 $(needs): needs-%:
 	@CC='$(CC)' tools/needs $*
 
@@ -51,21 +53,31 @@ test: needs-test
 edits: needs-edits
 	@tools/try-edits
 
+docs:
+	@tools/layers
+	@tools/proved
+	@tools/draw
+
+test-docs:
+	@tools/test-docs
+
 bench: build/elfkit
 	@tools/bench
 
 install: build/elfkit
-	install -d $(DESTDIR)$(PREFIX)/bin $(DESTDIR)$(PREFIX)/share/man/man1
+	install -d $(DESTDIR)$(PREFIX)/bin
+	install -d $(DESTDIR)$(PREFIX)/share/man/man1 $(DESTDIR)$(PREFIX)/share/man/man5
 	install -d $(DESTDIR)$(PREFIX)/share/bash-completion/completions
 	install -m 755 build/elfkit $(DESTDIR)$(PREFIX)/bin/elfkit
-	install -m 644 man/elfkit.1 $(DESTDIR)$(PREFIX)/share/man/man1/elfkit.1
+	install -m 644 man/elfkit.1 $(DESTDIR)$(PREFIX)/share/man/man1
+	install -m 644 man/elfkit-calls.5 $(DESTDIR)$(PREFIX)/share/man/man5
 	install -m 644 completions/elfkit.bash \
 	    $(DESTDIR)$(PREFIX)/share/bash-completion/completions/elfkit
 
 # ---- The library for C: the proved core, and a layer of C with libelf's names over it
 
 CFLAGS ?= -O2 -g
-# gcc's mark of a part of a variable that is not set is not known to libdw.
+# libdw does not know gcc's mark of a variable's part that is not set.
 no_mark := -fno-var-tracking-uninit
 capi_debug := $(shell $(CC) $(no_mark) -Werror -E -x c /dev/null > /dev/null 2>&1 && echo $(no_mark))
 kit = $(dir $(shell rt doc))

@@ -9,7 +9,7 @@ need() {
     [ "$(id -u)" -eq 0 ] || { echo "$0: it makes a root, and so has to run as root" >&2; exit 2; }
     for tool in "$@"; do
         command -v "$tool" > /dev/null && continue
-        echo "$0 needs what is not here: $tool (Debian: $tool)" >&2
+        echo "$0 lacks: $tool (Debian: $tool)" >&2
         exit 2
     done
 }
