@@ -24,7 +24,7 @@
 #   make deb GATE=LOG          Debian packages of both, in build/deb
 PREFIX ?= /usr/local
 ARGS ?= readelf -h -l /bin/true
-sources := $(shell find crates -path '*/out' -prune -o -type f -print)
+sources := $(shell find crates -mindepth 2 -path '*/out' -prune -o -type f -print)
 
 needs := $(addprefix needs-,make try test edits lib test-elfutils test-rust dist deb)
 

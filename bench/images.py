@@ -13,8 +13,8 @@ def section(kind, offset, size, link=0, info=0, align=1, entry=0, flags=0, name=
 
 
 def assembled(content, headers, names, of=RELOCATABLE):
-    """An image whose contents follow its ELF header, and are followed by its section headers. Counts
-    that do not fit the ELF header are in section 0 as it is handed over."""
+    """An image whose contents follow its ELF header, and are followed by its section headers.
+    Counts that do not fit the ELF header are in section 0 as it is handed over."""
     count, shoff = len(headers), 64 + len(content)
     counts = (0, 0xFFFF) if count >= 0xFF00 else (count, names)
     ident = b"\x7fELF\x02\x01\x01" + bytes(9)
@@ -23,8 +23,8 @@ def assembled(content, headers, names, of=RELOCATABLE):
 
 
 def image(sections, names=(), of=SHARED):
-    """An image with these sections after section 0: type, flags, body, link, info, alignment and size
-    of an entry. A last one holds their names, which are empty where none are given."""
+    """An image with these sections after section 0: type, flags, body, link, info, alignment and
+    size of an entry. A last one holds their names, which are empty where none are given."""
     count = len(sections) + 2
     first = section(0, 0, count, count - 1, align=0) if count >= 0xFF00 else bytes(64)
     content, headers = bytearray(), [first]
@@ -76,7 +76,8 @@ def object_of(functions, symbols, size):
     for i, at in enumerate(places):
         table.append(struct.pack("<IBBHQQ", at, 0x12, 0, i % functions + 1, 0, size))
     sections = [(PROGBITS, 6, bytes(size), 0, 0, 16, 0)] * functions
-    sections += [(SYMTAB, 0, b"".join(table), functions + 2, 1, 8, 24), (STRTAB, 0, strings, 0, 0, 1, 0)]
+    sections.append((SYMTAB, 0, b"".join(table), functions + 2, 1, 8, 24))
+    sections.append((STRTAB, 0, strings, 0, 0, 1, 0))
     named = [b".text." + name for name in names[:functions]]
     return image(sections, [*named, b".symtab", b".strtab"], RELOCATABLE)
 
@@ -123,7 +124,8 @@ def names_alone():
 def five_sections():
     """Five sections of eight bytes from 64 on."""
     content = b"".join(bytes([i]) * 8 for i in range(1, 6))
-    return assembled(content, [bytes(64)] + [section(1, 56 + 8 * i, 8, align=8) for i in range(1, 6)], 0)
+    headers = [section(1, 56 + 8 * i, 8, align=8) for i in range(1, 6)]
+    return assembled(content, [bytes(64), *headers], 0)
 
 
 def names_of_one_hash():

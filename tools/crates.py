@@ -7,7 +7,7 @@ CRATES = TOP / "crates"
 
 
 class Group:
-    """The crates after a comment of crates.txt, in its order, each with the crates that its line names."""
+    """The crates after a comment of crates.txt, each with the crates that its line names."""
 
     def __init__(self, title):
         self.title = title
@@ -56,10 +56,11 @@ def right_below(lines):
     """The crates that each depends on and reaches by no other one, in the order of crates.txt."""
     deep = all_below(lines)
     order = {name: i for i, name in enumerate(lines)}
-    return {
-        name: sorted({it for it in below if not any(it in deep[other] for other in below)}, key=order.get)
-        for name, below in lines.items()
-    }
+    found = {}
+    for name, below in lines.items():
+        right = {it for it in below if not any(it in deep[other] for other in below)}
+        found[name] = sorted(right, key=order.get)
+    return found
 
 
 def root_of(name):

@@ -1,4 +1,4 @@
-"""The pictures of docs/, which scripts draw of data: shapes and texts as SVG, readable in light and dark."""
+"""The pictures of docs/, which scripts draw of data: SVG that is readable in light and dark."""
 from html import escape
 
 # by name: in light, in dark
@@ -21,14 +21,15 @@ class Picture:
     def box(self, x, y, width, height, fill="box", line="line", round_by=4):
         edge = f" e-{line}" if line else ""
         self.shapes.append(
-            f'<rect class="f-{fill}{edge}" x="{x:.1f}" y="{y:.1f}" width="{width:.1f}" height="{height:.1f}"'
-            f' rx="{round_by}"/>')
+            f'<rect class="f-{fill}{edge}" x="{x:.1f}" y="{y:.1f}"'
+            f' width="{width:.1f}" height="{height:.1f}" rx="{round_by}"/>')
 
     def text(self, x, y, text, style="", fill="ink", size=12, anchor="start"):
         words = " ".join(f"t-{it}" for it in style.split())
         at = "" if anchor == "start" else f' text-anchor="{anchor}"'
         self.shapes.append(
-            f'<text class="f-{fill} {words}" x="{x:.1f}" y="{y:.1f}" font-size="{size}"{at}>{escape(text)}</text>')
+            f'<text class="f-{fill} {words}" x="{x:.1f}" y="{y:.1f}" font-size="{size}"{at}>'
+            f"{escape(text)}</text>")
 
     def path(self, points, fill="box"):
         joined = " ".join(f"{x:.1f},{y:.1f}" for x, y in points)

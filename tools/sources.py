@@ -5,7 +5,8 @@ from collections import defaultdict
 from crates import CRATES, read_lines
 
 BLOCK = re.compile(r"^(?:unsafe )?(?:pub(?:\([a-z]+\))? )?(impl|trait|enum|struct|mod)\b(.*)$")
-FN = re.compile(r'^(\s*)((?:pub(?:\([a-z]+\))? )?(?:const )?(?:unsafe )?(?:extern "C" )?)fn ([a-z_0-9]+)')
+HEAD = r'(?:pub(?:\([a-z]+\))? )?(?:const )?(?:unsafe )?(?:extern "C" )?'
+FN = re.compile(rf"^(\s*)({HEAD})fn ([a-z_0-9]+)")
 ENSURES = re.compile(r"^\s*ensures\*? (?:([a-z_0-9]+) )?\{")
 WORDS = r"(?:(?:abbrev|unfoldable|opaque|data|record|inductive|pub) )"
 RECORD = re.compile(rf"^{WORDS}+([^\s:(){{}}]+)")
@@ -55,11 +56,12 @@ def functions_of(path):
         elif line == "}":
             of = ""
         if it := FN.match(line):
-            head = Function(it[3], of if it[1] else "", path, it[2].startswith("pub ") or bool(it[1]))
+            public = it[2].startswith("pub ") or bool(it[1])
+            head = Function(it[3], of if it[1] else "", path, public)
             found.append(head)
         elif head is not None and (clause := ENSURES.match(line)):
             head.clauses.append(clause[1] or "")
-        if head is not None and (line.endswith(";") or line.endswith("{}")) and not ENSURES.match(line):
+        if line.endswith((";", "{}")) and not ENSURES.match(line):
             head = None
     return found
 
