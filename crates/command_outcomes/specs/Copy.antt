@@ -3,7 +3,7 @@ use Rattle.std.specs.Prelude.{ℕ, List, ◌++◌, map, Result, Ok, codes}
 use Rattle.elf_types.specs.Answers.{◌>>=◌}
 use Rattle.elf_types.specs.Text.{error_text}
 use Rattle.object_output.specs.elf_outside.Names.{Map}
-use Rattle.command_outcomes.specs.copy_changes.declared.options.CopyChanges.{CopyChanges}
+use Rattle.copy_changes.specs.declared.options.CopyChanges.{CopyChanges}
 use Rattle.command_objects.specs.Copied.{Changes, CopyFault, copied}
 use Rattle.command_objects.specs.Copied.CopyFault.{NoSection, NoBytes, Allocated, Fixed, NoTable, Strip}
 use Rattle.command_objects.specs.Rehashed.{RehashFault, rehashed}

@@ -3,7 +3,7 @@ use Rattle.std.specs.Prelude.{ℕ, List, [], ◌∷◌, Result, Ok, codes}
 use Rattle.elf_types.specs.Answers.{or_refused, ◌>>=◌}
 use Rattle.command_objects.specs.elf_object.Object.{Object}
 use Rattle.object_output.specs.elf_outside.Names.{Map}
-use Rattle.command_outcomes.specs.copy_changes.declared.options.NamedFile.{NamedFile}
+use Rattle.copy_changes.specs.declared.options.NamedFile.{NamedFile}
 use Rattle.object_output.specs.tool_output.Made.{Complaint, complaint, of_file}
 use Rattle.object_output.specs.Images.{file_object}
 

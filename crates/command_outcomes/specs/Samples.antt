@@ -3,7 +3,7 @@ use Rattle.std.specs.Prelude.{ℕ, Bool, false, List, [], ◌∷◌, codes, map,
 use Rattle.std.specs.Str.{bytes_eq}
 use Rattle.object_output.specs.elf_outside.Names.{Map}
 use Rattle.command_outcomes.specs.declared.options.StripOptions.{StripOptions}
-use Rattle.command_outcomes.specs.copy_changes.declared.options.CopyChanges.{CopyChanges}
+use Rattle.copy_changes.specs.declared.options.CopyChanges.{CopyChanges}
 use Rattle.command_objects.specs.elf_object.Samples.{small64, header64, with_number}
 use Rattle.object_output.specs.tool_output.Marks.{Mark, said}
 use Rattle.object_output.specs.tool_output.Outcomes.{Outcome, FileWrite, write_of, held_after}
