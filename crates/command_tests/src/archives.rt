@@ -4,6 +4,7 @@ use elf_types::ElfError;
 use std::alloc::Global;
 use test_cases::{Case, Portion, RUN, Stored, are_so, bytes_of};
 use test_images::{NARROW, OBJECT, Recipe};
+use test_rows::same;
 use test_runs::prelude::ReadelfParts;
 use test_runs::{DONE, Ending, REFUSED, asked};
 
@@ -109,7 +110,7 @@ static DAMAGES: [Case; 5] = [
 
 #[test]
 fn members_are_shown_up_to_a_bad_header(rt: HostRuntime) {
-    assert!(rt; are_so(rt.alloc(), &[], &DAMAGES));
+    assert!(rt; are_so(&rt, &[], &DAMAGES));
 }
 
 /// The object in class 32, the greatest byte first, of 208 bytes.
@@ -155,7 +156,7 @@ static INNER: [Case; 2] = [
 
 #[test]
 fn an_inner_archive_is_no_image_and_an_empty_one_shows_nothing(rt: HostRuntime) {
-    assert!(rt; are_so(rt.alloc(), &[], &INNER));
+    assert!(rt; are_so(&rt, &[], &INNER));
 }
 
 /// The parts of `readelf -h`.
@@ -187,5 +188,5 @@ const DUE: u64 = 8 + 8 + 5 * 60 + 27 + 64 + 3 * 64;
 
 #[test]
 fn a_body_is_not_read_whole(rt: HostRuntime) {
-    assert!(rt; asked_of_library(rt.alloc()) == Ok(DUE));
+    assert!(rt; same(&rt, &asked_of_library(rt.alloc()), &Ok(DUE)));
 }

@@ -53,5 +53,5 @@ static BAD_MEMBERS: [Case; 3] = [
 
 #[test]
 fn a_bad_header_of_a_member_has_a_message(rt: HostRuntime) {
-    assert!(rt; are_so(rt.alloc(), &[], &BAD_MEMBERS));
+    assert!(rt; are_so(&rt, &[], &BAD_MEMBERS));
 }

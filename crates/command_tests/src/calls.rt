@@ -107,7 +107,7 @@ static LINES: [Case; 9] = [
 
 #[test]
 fn each_call_of_a_script_has_its_line(rt: HostRuntime) {
-    assert!(rt; are_so(rt.alloc(), &[], &LINES));
+    assert!(rt; are_so(&rt, &[], &LINES));
 }
 
 /// A section whose size is no multiple of its item, and one that passes the end of the file.
@@ -141,7 +141,7 @@ static CHANGED: [Case; 2] = [
 
 #[test]
 fn raw_shows_what_the_items_of_a_section_can_not(rt: HostRuntime) {
-    assert!(rt; are_so(rt.alloc(), &[], &CHANGED));
+    assert!(rt; are_so(&rt, &[], &CHANGED));
 }
 
 /// The object where section 0 holds the number of sections, 3, and the string index.
@@ -183,7 +183,7 @@ static NUMBERS: [Case; 2] = [
 
 #[test]
 fn ehdr_shows_the_numbers_that_section_0_holds(rt: HostRuntime) {
-    assert!(rt; are_so(rt.alloc(), &[], &NUMBERS));
+    assert!(rt; are_so(&rt, &[], &NUMBERS));
 }
 
 /// A run over a file of no bytes. The second file is not handed out: a run that asks for it ends
@@ -240,7 +240,7 @@ static REFUSALS: [Case; 5] = [
 
 #[test]
 fn a_script_with_a_bad_line_opens_no_file(rt: HostRuntime) {
-    assert!(rt; are_so(rt.alloc(), &[], &REFUSALS));
+    assert!(rt; are_so(&rt, &[], &REFUSALS));
 }
 
 /// A run over a script alone.
@@ -272,7 +272,7 @@ static LENGTHS: [Case; 2] = [
 
 #[test]
 fn a_script_has_at_most_a_mebibyte(rt: HostRuntime) {
-    assert!(rt; are_so(rt.alloc(), &[], &LENGTHS));
+    assert!(rt; are_so(&rt, &[], &LENGTHS));
 }
 
 /// Bytes of the file F that are no image, the words, and the message.
@@ -326,7 +326,7 @@ static FILES: [Case; 5] = [
 
 #[test]
 fn what_is_no_script_or_no_image_has_its_message(rt: HostRuntime) {
-    assert!(rt; are_so(rt.alloc(), &[], &FILES));
+    assert!(rt; are_so(&rt, &[], &FILES));
 }
 
 /// An archive is refused.
@@ -342,7 +342,7 @@ static ARCHIVE: [Case; 1] = [Case {
 
 #[test]
 fn an_archive_is_no_image(rt: HostRuntime) {
-    assert!(rt; are_so(rt.alloc(), &[], &ARCHIVE));
+    assert!(rt; are_so(&rt, &[], &ARCHIVE));
 }
 
 /// A run over five sections, of which each read fails that begin does not need.
@@ -397,7 +397,7 @@ static READS: [Case; 3] = [
 
 #[test]
 fn a_section_is_read_at_the_first_call_that_names_it(rt: HostRuntime) {
-    assert!(rt; are_so(rt.alloc(), &[], &READS));
+    assert!(rt; are_so(&rt, &[], &READS));
 }
 
 /// A run that ends where a file is not handed out.
@@ -424,5 +424,5 @@ static OPENS: [Case; 2] = [
 
 #[test]
 fn a_failed_open_stops_the_run(rt: HostRuntime) {
-    assert!(rt; are_so(rt.alloc(), &[], &OPENS));
+    assert!(rt; are_so(&rt, &[], &OPENS));
 }

@@ -3,12 +3,12 @@
 use crate::archives::LIBRARY;
 use elf_types::constants::{SHN_ABS, SHT_DYNSYM, SHT_GNU_HASH, SHT_HASH, SHT_STRTAB, STB_GLOBAL};
 use elf_types::{ElfError, Phdr, Shdr, Sym};
-use std::alloc::Global;
 use test_cases::{Case, RUN, Stored, are_so, are_so_in_all_forms, is_so};
 use test_images::{
     Content, Field, HeaderField, NULL_SECTION, OBJECT, Put, Recipe, SectionField, Start, WIDE,
     image_of,
 };
+use test_rows::same;
 use test_runs::{DONE, Elflint, Ending, REFUSED, said_by};
 use tool_output::Status;
 
@@ -31,7 +31,7 @@ static SOUND_OBJECT: [Case; 1] = [SOUND];
 
 #[test]
 fn nothing_is_found_in_a_sound_object(rt: HostRuntime) {
-    assert!(rt; are_so_in_all_forms(rt.alloc(), &[], &SOUND_OBJECT));
+    assert!(rt; are_so_in_all_forms(&rt, &[], &SOUND_OBJECT));
 }
 
 /// A field of such an object, the value that it gets, and what is found then: at each kind of place,
@@ -122,7 +122,7 @@ static DAMAGES: [Case; 9] = [
 
 #[test]
 fn damaged_fields_are_found(rt: HostRuntime) {
-    assert!(rt; are_so(rt.alloc(), &[], &DAMAGES));
+    assert!(rt; are_so(&rt, &[], &DAMAGES));
 }
 
 /// A `PT_LOAD` of more bytes than memory, which pass the end of the file.
@@ -153,7 +153,7 @@ static LOADED: [Case; 1] = [Case {
 
 #[test]
 fn findings_of_segments_stand_by_rule(rt: HostRuntime) {
-    assert!(rt; are_so_in_all_forms(rt.alloc(), &[], &LOADED));
+    assert!(rt; are_so_in_all_forms(&rt, &[], &LOADED));
 }
 
 /// The object of an archive is sound, and the other members are no images.
@@ -169,7 +169,7 @@ static MEMBERS: Case = Case {
 
 #[test]
 fn members_of_archives_are_looked_at(rt: HostRuntime) {
-    assert!(rt; is_so(rt.alloc(), &[], &MEMBERS));
+    assert!(rt; is_so(&rt, &[], &MEMBERS));
 }
 
 /// The second file is not there, and the third is the first again; and there is no file.
@@ -197,7 +197,7 @@ static FILES: [Case; 2] = [
 
 #[test]
 fn files_are_looked_at_in_their_order(rt: HostRuntime) {
-    assert!(rt; are_so(rt.alloc(), &[], &FILES));
+    assert!(rt; are_so(&rt, &[], &FILES));
 }
 
 /// Where the section of type `SHT_HASH` stands in the object below.
@@ -347,16 +347,16 @@ static BROKEN: [Case; 12] = [
 
 #[test]
 fn hash_sections_that_are_not_whole_are_found(rt: HostRuntime) {
-    assert!(rt; are_so(rt.alloc(), &[], &BROKEN));
+    assert!(rt; are_so(&rt, &[], &BROKEN));
 }
 
 /// Whether elflint's own call finds nothing in a sound object.
-fn own_call_finds_nothing(alloc: Global) -> Result<bool, ElfError> {
-    let object = image_of(alloc, &OBJECT)?;
-    Ok(said_by(alloc, &Elflint, object)?.is(false, b"F: no findings\n", b""))
+fn own_call_finds_nothing(rt: &HostRuntime) -> Result<bool, ElfError> {
+    let object = image_of(rt.alloc(), &OBJECT)?;
+    Ok(said_by(rt.alloc(), &Elflint, object)?.is(rt, false, b"F: no findings\n", b""))
 }
 
 #[test]
 fn the_own_call_looks_over_two_outputs(rt: HostRuntime) {
-    assert!(rt; own_call_finds_nothing(rt.alloc()) == Ok(true));
+    assert!(rt; same(&rt, &own_call_finds_nothing(&rt), &Ok(true)));
 }

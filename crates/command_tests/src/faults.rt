@@ -69,7 +69,7 @@ static FAULTS: [Case; 5] = [
 
 #[test]
 fn faults_end_the_run_and_keep_what_was_shown(rt: HostRuntime) {
-    assert!(rt; are_so(rt.alloc(), &[], &FAULTS));
+    assert!(rt; are_so(&rt, &[], &FAULTS));
 }
 
 /// A run over the empty file F whose first put to standard error fails.
@@ -98,5 +98,5 @@ static LINES: [Case; 3] = [
 
 #[test]
 fn a_full_standard_error_ends_the_run(rt: HostRuntime) {
-    assert!(rt; are_so(rt.alloc(), &[], &LINES));
+    assert!(rt; are_so(&rt, &[], &LINES));
 }

@@ -2,9 +2,9 @@
 
 use elf_types::constants::{SHF_COMPRESSED, SHT_PROGBITS, SHT_STRTAB};
 use elf_types::{ElfError, Shdr};
-use std::alloc::Global;
 use test_cases::{Case, RUN, Stored, are_so};
 use test_images::{Field, NARROW, NULL_SECTION, Put, Recipe, SectionField, Start, WIDE, image_of};
+use test_rows::same;
 use test_runs::{DONE, Ending, Lines, REFUSED, said_by};
 
 /// The names of the sections.
@@ -169,7 +169,7 @@ static TABLES: [Case; 4] = [
 
 #[test]
 fn units_of_both_forms_are_shown_up_to_one_that_is_cut(rt: HostRuntime) {
-    assert!(rt; are_so(rt.alloc(), &[], &TABLES));
+    assert!(rt; are_so(&rt, &[], &TABLES));
 }
 
 /// A field of section 1, what is put there, and how the run ends then, without output; and a file
@@ -221,19 +221,19 @@ static CHANGES: [Case; 4] = [
 
 #[test]
 fn other_sections_are_refused_or_passed_over(rt: HostRuntime) {
-    assert!(rt; are_so(rt.alloc(), &[], &CHANGES));
+    assert!(rt; are_so(&rt, &[], &CHANGES));
 }
 
 /// The object with the unit, which is lent.
 static OWN: Recipe = Recipe { ..WITH_UNIT };
 
 /// Whether the own call of lines shows the rows of a table.
-fn own_call_shows_the_rows(alloc: Global) -> Result<bool, ElfError> {
-    let object = image_of(alloc, &OWN)?;
-    Ok(said_by(alloc, &Lines, object)?.is(false, LINES, b""))
+fn own_call_shows_the_rows(rt: &HostRuntime) -> Result<bool, ElfError> {
+    let object = image_of(rt.alloc(), &OWN)?;
+    Ok(said_by(rt.alloc(), &Lines, object)?.is(rt, false, LINES, b""))
 }
 
 #[test]
 fn the_own_call_shows_rows_over_two_outputs(rt: HostRuntime) {
-    assert!(rt; own_call_shows_the_rows(rt.alloc()) == Ok(true));
+    assert!(rt; same(&rt, &own_call_shows_the_rows(&rt), &Ok(true)));
 }

@@ -3,11 +3,11 @@
 use crate::archives::{BACK, CUT, FRONT, LIBRARY};
 use elf_types::constants::{SHT_STRTAB, SHT_SYMTAB, SHT_SYMTAB_SHNDX};
 use elf_types::{ElfError, Shdr};
-use std::alloc::Global;
 use test_cases::{Case, Portion, RUN, Stored, are_so};
 use test_images::{
     Field, NARROW, NULL_SECTION, OBJECT, Put, Recipe, SectionField, Start, WIDE, image_of,
 };
+use test_rows::same;
 use test_runs::prelude::NmOptions;
 use test_runs::{DONE, Ending, Nm, REFUSED, said_by};
 use tool_text::Radix;
@@ -272,7 +272,7 @@ static CHANGES: [Case; 30] = [
 
 #[test]
 fn rows_have_their_letters(rt: HostRuntime) {
-    assert!(rt; are_so(rt.alloc(), &[], &CHANGES));
+    assert!(rt; are_so(&rt, &[], &CHANGES));
 }
 
 /// No options.
@@ -286,14 +286,14 @@ const PLAIN: NmOptions = NmOptions {
 };
 
 /// Whether nm's own call shows the row of the object.
-fn own_call_shows_the_row(alloc: Global) -> Result<bool, ElfError> {
-    let object = image_of(alloc, &OBJECT)?;
-    Ok(said_by(alloc, &Nm(&PLAIN), object)?.is(false, b"0000000000001000 A a\n", b""))
+fn own_call_shows_the_row(rt: &HostRuntime) -> Result<bool, ElfError> {
+    let object = image_of(rt.alloc(), &OBJECT)?;
+    Ok(said_by(rt.alloc(), &Nm(&PLAIN), object)?.is(rt, false, b"0000000000001000 A a\n", b""))
 }
 
 #[test]
 fn the_own_call_shows_rows_over_two_outputs(rt: HostRuntime) {
-    assert!(rt; own_call_shows_the_row(rt.alloc()) == Ok(true));
+    assert!(rt; same(&rt, &own_call_shows_the_row(&rt), &Ok(true)));
 }
 
 /// The row of the object of class 32, greatest byte first; a missing file, whose message stands
@@ -332,7 +332,7 @@ static NAMES: [Case; 3] = [
 
 #[test]
 fn files_have_titles_and_names_dashes(rt: HostRuntime) {
-    assert!(rt; are_so(rt.alloc(), &[], &NAMES));
+    assert!(rt; are_so(&rt, &[], &NAMES));
 }
 
 /// What nm says of an archive whose third member is whole, and where it is cut.
@@ -361,7 +361,7 @@ static MEMBERS: [Case; 2] = [
 
 #[test]
 fn members_have_their_own_names(rt: HostRuntime) {
-    assert!(rt; are_so(rt.alloc(), &[], &MEMBERS));
+    assert!(rt; are_so(&rt, &[], &MEMBERS));
 }
 
 /// No symbols, which refuses nothing.
@@ -414,7 +414,7 @@ static UNREAD: [Case; 4] = [
 
 #[test]
 fn tables_that_can_not_be_told_have_a_message(rt: HostRuntime) {
-    assert!(rt; are_so(rt.alloc(), &[], &UNREAD));
+    assert!(rt; are_so(&rt, &[], &UNREAD));
 }
 
 /// Symbols with extended indexes: a zero symbol, two that are alike, and one whose name is past the names.
@@ -485,5 +485,5 @@ static ORDERS: [Case; 2] = [
 
 #[test]
 fn extended_indexes_are_followed_and_twins_stay(rt: HostRuntime) {
-    assert!(rt; are_so(rt.alloc(), &[], &ORDERS));
+    assert!(rt; are_so(&rt, &[], &ORDERS));
 }

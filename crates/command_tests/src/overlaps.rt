@@ -4,6 +4,7 @@ use elf_types::ElfError;
 use elf_types::constants::SHT_STRTAB;
 use std::alloc::Global;
 use test_images::{Field, OBJECT, Put, Recipe, SectionField, Start, image_of};
+use test_rows::same;
 use test_runs::asked_by_elflint;
 
 /// An object of 488 bytes with five sections of eight bytes, of which no rule reads one.
@@ -54,10 +55,10 @@ fn more_of(alloc: Global, recipe: &Recipe) -> Result<u64, ElfError> {
 
 #[test]
 fn a_home_is_asked_for_once_by_however_many_rules(rt: HostRuntime) {
-    assert!(rt; more_of(rt.alloc(), &TWO_TABLES) == Ok(16));
+    assert!(rt; same(&rt, &more_of(rt.alloc(), &TWO_TABLES), &Ok(16)));
 }
 
 #[test]
 fn homes_that_overlap_are_let_go_behind_each_rule(rt: HostRuntime) {
-    assert!(rt; more_of(rt.alloc(), &TWO_OVER_ONE_HOME) == Ok(4 * 488));
+    assert!(rt; same(&rt, &more_of(rt.alloc(), &TWO_OVER_ONE_HOME), &Ok(4 * 488)));
 }

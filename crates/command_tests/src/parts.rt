@@ -1,10 +1,10 @@
 //! The parts of readelf that its own call shows of a descriptor over a small object.
 
 use elf_types::Dyn;
-use std::alloc::Global;
 use test_images::{
     Content, Field, HeaderField, NARROW, OBJECT, Put, Recipe, SectionField, changed_image, image_of,
 };
+use test_rows::{failed, in_row, same_bytes};
 use test_runs::prelude::ReadelfParts;
 use test_runs::readelf_of;
 
@@ -39,24 +39,31 @@ const DYNAMIC: ReadelfParts = ReadelfParts {
 };
 
 /// Whether this text is shown of an image, and nothing is refused.
-fn shows(alloc: Global, recipe: &Recipe, parts: &ReadelfParts, text: &[u8]) -> bool {
-    match image_of(alloc, recipe) {
-        Ok(image) => match readelf_of(alloc, image, parts) {
-            Ok(said) => said.is(false, text, b""),
-            Err(_) => false,
+fn shows(rt: &HostRuntime, recipe: &Recipe, parts: &ReadelfParts, text: &[u8]) -> bool {
+    match image_of(rt.alloc(), recipe) {
+        Ok(image) => match readelf_of(rt.alloc(), image, parts) {
+            Ok(said) => said.is(rt, false, text, b""),
+            Err(e) => failed(rt, e),
         },
-        Err(_) => false,
+        Err(e) => failed(rt, e),
     }
 }
 
+/// The last bytes, so many, or all where there are fewer.
+fn last_of(bytes: &[u8], count: usize) -> &[u8] {
+    bytes
+        .get(bytes.len().saturating_sub(count)..)
+        .unwrap_or(bytes)
+}
+
 /// Whether the text that is shown of an image ends so.
-fn ends_with(alloc: Global, recipe: &Recipe, parts: &ReadelfParts, end: &[u8]) -> bool {
-    match image_of(alloc, recipe) {
-        Ok(image) => match readelf_of(alloc, image, parts) {
-            Ok(said) => said.out.as_slice().ends_with(end),
-            Err(_) => false,
+fn ends_with(rt: &HostRuntime, recipe: &Recipe, parts: &ReadelfParts, end: &[u8]) -> bool {
+    match image_of(rt.alloc(), recipe) {
+        Ok(image) => match readelf_of(rt.alloc(), image, parts) {
+            Ok(said) => same_bytes(rt, last_of(said.out.as_slice(), end.len()), end),
+            Err(e) => failed(rt, e),
         },
-        Err(_) => false,
+        Err(e) => failed(rt, e),
     }
 }
 
@@ -89,8 +96,8 @@ const NAMELESS_LINE: &[u8] = b"  2 <none> 0x70000001 flags 0x0 addr 0x0 offset 0
 
 #[test]
 fn section_headers_are_shown_and_numbers_stand_for_names(rt: HostRuntime) {
-    assert!(rt; shows(rt.alloc(), &NAMED, &SECTIONS, HEADERS));
-    assert!(rt; ends_with(rt.alloc(), &NAMELESS, &SECTIONS, NAMELESS_LINE));
+    assert!(rt; shows(&rt, &NAMED, &SECTIONS, HEADERS));
+    assert!(rt; ends_with(&rt, &NAMELESS, &SECTIONS, NAMELESS_LINE));
 }
 
 /// The symbols of an object with two.
@@ -106,8 +113,8 @@ static NARROW_OBJECT: Recipe = Recipe {
 
 #[test]
 fn symbols_are_shown_alike_in_both_classes(rt: HostRuntime) {
-    assert!(rt; shows(rt.alloc(), &OBJECT, &SYMBOLS, TWO_SYMBOLS));
-    assert!(rt; shows(rt.alloc(), &NARROW_OBJECT, &SYMBOLS, TWO_SYMBOLS));
+    assert!(rt; shows(&rt, &OBJECT, &SYMBOLS, TWO_SYMBOLS));
+    assert!(rt; shows(&rt, &NARROW_OBJECT, &SYMBOLS, TWO_SYMBOLS));
 }
 
 /// A field of section 2, what is put there, and the line that refuses its symbols.
@@ -126,21 +133,25 @@ static REFUSALS: [(SectionField, u64, &[u8]); 3] = [
 ];
 
 /// Whether the symbols of the object with that field are refused by that line alone.
-fn refuses(alloc: Global, refusal: &(SectionField, u64, &[u8])) -> bool {
+fn refuses(rt: &HostRuntime, refusal: &(SectionField, u64, &[u8])) -> bool {
     let (field, value, line) = *refusal;
-    match changed_image(alloc, &OBJECT, &Put::Field(Field::Section(2, field), value)) {
-        Ok(image) => match readelf_of(alloc, image, &SYMBOLS) {
-            Ok(said) => said.is(true, b"", line),
-            Err(_) => false,
+    match changed_image(
+        rt.alloc(),
+        &OBJECT,
+        &Put::Field(Field::Section(2, field), value),
+    ) {
+        Ok(image) => match readelf_of(rt.alloc(), image, &SYMBOLS) {
+            Ok(said) => said.is(rt, true, b"", line),
+            Err(e) => failed(rt, e),
         },
-        Err(_) => false,
+        Err(e) => failed(rt, e),
     }
 }
 
 /// Whether each are.
-fn refuse(alloc: Global, refusals: &[(SectionField, u64, &[u8])]) -> bool {
-    for refusal in refusals {
-        if !refuses(alloc, refusal) {
+fn refuse(rt: &HostRuntime, refusals: &[(SectionField, u64, &[u8])]) -> bool {
+    for (n, refusal) in refusals.iter().enumerate() {
+        if !in_row(rt, n, refuses(rt, refusal)) {
             return false;
         }
     }
@@ -149,7 +160,7 @@ fn refuse(alloc: Global, refusals: &[(SectionField, u64, &[u8])]) -> bool {
 
 #[test]
 fn a_message_stands_in_place_of_symbols(rt: HostRuntime) {
-    assert!(rt; refuse(rt.alloc(), &REFUSALS));
+    assert!(rt; refuse(&rt, &REFUSALS));
 }
 
 /// The object whose last symbol has an extended index, where section 1 is the table of extended
@@ -173,8 +184,8 @@ static UNINDEXED: Recipe = Recipe {
 
 #[test]
 fn extended_indexes_are_followed(rt: HostRuntime) {
-    assert!(rt; ends_with(rt.alloc(), &INDEXED, &SYMBOLS, b" shndx 0 <none>\n"));
-    assert!(rt; ends_with(rt.alloc(), &UNINDEXED, &SYMBOLS, b" shndx XINDEX [a]\n"));
+    assert!(rt; ends_with(&rt, &INDEXED, &SYMBOLS, b" shndx 0 <none>\n"));
+    assert!(rt; ends_with(&rt, &UNINDEXED, &SYMBOLS, b" shndx XINDEX [a]\n"));
 }
 
 /// The entries of the object below.
@@ -200,5 +211,5 @@ static LINKED: Recipe = Recipe {
 
 #[test]
 fn dynamic_entries_are_shown(rt: HostRuntime) {
-    assert!(rt; shows(rt.alloc(), &LINKED, &DYNAMIC, ENTRIES));
+    assert!(rt; shows(&rt, &LINKED, &DYNAMIC, ENTRIES));
 }

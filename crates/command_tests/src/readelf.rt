@@ -82,7 +82,7 @@ static SHOWN: [Case; 3] = [
 
 #[test]
 fn headers_and_program_headers_are_shown_in_both_classes(rt: HostRuntime) {
-    assert!(rt; are_so(rt.alloc(), &[], &SHOWN));
+    assert!(rt; are_so(&rt, &[], &SHOWN));
 }
 
 /// An object whose number of sections, and whose section of their names, stand in section 0: both are
@@ -110,7 +110,7 @@ static EXTENDED: Case = Case {
 
 #[test]
 fn numbers_that_do_not_fit_stand_in_section_0(rt: HostRuntime) {
-    assert!(rt; is_so(rt.alloc(), &[], &EXTENDED));
+    assert!(rt; is_so(&rt, &[], &EXTENDED));
 }
 
 /// The message that refuses an image whose section headers do not lie in it.
@@ -221,7 +221,7 @@ static DAMAGES: [Case; 12] = [
 
 #[test]
 fn damaged_fronts_are_refused_in_all_forms(rt: HostRuntime) {
-    assert!(rt; are_so_in_all_forms(rt.alloc(), &[], &DAMAGES));
+    assert!(rt; are_so_in_all_forms(&rt, &[], &DAMAGES));
 }
 
 /// The message that refuses a file that ends before the header does.
@@ -256,5 +256,5 @@ static CUTS: [Case; 4] = [
 
 #[test]
 fn files_that_are_cut_are_refused(rt: HostRuntime) {
-    assert!(rt; are_so(rt.alloc(), &[], &CUTS));
+    assert!(rt; are_so(&rt, &[], &CUTS));
 }

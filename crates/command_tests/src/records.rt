@@ -214,7 +214,7 @@ static ROWS: [Case; 11] = [
 
 #[test]
 fn notes_and_versions_are_shown_up_to_what_goes_bad(rt: HostRuntime) {
-    assert!(rt; are_so(rt.alloc(), &[], &ROWS));
+    assert!(rt; are_so(&rt, &[], &ROWS));
 }
 
 /// The header of a third section of relocations with addends, which links to the symbols.
@@ -320,7 +320,7 @@ static LINKED: [Case; 5] = [
 
 #[test]
 fn a_relocation_is_named_by_its_symbol_in_the_linked_table(rt: HostRuntime) {
-    assert!(rt; are_so_in_all_forms(rt.alloc(), &[], &LINKED));
+    assert!(rt; are_so_in_all_forms(&rt, &[], &LINKED));
 }
 
 /// One without an addend.
@@ -355,5 +355,5 @@ static WITHOUT_ADDEND: [Case; 1] = [Case {
 
 #[test]
 fn relocations_without_addends_are_shown_in_all_forms(rt: HostRuntime) {
-    assert!(rt; are_so_in_all_forms(rt.alloc(), &[], &WITHOUT_ADDEND));
+    assert!(rt; are_so_in_all_forms(&rt, &[], &WITHOUT_ADDEND));
 }

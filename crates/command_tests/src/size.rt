@@ -2,9 +2,9 @@
 
 use elf_types::constants::{SHT_NOBITS, SHT_PROGBITS};
 use elf_types::{ElfError, Shdr};
-use std::alloc::Global;
 use test_cases::{Bad, Case, GOOD, RUN, Stored, are_so, are_so_in_all_forms};
 use test_images::{Field, HeaderField, NULL_SECTION, Put, Recipe, Start, WIDE, image_of};
+use test_rows::same;
 use test_runs::{DONE, Ending, REFUSED, Size, said_by};
 use tool_output::Status;
 
@@ -128,7 +128,7 @@ static SIZES: [Case; 3] = [
 
 #[test]
 fn loaded_sections_are_added_up(rt: HostRuntime) {
-    assert!(rt; are_so(rt.alloc(), &[], &SIZES));
+    assert!(rt; are_so(&rt, &[], &SIZES));
 }
 
 /// An object of 100 sections, which are more than the headers that are read at once: those that are
@@ -214,7 +214,7 @@ static COUNTS: [Case; 2] = [
 
 #[test]
 fn many_sections_are_added_up_in_each_form(rt: HostRuntime) {
-    assert!(rt; are_so_in_all_forms(rt.alloc(), &[], &COUNTS));
+    assert!(rt; are_so_in_all_forms(&rt, &[], &COUNTS));
 }
 
 /// The run over two files, of the second of which a read fails.
@@ -255,7 +255,7 @@ static LATE: [Case; 2] = [
 
 #[test]
 fn a_failed_read_of_section_headers_keeps_what_was_shown(rt: HostRuntime) {
-    assert!(rt; are_so(rt.alloc(), &[], &LATE));
+    assert!(rt; are_so(&rt, &[], &LATE));
 }
 
 /// The first line comes before any file is looked at; and there is no file.
@@ -284,7 +284,7 @@ static FIRST_LINE: [Case; 2] = [
 
 #[test]
 fn the_first_line_stands_where_all_is_refused(rt: HostRuntime) {
-    assert!(rt; are_so(rt.alloc(), &[], &FIRST_LINE));
+    assert!(rt; are_so(&rt, &[], &FIRST_LINE));
 }
 
 /// The object of code, data and memory, which is lent.
@@ -294,12 +294,12 @@ static OWN: Recipe = Recipe { ..THREE };
 const ROW: &[u8] = b"     32\t     16\t    256\t    304\t    130\tF\n";
 
 /// Whether size's own call shows the row of an object, without the first line.
-fn own_call_shows_the_row(alloc: Global) -> Result<bool, ElfError> {
-    let object = image_of(alloc, &OWN)?;
-    Ok(said_by(alloc, &Size, object)?.is(false, ROW, b""))
+fn own_call_shows_the_row(rt: &HostRuntime) -> Result<bool, ElfError> {
+    let object = image_of(rt.alloc(), &OWN)?;
+    Ok(said_by(rt.alloc(), &Size, object)?.is(rt, false, ROW, b""))
 }
 
 #[test]
 fn the_own_call_shows_a_row_over_two_outputs(rt: HostRuntime) {
-    assert!(rt; own_call_shows_the_row(rt.alloc()) == Ok(true));
+    assert!(rt; same(&rt, &own_call_shows_the_row(&rt), &Ok(true)));
 }

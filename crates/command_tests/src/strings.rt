@@ -2,9 +2,9 @@
 
 use elf_types::constants::{SHF_ALLOC, SHT_PROGBITS};
 use elf_types::{ElfError, Octets, Shdr};
-use std::alloc::Global;
 use test_cases::{Case, Portion, RUN, Stored, are_so};
 use test_images::{Field, NULL_SECTION, Put, Recipe, SectionField, Start, WIDE};
+use test_rows::{failed, in_row, same};
 use test_runs::prelude::StringsOptions;
 use test_runs::{DONE, Ending, NOTHING, REFUSED, run_line, strings_of};
 use tool_output::Status;
@@ -94,7 +94,7 @@ static SHOWN: [Case; 9] = [
 
 #[test]
 fn runs_are_shown_with_their_places(rt: HostRuntime) {
-    assert!(rt; are_so(rt.alloc(), &[], &SHOWN));
+    assert!(rt; are_so(&rt, &[], &SHOWN));
 }
 
 /// Appends so many bytes that are not printable, and then so many that are.
@@ -109,10 +109,10 @@ fn put_run(bytes: &mut Octets, gap: u64, len: u64) -> Result<(), ElfError> {
 }
 
 /// Whether so many bytes are shown of a file.
-fn shows_bytes(alloc: Global, bytes: &Octets, count: u64) -> bool {
-    match run_line(alloc, "strings F", bytes, NOTHING) {
-        Ok(ran) => ran.out.len() == count,
-        Err(_) => false,
+fn shows_bytes(rt: &HostRuntime, bytes: &Octets, count: u64) -> bool {
+    match run_line(rt.alloc(), "strings F", bytes, NOTHING) {
+        Ok(ran) => same(rt, &ran.out.len(), &count),
+        Err(e) => failed(rt, e),
     }
 }
 
@@ -128,18 +128,18 @@ static EDGES: [(u64, u64, u64); 6] = [
 ];
 
 /// Whether so many are shown of one with a run.
-fn shows_run(alloc: Global, edge: &(u64, u64, u64)) -> bool {
-    let mut bytes = Octets::new(alloc);
+fn shows_run(rt: &HostRuntime, edge: &(u64, u64, u64)) -> bool {
+    let mut bytes = Octets::new(rt.alloc());
     match put_run(&mut bytes, edge.0, edge.1) {
-        Ok(()) => shows_bytes(alloc, &bytes, edge.2),
-        Err(_) => false,
+        Ok(()) => shows_bytes(rt, &bytes, edge.2),
+        Err(e) => failed(rt, e),
     }
 }
 
 /// Whether each run is shown so.
-fn show_runs(alloc: Global, edges: &[(u64, u64, u64)]) -> bool {
-    for edge in edges {
-        if !shows_run(alloc, edge) {
+fn show_runs(rt: &HostRuntime, edges: &[(u64, u64, u64)]) -> bool {
+    for (n, edge) in edges.iter().enumerate() {
+        if !in_row(rt, n, shows_run(rt, edge)) {
             return false;
         }
     }
@@ -148,7 +148,7 @@ fn show_runs(alloc: Global, edges: &[(u64, u64, u64)]) -> bool {
 
 #[test]
 fn runs_go_over_the_edges_of_pieces(rt: HostRuntime) {
-    assert!(rt; show_runs(rt.alloc(), &EDGES));
+    assert!(rt; show_runs(&rt, &EDGES));
 }
 
 /// A section of eight bytes that takes memory in a process.
@@ -237,7 +237,7 @@ static HOMES: [Case; 4] = [
 
 #[test]
 fn each_home_is_shown_by_itself(rt: HostRuntime) {
-    assert!(rt; are_so(rt.alloc(), &[], &HOMES));
+    assert!(rt; are_so(&rt, &[], &HOMES));
 }
 
 /// All bytes, runs of four, and their places in decimal.
@@ -248,11 +248,11 @@ const PLACED: StringsOptions = StringsOptions {
 };
 
 /// Whether the own call of strings shows the runs of bytes.
-fn own_call_shows_the_runs(alloc: Global) -> Result<bool, ElfError> {
-    Ok(strings_of(alloc, b"abc\0abcd", &PLACED)?.is(false, b"      4 abcd\n", b""))
+fn own_call_shows_the_runs(rt: &HostRuntime) -> Result<bool, ElfError> {
+    Ok(strings_of(rt.alloc(), b"abc\0abcd", &PLACED)?.is(rt, false, b"      4 abcd\n", b""))
 }
 
 #[test]
 fn the_own_call_shows_runs_over_two_outputs(rt: HostRuntime) {
-    assert!(rt; own_call_shows_the_runs(rt.alloc()) == Ok(true));
+    assert!(rt; same(&rt, &own_call_shows_the_runs(&rt), &Ok(true)));
 }

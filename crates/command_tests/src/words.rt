@@ -4,6 +4,7 @@ use elf_types::ElfError;
 use std::alloc::Global;
 use test_cases::{Case, RUN, Stored, are_so, is_so};
 use test_images::OBJECT;
+use test_rows::same;
 use test_runs::{Bytes, Ending, Failing, NOTHING, REFUSED, run_words};
 use tool_output::Status;
 use tool_text::Args;
@@ -89,7 +90,7 @@ const REHASH_HELP: &[u8] =
 
 #[test]
 fn words_that_are_refused_or_ask_for_help_open_no_file(rt: HostRuntime) {
-    assert!(rt; are_so(rt.alloc(), &[], &SAID));
+    assert!(rt; are_so(&rt, &[], &SAID));
 }
 
 /// The first name is not there, and looks like an option.
@@ -106,7 +107,7 @@ static PASSED: Case = Case {
 
 #[test]
 fn a_missing_file_is_passed_over(rt: HostRuntime) {
-    assert!(rt; is_so(rt.alloc(), &[], &PASSED));
+    assert!(rt; is_so(&rt, &[], &PASSED));
 }
 
 /// Puts the words of readelf over so many names that are not there.
@@ -141,5 +142,11 @@ fn messages_of_missing(alloc: Global, count: u64) -> Result<(Status, u64), ElfEr
 
 #[test]
 fn ten_thousand_messages_are_few_writes(rt: HostRuntime) {
-    assert!(rt; messages_of_missing(rt.alloc(), 10_000) == Ok((Status::Refused, 280_000)));
+    assert!(rt;
+        same(
+            &rt,
+            &messages_of_missing(rt.alloc(), 10_000),
+            &Ok((Status::Refused, 280_000))
+        )
+    );
 }

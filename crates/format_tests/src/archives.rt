@@ -5,6 +5,7 @@ use elf_outside::reads::read_range;
 use elf_outside::{MemSource, Source, Window};
 use elf_types::{ElfError, Octets};
 use std::alloc::Global;
+use test_rows::{failed, in_row, other, same, same_bytes, within};
 use test_sources::source;
 
 /// An archive of 290 bytes with a table of symbols at 8, a table of long names at 78, an empty
@@ -42,37 +43,41 @@ fn library(alloc: Global, bad_read: u64) -> Result<Ar<MemSource>, ElfError> {
 }
 
 /// Whether a header has the place, the size and the name of a member.
-fn is_placed(header: &ArHdr, member: Member) -> bool {
+fn is_placed(rt: &HostRuntime, header: &ArHdr, member: Member) -> bool {
     let (at, body, size, name) = member;
-    let stands = header.at == at && header.body == body && header.size == size;
-    stands && header.name.as_slice() == name
+    let stands = same(rt, &header.at, &at)
+        && same(rt, &header.body, &body)
+        && same(rt, &header.size, &size);
+    stands && same_bytes(rt, header.name.as_slice(), name)
 }
 
 /// Whether it has the other numbers of these members.
-fn is_owned(header: &ArHdr) -> bool {
-    let changed = header.date == 1_234_567_890 && header.mode == 0o100644;
-    changed && header.uid == 1000 && header.gid == 0
+fn is_owned(rt: &HostRuntime, header: &ArHdr) -> bool {
+    let changed = same(rt, &header.date, &1_234_567_890) && same(rt, &header.mode, &0o100644);
+    changed && same(rt, &header.uid, &1000) && same(rt, &header.gid, &0)
 }
 
 /// Whether the next member is that one.
-fn next_is<S: Source>(archive: &mut Ar<S>, member: Member) -> bool {
+fn next_is<S: Source>(rt: &HostRuntime, archive: &mut Ar<S>, member: Member) -> bool {
     match archive.next() {
-        Ok(Some(header)) => is_placed(&header, member) && is_owned(&header),
-        _ => false,
+        Ok(Some(header)) => is_placed(rt, &header, member) && is_owned(rt, &header),
+        Ok(None) => other(rt, &"the end of the archive", "a member"),
+        Err(e) => failed(rt, e),
     }
 }
 
 /// Whether there is no member more.
-fn is_at_end<S: Source>(archive: &mut Ar<S>) -> bool {
+fn is_at_end<S: Source>(rt: &HostRuntime, archive: &mut Ar<S>) -> bool {
     match archive.next() {
         Ok(None) => true,
-        _ => false,
+        Ok(Some(header)) => other(rt, &header.at, "no member more"),
+        Err(e) => failed(rt, e),
     }
 }
 
 /// Whether both members come, and no more.
-fn lists_both<S: Source>(archive: &mut Ar<S>) -> bool {
-    next_is(archive, FIRST) && next_is(archive, SECOND) && is_at_end(archive)
+fn lists_both<S: Source>(rt: &HostRuntime, archive: &mut Ar<S>) -> bool {
+    next_is(rt, archive, FIRST) && next_is(rt, archive, SECOND) && is_at_end(rt, archive)
 }
 
 /// What is asked of an archive.
@@ -87,59 +92,63 @@ enum Asked {
 }
 
 /// Whether an archive answers so.
-fn answers<S: Source>(archive: &mut Ar<S>, asked: Asked) -> bool {
+fn answers<S: Source>(rt: &HostRuntime, archive: &mut Ar<S>, asked: Asked) -> bool {
     match asked {
-        Asked::Members => lists_both(archive),
-        Asked::Symbol => lists_symbol(archive),
-        Asked::Waits => waits(archive),
+        Asked::Members => lists_both(rt, archive),
+        Asked::Symbol => lists_symbol(rt, archive),
+        Asked::Waits => waits(rt, archive),
     }
 }
 
 /// Whether the archive in memory does, of which the read of a number fails, or none for 0.
-fn library_answers(alloc: Global, bad_read: u64, asked: Asked) -> bool {
-    match library(alloc, bad_read) {
-        Ok(mut archive) => answers(&mut archive, asked),
-        Err(_) => false,
+fn library_answers(rt: &HostRuntime, bad_read: u64, asked: Asked) -> bool {
+    match library(rt.alloc(), bad_read) {
+        Ok(mut archive) => answers(rt, &mut archive, asked),
+        Err(e) => failed(rt, e),
     }
 }
 
 #[test]
 fn members_are_listed_with_their_names(rt: HostRuntime) {
-    assert!(rt; library_answers(rt.alloc(), 0, Asked::Members));
+    assert!(rt; library_answers(&rt, 0, Asked::Members));
 }
 
 /// Whether a symbol is that of the first member.
-fn is_symbol(symbol: &ArSym) -> bool {
-    symbol.at == 166 && symbol.name.as_slice() == b"a".as_slice()
+fn is_symbol(rt: &HostRuntime, symbol: &ArSym) -> bool {
+    same(rt, &symbol.at, &166) && same_bytes(rt, symbol.name.as_slice(), b"a".as_slice())
 }
 
 /// Whether there is one symbol, of the first member.
-fn lists_symbol<S: Source>(archive: &mut Ar<S>) -> bool {
+fn lists_symbol<S: Source>(rt: &HostRuntime, archive: &mut Ar<S>) -> bool {
     match archive.arsym() {
-        Ok(symbols) => symbols.len() == 1 && symbols.as_slice().first().is_some_and(is_symbol),
-        Err(_) => false,
+        Ok(symbols) => same(rt, &symbols.len(), &1)
+            && symbols
+                .as_slice()
+                .first()
+                .is_some_and(|symbol| is_symbol(rt, symbol)),
+        Err(e) => failed(rt, e),
     }
 }
 
 #[test]
 fn symbols_are_listed_with_their_members(rt: HostRuntime) {
-    assert!(rt; library_answers(rt.alloc(), 0, Asked::Symbol));
+    assert!(rt; library_answers(&rt, 0, Asked::Symbol));
 }
 
 /// Whether a window reads these bytes.
-fn reads<S: Source>(alloc: Global, window: &mut Window<S>, bytes: &[u8]) -> bool {
+fn reads<S: Source>(rt: &HostRuntime, window: &mut Window<S>, bytes: &[u8]) -> bool {
     let len = window.len();
-    match read_range(alloc, window, 0, len) {
-        Ok(read) => read.as_slice() == bytes,
-        Err(_) => false,
+    match read_range(rt.alloc(), window, 0, len) {
+        Ok(read) => same_bytes(rt, read.as_slice(), bytes),
+        Err(e) => failed(rt, e),
     }
 }
 
 /// The archive, and whether the body of the member at a place is read as these bytes.
-fn reads_body<S: Source>(alloc: Global, archive: Ar<S>, at: u64, bytes: &[u8]) -> (Ar<S>, bool) {
+fn reads_body<S: Source>(rt: &HostRuntime, archive: Ar<S>, at: u64, bytes: &[u8]) -> (Ar<S>, bool) {
     match archive.member(at) {
         Ok(mut window) => {
-            let read = reads(alloc, &mut window, bytes);
+            let read = reads(rt, &mut window, bytes);
             (window.into_inner(), read)
         }
         Err((archive, _)) => (archive, false),
@@ -147,18 +156,18 @@ fn reads_body<S: Source>(alloc: Global, archive: Ar<S>, at: u64, bytes: &[u8]) -
 }
 
 /// The source, and whether the body of the second member is read between both.
-fn reads_between<S: Source>(alloc: Global, mut archive: Ar<S>) -> (S, bool) {
-    let first = next_is(&mut archive, FIRST);
-    let (mut archive, read) = reads_body(alloc, archive, 226, b"abc");
-    let second = next_is(&mut archive, SECOND);
+fn reads_between<S: Source>(rt: &HostRuntime, mut archive: Ar<S>) -> (S, bool) {
+    let first = next_is(rt, &mut archive, FIRST);
+    let (mut archive, read) = reads_body(rt, archive, 226, b"abc");
+    let second = next_is(rt, &mut archive, SECOND);
     (archive.end(), first && read && second)
 }
 
 /// How many bytes the archive is asked for by that, if it is so.
-fn asked_between(alloc: Global) -> Option<u64> {
-    match library(alloc, 0) {
+fn asked_between(rt: &HostRuntime) -> Option<u64> {
+    match library(rt.alloc(), 0) {
         Ok(archive) => {
-            let (source, read) = reads_between(alloc, archive);
+            let (source, read) = reads_between(rt, archive);
             if read { Some(source.asked()) } else { None }
         }
         Err(_) => None,
@@ -169,7 +178,7 @@ fn asked_between(alloc: Global) -> Option<u64> {
 fn a_body_is_a_source_and_the_walk_goes_on(rt: HostRuntime) {
     // The first line, four headers of the walk and its long names, and a header and a body besides.
     let due = 8 + 4 * 60 + 27 + 60 + 3;
-    assert!(rt; asked_between(rt.alloc()) == Some(due));
+    assert!(rt; same(&rt, &asked_between(&rt), &Some(due)));
 }
 
 /// The place of the bad header at which a walk ends, 0 where it ends well, and 1 where it fails.
@@ -224,23 +233,23 @@ fn has_symbols<S: Source>(archive: &mut Ar<S>) -> bool {
 }
 
 /// Whether a walk ends at a place, there again, and has no symbols where that is the first.
-fn ends_at<S: Source>(archive: &mut Ar<S>, at: u64) -> bool {
-    let ended = end_of(archive) == at && end_of(archive) == at;
-    ended && has_symbols(archive) != (at == 8)
+fn ends_at<S: Source>(rt: &HostRuntime, archive: &mut Ar<S>, at: u64) -> bool {
+    let ended = same(rt, &end_of(archive), &at) && same(rt, &end_of(archive), &at);
+    ended && same(rt, &has_symbols(archive), &(at != 8))
 }
 
 /// Whether the walk over a damaged archive ends so.
-fn is_ended(alloc: Global, damage: Damage, at: u64) -> bool {
-    match damaged(alloc, damage) {
-        Ok(mut archive) => ends_at(&mut archive, at),
-        Err(_) => false,
+fn is_ended(rt: &HostRuntime, damage: Damage, at: u64) -> bool {
+    match damaged(rt.alloc(), damage) {
+        Ok(mut archive) => ends_at(rt, &mut archive, at),
+        Err(e) => failed(rt, e),
     }
 }
 
 /// Whether each does.
-fn are_ended(alloc: Global, damages: &[(Damage, u64)]) -> bool {
-    for (damage, at) in damages {
-        if !is_ended(alloc, *damage, *at) {
+fn are_ended(rt: &HostRuntime, damages: &[(Damage, u64)]) -> bool {
+    for (n, (damage, at)) in damages.iter().enumerate() {
+        if !in_row(rt, n, is_ended(rt, *damage, *at)) {
             return false;
         }
     }
@@ -249,7 +258,7 @@ fn are_ended(alloc: Global, damages: &[(Damage, u64)]) -> bool {
 
 #[test]
 fn a_bad_header_ends_the_walk(rt: HostRuntime) {
-    assert!(rt; are_ended(rt.alloc(), &DAMAGES));
+    assert!(rt; are_ended(&rt, &DAMAGES));
 }
 
 /// Texts, and their refusals as archives.
@@ -260,17 +269,17 @@ static TEXTS: [(&[u8], Option<ElfError>); 3] = [
 ];
 
 /// Whether a text is refused so as an archive.
-fn is_refused(alloc: Global, text: &[u8], refusal: Option<ElfError>) -> bool {
-    match Octets::from_slice(alloc, text) {
-        Ok(bytes) => opened(alloc, bytes, 0).err() == refusal,
-        Err(_) => false,
+fn is_refused(rt: &HostRuntime, text: &[u8], refusal: Option<ElfError>) -> bool {
+    match Octets::from_slice(rt.alloc(), text) {
+        Ok(bytes) => same(rt, &opened(rt.alloc(), bytes, 0).err(), &refusal),
+        Err(e) => failed(rt, e),
     }
 }
 
 /// Whether the texts are refused so.
-fn texts_are_refused(alloc: Global, texts: &[(&[u8], Option<ElfError>)]) -> bool {
-    for (text, refusal) in texts {
-        if !is_refused(alloc, text, *refusal) {
+fn texts_are_refused(rt: &HostRuntime, texts: &[(&[u8], Option<ElfError>)]) -> bool {
+    for (n, (text, refusal)) in texts.iter().enumerate() {
+        if !in_row(rt, n, is_refused(rt, text, *refusal)) {
             return false;
         }
     }
@@ -279,19 +288,19 @@ fn texts_are_refused(alloc: Global, texts: &[(&[u8], Option<ElfError>)]) -> bool
 
 #[test]
 fn what_is_no_archive_is_refused(rt: HostRuntime) {
-    assert!(rt; texts_are_refused(rt.alloc(), &TEXTS));
+    assert!(rt; texts_are_refused(&rt, &TEXTS));
 }
 
 /// Whether the next call is refused as `Read`, and the one after it gives the first member.
-fn waits<S: Source>(archive: &mut Ar<S>) -> bool {
-    archive.next().err() == Some(ElfError::Read) && next_is(archive, FIRST)
+fn waits<S: Source>(rt: &HostRuntime, archive: &mut Ar<S>) -> bool {
+    same(rt, &archive.next().err(), &Some(ElfError::Read)) && next_is(rt, archive, FIRST)
 }
 
 /// Whether a walk waits where any read of it fails.
-fn waits_at_each(alloc: Global) -> bool {
+fn waits_at_each(rt: &HostRuntime) -> bool {
     // The first line is read, and then two headers, the long names, and the first member's header.
     for bad_read in 2..6 {
-        if !library_answers(alloc, bad_read, Asked::Waits) {
+        if !within(rt, &bad_read, library_answers(rt, bad_read, Asked::Waits)) {
             return false;
         }
     }
@@ -300,31 +309,31 @@ fn waits_at_each(alloc: Global) -> bool {
 
 #[test]
 fn a_failed_read_leaves_the_walk(rt: HostRuntime) {
-    assert!(rt; waits_at_each(rt.alloc()));
+    assert!(rt; waits_at_each(&rt));
 }
 
 #[test]
 fn a_failed_first_read_is_named(rt: HostRuntime) {
-    assert!(rt; library(rt.alloc(), 1).err() == Some(ElfError::Read));
+    assert!(rt; same(&rt, &library(rt.alloc(), 1).err(), &Some(ElfError::Read)));
 }
 
 /// Whether an archive is handed back by a read that fails, and its walk stands.
-fn is_handed_back<S: Source + Drop>(archive: Ar<S>) -> bool {
+fn is_handed_back<S: Source + Drop>(rt: &HostRuntime, archive: Ar<S>) -> bool {
     match archive.member(226) {
-        Ok(_) => false,
-        Err((mut archive, e)) => e == ElfError::Read && next_is(&mut archive, FIRST),
+        Ok(_) => other(rt, &"a member", "a failed read"),
+        Err((mut archive, e)) => same(rt, &e, &ElfError::Read) && next_is(rt, &mut archive, FIRST),
     }
 }
 
 /// Whether it is so of the archive in memory.
-fn library_is_handed_back(alloc: Global) -> bool {
-    match library(alloc, 2) {
-        Ok(archive) => is_handed_back(archive),
-        Err(_) => false,
+fn library_is_handed_back(rt: &HostRuntime) -> bool {
+    match library(rt.alloc(), 2) {
+        Ok(archive) => is_handed_back(rt, archive),
+        Err(e) => failed(rt, e),
     }
 }
 
 #[test]
 fn a_failed_read_hands_the_archive_back(rt: HostRuntime) {
-    assert!(rt; library_is_handed_back(rt.alloc()));
+    assert!(rt; library_is_handed_back(&rt));
 }

@@ -11,6 +11,7 @@ use test_images::{
     FORMS, Field, Image, NULL_SECTION, SectionField, SegmentField, filled, header_alone, header_of,
     numbers_in_section_0, two_tables,
 };
+use test_rows::{failed, in_row, same, within};
 use test_sources::source;
 
 /// First bytes of a file, its kind, and how many of them are asked for.
@@ -26,15 +27,15 @@ static STARTS: [Start; 6] = [
 ];
 
 /// Whether a source is of a kind, and is asked for so many bytes for that.
-fn is_of_kind(src: &mut MemSource, kind: FileKind, asked: u64) -> bool {
-    kind_of_source(src) == Ok(kind) && src.asked() == asked
+fn is_of_kind(rt: &HostRuntime, src: &mut MemSource, kind: FileKind, asked: u64) -> bool {
+    same(rt, &kind_of_source(src), &Ok(kind)) && same(rt, &src.asked(), &asked)
 }
 
 /// Whether the kind is told as stated.
-fn is_told(alloc: Global, start: &Start) -> bool {
-    match source_of(alloc, start.0) {
-        Ok(mut src) => is_of_kind(&mut src, start.1, start.2),
-        Err(_) => false,
+fn is_told(rt: &HostRuntime, start: &Start) -> bool {
+    match source_of(rt.alloc(), start.0) {
+        Ok(mut src) => is_of_kind(rt, &mut src, start.1, start.2),
+        Err(e) => failed(rt, e),
     }
 }
 
@@ -47,9 +48,9 @@ fn source_of(alloc: Global, text: &[u8]) -> Result<MemSource, ElfError> {
 }
 
 /// Whether each kind is.
-fn kinds_are_told(alloc: Global, starts: &[Start]) -> bool {
-    for start in starts {
-        if !is_told(alloc, start) {
+fn kinds_are_told(rt: &HostRuntime, starts: &[Start]) -> bool {
+    for (n, start) in starts.iter().enumerate() {
+        if !in_row(rt, n, is_told(rt, start)) {
             return false;
         }
     }
@@ -58,7 +59,7 @@ fn kinds_are_told(alloc: Global, starts: &[Start]) -> bool {
 
 #[test]
 fn a_kind_is_told_by_eight_bytes(rt: HostRuntime) {
-    assert!(rt; kinds_are_told(rt.alloc(), &STARTS));
+    assert!(rt; kinds_are_told(&rt, &STARTS));
 }
 
 /// An image, and how its front is.
@@ -111,75 +112,80 @@ fn image_of(alloc: Global, shape: Shape, class: Class, order: Order) -> Result<I
 }
 
 /// Whether a front has those fields.
-fn has_numbers(front: &Front) -> bool {
+fn has_numbers(rt: &HostRuntime, front: &Front) -> bool {
     let (Some(segment), Some(section)) = (front.phdrs.get(0), front.shdrs.get(2)) else {
         return false;
     };
-    u64::from(segment.flags) == NUMBERS[0]
-        && segment.align == NUMBERS[1]
-        && section.entsize == NUMBERS[2]
+    same(rt, &u64::from(segment.flags), &NUMBERS[0])
+        && same(rt, &segment.align, &NUMBERS[1])
+        && same(rt, &section.entsize, &NUMBERS[2])
 }
 
 /// Whether a front is that header alone.
-fn is_alone(front: &Front, header: &Ehdr) -> bool {
-    front.ehdr == *header && front.phdrs.is_empty() && front.shdrs.is_empty()
+fn is_alone(rt: &HostRuntime, front: &Front, header: &Ehdr) -> bool {
+    same(rt, &front.ehdr, header) && front.phdrs.is_empty() && front.shdrs.is_empty()
 }
 
 /// Whether it is that header, with both tables.
-fn has_tables(front: &Front, header: &Ehdr) -> bool {
-    let whole = front.phdrs.len() == 2 && front.shdrs.len() == 3 && has_numbers(front);
-    let stands = front.written == [2, 3, 1] && front.pad == *b"padding";
-    front.ehdr == *header && whole && stands
+fn has_tables(rt: &HostRuntime, front: &Front, header: &Ehdr) -> bool {
+    let whole = same(rt, &front.phdrs.len(), &2)
+        && same(rt, &front.shdrs.len(), &3)
+        && has_numbers(rt, front);
+    let stands = same(rt, &front.written, &[2, 3, 1]) && same(rt, &front.pad, &*b"padding");
+    same(rt, &front.ehdr, header) && whole && stands
 }
 
 /// Whether the counts and the string index are those of section 0.
-fn is_extended(front: &Front) -> bool {
-    let counts = front.ehdr.phnum == 2 && front.ehdr.shnum == 3;
-    counts && front.ehdr.shstrndx == 70_000 && front.written == [0xffff, 0, 0xffff]
+fn is_extended(rt: &HostRuntime, front: &Front) -> bool {
+    let counts = same(rt, &front.ehdr.phnum, &2) && same(rt, &front.ehdr.shnum, &3);
+    counts
+        && same(rt, &front.ehdr.shstrndx, &70_000)
+        && same(rt, &front.written, &[0xffff, 0, 0xffff])
 }
 
 /// Whether a front is as stated.
-fn is_front(front: &Front, shape: Shape, header: &Ehdr) -> bool {
+fn is_front(rt: &HostRuntime, front: &Front, shape: Shape, header: &Ehdr) -> bool {
     match shape {
-        Shape::Alone => is_alone(front, header),
-        Shape::WithTables => has_tables(front, header),
-        Shape::Extended => is_extended(front),
+        Shape::Alone => is_alone(rt, front, header),
+        Shape::WithTables => has_tables(rt, front, header),
+        Shape::Extended => is_extended(rt, front),
     }
 }
 
 /// Whether the front of a source is, and nothing else is read.
-fn is_read(alloc: Global, src: &mut MemSource, shape: Shape, header: &Ehdr) -> bool {
-    match read_front(alloc, src) {
+fn is_read(rt: &HostRuntime, src: &mut MemSource, shape: Shape, header: &Ehdr) -> bool {
+    match read_front(rt.alloc(), src) {
         Ok(front) => {
-            is_front(&front, shape, header) && src.asked() == size_of_front(shape, header.class)
+            is_front(rt, &front, shape, header)
+                && same(rt, &src.asked(), &size_of_front(shape, header.class))
         }
-        Err(_) => false,
+        Err(e) => failed(rt, e),
     }
 }
 
 /// Whether that of an image is.
-fn is_read_of(alloc: Global, shape: Shape, header: &Ehdr, bytes: Octets) -> bool {
-    match source(alloc, bytes, 0) {
-        Ok(mut src) => is_read(alloc, &mut src, shape, header),
-        Err(_) => false,
+fn is_read_of(rt: &HostRuntime, shape: Shape, header: &Ehdr, bytes: Octets) -> bool {
+    match source(rt.alloc(), bytes, 0) {
+        Ok(mut src) => is_read(rt, &mut src, shape, header),
+        Err(e) => failed(rt, e),
     }
 }
 
 /// Whether that of the image in a form is.
-fn is_read_in(alloc: Global, shape: Shape, class: Class, order: Order) -> bool {
-    match image_of(alloc, shape, class, order) {
+fn is_read_in(rt: &HostRuntime, shape: Shape, class: Class, order: Order) -> bool {
+    match image_of(rt.alloc(), shape, class, order) {
         Ok(image) => {
             let header = image.header;
-            is_read_of(alloc, shape, &header, image.bytes)
+            is_read_of(rt, shape, &header, image.bytes)
         }
-        Err(_) => false,
+        Err(e) => failed(rt, e),
     }
 }
 
 /// Whether it is in all forms.
-fn are_read(alloc: Global, shape: Shape) -> bool {
+fn are_read(rt: &HostRuntime, shape: Shape) -> bool {
     for (class, order) in FORMS.iter() {
-        if !is_read_in(alloc, shape, *class, *order) {
+        if !within(rt, &(class, order), is_read_in(rt, shape, *class, *order)) {
             return false;
         }
     }
@@ -188,46 +194,46 @@ fn are_read(alloc: Global, shape: Shape) -> bool {
 
 #[test]
 fn a_header_alone_is_read(rt: HostRuntime) {
-    assert!(rt; are_read(rt.alloc(), Shape::Alone));
+    assert!(rt; are_read(&rt, Shape::Alone));
 }
 
 #[test]
 fn a_header_with_both_tables_is_read(rt: HostRuntime) {
-    assert!(rt; are_read(rt.alloc(), Shape::WithTables));
+    assert!(rt; are_read(&rt, Shape::WithTables));
 }
 
 #[test]
 fn numbers_in_section_0_count(rt: HostRuntime) {
-    assert!(rt; are_read(rt.alloc(), Shape::Extended));
+    assert!(rt; are_read(&rt, Shape::Extended));
 }
 
 /// Whether a front is refused as `Read`, and then is read.
-fn is_read_again(alloc: Global, src: &mut MemSource) -> bool {
-    let refusal = read_front(alloc, src).err();
-    refusal == Some(ElfError::Read) && read_front(alloc, src).is_ok()
+fn is_read_again(rt: &HostRuntime, src: &mut MemSource) -> bool {
+    let refusal = read_front(rt.alloc(), src).err();
+    same(rt, &refusal, &Some(ElfError::Read)) && read_front(rt.alloc(), src).is_ok()
 }
 
 /// Whether it is of these bytes, where the read of a number fails.
-fn is_named_of(alloc: Global, bytes: Octets, bad_read: u64) -> bool {
-    match source(alloc, bytes, bad_read) {
-        Ok(mut src) => is_read_again(alloc, &mut src),
-        Err(_) => false,
+fn is_named_of(rt: &HostRuntime, bytes: Octets, bad_read: u64) -> bool {
+    match source(rt.alloc(), bytes, bad_read) {
+        Ok(mut src) => is_read_again(rt, &mut src),
+        Err(e) => failed(rt, e),
     }
 }
 
 /// Whether it is of the image whose numbers stand in section 0.
-fn is_named(alloc: Global, bad_read: u64) -> bool {
-    match numbers_in_section_0(alloc, Class::C64, Order::Least) {
-        Ok(image) => is_named_of(alloc, image.bytes, bad_read),
-        Err(_) => false,
+fn is_named(rt: &HostRuntime, bad_read: u64) -> bool {
+    match numbers_in_section_0(rt.alloc(), Class::C64, Order::Least) {
+        Ok(image) => is_named_of(rt, image.bytes, bad_read),
+        Err(e) => failed(rt, e),
     }
 }
 
 /// Whether it is where any read fails.
-fn failed_reads_are_named(alloc: Global) -> bool {
+fn failed_reads_are_named(rt: &HostRuntime) -> bool {
     // The identification, the rest of the header, section 0, and the two tables.
     for bad_read in 1..6 {
-        if !is_named(alloc, bad_read) {
+        if !within(rt, &bad_read, is_named(rt, bad_read)) {
             return false;
         }
     }
@@ -236,7 +242,7 @@ fn failed_reads_are_named(alloc: Global) -> bool {
 
 #[test]
 fn a_failed_read_is_named(rt: HostRuntime) {
-    assert!(rt; failed_reads_are_named(rt.alloc()));
+    assert!(rt; failed_reads_are_named(&rt));
 }
 
 /// How many section headers there are in a large table: those of two reads, and some more.
@@ -277,7 +283,7 @@ fn address_of(number: u64) -> u64 {
 }
 
 /// Whether a front has a large table.
-fn has_large_table(front: &Front) -> bool {
+fn has_large_table(rt: &HostRuntime, front: &Front) -> bool {
     for number in 0..u64::from(LARGE) {
         let Some(header) = front.shdrs.get(number) else {
             return false;
@@ -286,39 +292,40 @@ fn has_large_table(front: &Front) -> bool {
             return false;
         }
     }
-    front.shdrs.len() == u64::from(LARGE)
+    same(rt, &front.shdrs.len(), &u64::from(LARGE))
 }
 
 /// Whether that of a source is read, and nothing else.
-fn is_large(alloc: Global, src: &mut MemSource, class: Class) -> bool {
-    match read_front(alloc, src) {
+fn is_large(rt: &HostRuntime, src: &mut MemSource, class: Class) -> bool {
+    match read_front(rt.alloc(), src) {
         Ok(front) => {
-            has_large_table(&front) && src.asked() == tables_size(class, 0, u64::from(LARGE))
+            has_large_table(rt, &front)
+                && same(rt, &src.asked(), &tables_size(class, 0, u64::from(LARGE)))
         }
-        Err(_) => false,
+        Err(e) => failed(rt, e),
     }
 }
 
 /// Whether that of these bytes is.
-fn is_large_of(alloc: Global, bytes: Octets, class: Class) -> bool {
-    match source(alloc, bytes, 0) {
-        Ok(mut src) => is_large(alloc, &mut src, class),
-        Err(_) => false,
+fn is_large_of(rt: &HostRuntime, bytes: Octets, class: Class) -> bool {
+    match source(rt.alloc(), bytes, 0) {
+        Ok(mut src) => is_large(rt, &mut src, class),
+        Err(e) => failed(rt, e),
     }
 }
 
 /// Whether that in a form is.
-fn is_large_in(alloc: Global, class: Class, order: Order) -> bool {
-    match large_table(alloc, class, order) {
-        Ok(image) => is_large_of(alloc, image.bytes, class),
-        Err(_) => false,
+fn is_large_in(rt: &HostRuntime, class: Class, order: Order) -> bool {
+    match large_table(rt.alloc(), class, order) {
+        Ok(image) => is_large_of(rt, image.bytes, class),
+        Err(e) => failed(rt, e),
     }
 }
 
 /// Whether it is in all forms.
-fn large_tables_are_read(alloc: Global) -> bool {
+fn large_tables_are_read(rt: &HostRuntime) -> bool {
     for (class, order) in FORMS.iter() {
-        if !is_large_in(alloc, *class, *order) {
+        if !within(rt, &(class, order), is_large_in(rt, *class, *order)) {
             return false;
         }
     }
@@ -327,20 +334,20 @@ fn large_tables_are_read(alloc: Global) -> bool {
 
 #[test]
 fn a_table_of_several_reads_is_whole(rt: HostRuntime) {
-    assert!(rt; large_tables_are_read(rt.alloc()));
+    assert!(rt; large_tables_are_read(&rt));
 }
 
 /// Whether a failed read of a large table is named.
-fn is_large_named(alloc: Global, bad_read: u64) -> bool {
-    match large_table(alloc, Class::C64, Order::Least) {
-        Ok(image) => is_named_of(alloc, image.bytes, bad_read),
-        Err(_) => false,
+fn is_large_named(rt: &HostRuntime, bad_read: u64) -> bool {
+    match large_table(rt.alloc(), Class::C64, Order::Least) {
+        Ok(image) => is_named_of(rt, image.bytes, bad_read),
+        Err(e) => failed(rt, e),
     }
 }
 
 #[test]
 fn a_failed_read_in_a_table_is_named(rt: HostRuntime) {
     // After the two of the header, the first and the last of the three of the table.
-    assert!(rt; is_large_named(rt.alloc(), 3));
-    assert!(rt; is_large_named(rt.alloc(), 5));
+    assert!(rt; is_large_named(&rt, 3));
+    assert!(rt; is_large_named(&rt, 5));
 }

@@ -6,7 +6,7 @@ use elf_xlate::{
     ehdr_fits, ehdr_size, get_ehdr, get_phdr, get_phdrs, get_shdr, get_shdrs, phdr_fits, phdr_size,
     put_ehdr, put_phdr, put_shdr, shdr_fits, shdr_size,
 };
-use std::alloc::Global;
+use test_rows::{failed, other, same, same_bytes};
 
 /// A class and a byte order.
 type Form = (Class, Order);
@@ -16,66 +16,66 @@ const NARROW: Form = (Class::C32, Order::Greatest);
 const BROAD: Form = (Class::C64, Order::Least);
 
 /// Whether bytes hold the program header, and are written for it again into as many.
-fn holds_phdr(form: Form, bytes: &[u8], want: &Phdr, out: &mut [u8]) -> bool {
+fn holds_phdr(rt: &HostRuntime, form: Form, bytes: &[u8], want: &Phdr, out: &mut [u8]) -> bool {
     if bytes.len() != phdr_size(form.0) || out.len() != phdr_size(form.0) {
-        return false;
+        return other(rt, &bytes.len(), "the size of a header");
     }
     let header = get_phdr(form.0, form.1, bytes);
     put_phdr(form.0, form.1, &header, out);
-    header == *want && *out == *bytes
+    same(rt, &header, want) && same_bytes(rt, out, bytes)
 }
 
 /// Whether they are a table of that program header alone.
-fn lists_phdr(alloc: Global, form: Form, bytes: &[u8], want: &Phdr) -> bool {
+fn lists_phdr(rt: &HostRuntime, form: Form, bytes: &[u8], want: &Phdr) -> bool {
     if bytes.len() != phdr_size(form.0) {
-        return false;
+        return other(rt, &bytes.len(), "the size of a header");
     }
-    match get_phdrs(alloc, form.0, form.1, bytes) {
-        Ok(table) => table.len() == 1 && table.get(0) == Some(*want),
-        Err(_) => false,
+    match get_phdrs(rt.alloc(), form.0, form.1, bytes) {
+        Ok(table) => same(rt, &table.len(), &1) && same(rt, &table.get(0), &Some(*want)),
+        Err(e) => failed(rt, e),
     }
 }
 
 /// Whether these bytes hold the program header, alone and as a table, and are written for it again.
-fn is_phdr(alloc: Global, form: Form, bytes: &[u8], want: &Phdr) -> bool {
-    match zeros(alloc, bytes.len()) {
+fn is_phdr(rt: &HostRuntime, form: Form, bytes: &[u8], want: &Phdr) -> bool {
+    match zeros(rt.alloc(), bytes.len()) {
         Ok(mut out) => {
-            holds_phdr(form, bytes, want, out.as_mut_slice())
-                && lists_phdr(alloc, form, bytes, want)
+            holds_phdr(rt, form, bytes, want, out.as_mut_slice())
+                && lists_phdr(rt, form, bytes, want)
         }
-        Err(_) => false,
+        Err(e) => failed(rt, e),
     }
 }
 
 /// Whether bytes hold the section header, and are written for it again into as many.
-fn holds_shdr(form: Form, bytes: &[u8], want: &Shdr, out: &mut [u8]) -> bool {
+fn holds_shdr(rt: &HostRuntime, form: Form, bytes: &[u8], want: &Shdr, out: &mut [u8]) -> bool {
     if bytes.len() != shdr_size(form.0) || out.len() != shdr_size(form.0) {
-        return false;
+        return other(rt, &bytes.len(), "the size of a header");
     }
     let header = get_shdr(form.0, form.1, bytes);
     put_shdr(form.0, form.1, &header, out);
-    header == *want && *out == *bytes
+    same(rt, &header, want) && same_bytes(rt, out, bytes)
 }
 
 /// Whether they are a table of that section header alone.
-fn lists_shdr(alloc: Global, form: Form, bytes: &[u8], want: &Shdr) -> bool {
+fn lists_shdr(rt: &HostRuntime, form: Form, bytes: &[u8], want: &Shdr) -> bool {
     if bytes.len() != shdr_size(form.0) {
-        return false;
+        return other(rt, &bytes.len(), "the size of a header");
     }
-    match get_shdrs(alloc, form.0, form.1, bytes) {
-        Ok(table) => table.len() == 1 && table.get(0) == Some(*want),
-        Err(_) => false,
+    match get_shdrs(rt.alloc(), form.0, form.1, bytes) {
+        Ok(table) => same(rt, &table.len(), &1) && same(rt, &table.get(0), &Some(*want)),
+        Err(e) => failed(rt, e),
     }
 }
 
 /// Whether these bytes hold the section header, alone and as a table, and are written for it again.
-fn is_shdr(alloc: Global, form: Form, bytes: &[u8], want: &Shdr) -> bool {
-    match zeros(alloc, bytes.len()) {
+fn is_shdr(rt: &HostRuntime, form: Form, bytes: &[u8], want: &Shdr) -> bool {
+    match zeros(rt.alloc(), bytes.len()) {
         Ok(mut out) => {
-            holds_shdr(form, bytes, want, out.as_mut_slice())
-                && lists_shdr(alloc, form, bytes, want)
+            holds_shdr(rt, form, bytes, want, out.as_mut_slice())
+                && lists_shdr(rt, form, bytes, want)
         }
-        Err(_) => false,
+        Err(e) => failed(rt, e),
     }
 }
 
@@ -83,23 +83,23 @@ fn is_shdr(alloc: Global, form: Form, bytes: &[u8], want: &Shdr) -> bool {
 const PAD: [u8; 7] = [0, 0, 0, 0, 0, 0, 5];
 
 /// Whether bytes hold the ELF header, and are written for it again into as many.
-fn holds_ehdr(bytes: &[u8], want: &Ehdr, out: &mut [u8]) -> bool {
+fn holds_ehdr(rt: &HostRuntime, bytes: &[u8], want: &Ehdr, out: &mut [u8]) -> bool {
     if bytes.len() != ehdr_size(want.class) {
-        return false;
+        return other(rt, &bytes.len(), "the size of a header");
     }
     let header = get_ehdr(want.class, want.order, bytes);
     if out.len() != ehdr_size(header.class) {
-        return false;
+        return other(rt, &bytes.len(), "the size of a header");
     }
     put_ehdr(&header, PAD, out);
-    header == *want && *out == *bytes
+    same(rt, &header, want) && same_bytes(rt, out, bytes)
 }
 
 /// Whether these bytes hold the ELF header, and are written for it again.
-fn is_ehdr(alloc: Global, bytes: &[u8], want: &Ehdr) -> bool {
-    match zeros(alloc, bytes.len()) {
-        Ok(mut out) => holds_ehdr(bytes, want, out.as_mut_slice()),
-        Err(_) => false,
+fn is_ehdr(rt: &HostRuntime, bytes: &[u8], want: &Ehdr) -> bool {
+    match zeros(rt.alloc(), bytes.len()) {
+        Ok(mut out) => holds_ehdr(rt, bytes, want, out.as_mut_slice()),
+        Err(e) => failed(rt, e),
     }
 }
 
@@ -126,15 +126,15 @@ const BROAD_PHDR_BYTES: &[u8] = b"\x01\0\0\0\x02\0\0\0\x03\0\0\0\0\0\0\0\x04\0\0
 \x05\0\0\0\0\0\0\0\x06\0\0\0\0\0\0\0\x07\0\0\0\0\0\0\0\0\0\0\0\0\0\0\x80";
 
 /// Whether both are translated, and the broad one does not fit class 32.
-fn phdrs_are_translated(alloc: Global) -> bool {
-    is_phdr(alloc, NARROW, NARROW_PHDR_BYTES, &NARROW_PHDR)
-        && is_phdr(alloc, BROAD, BROAD_PHDR_BYTES, &BROAD_PHDR)
+fn phdrs_are_translated(rt: &HostRuntime) -> bool {
+    is_phdr(rt, NARROW, NARROW_PHDR_BYTES, &NARROW_PHDR)
+        && is_phdr(rt, BROAD, BROAD_PHDR_BYTES, &BROAD_PHDR)
         && !phdr_fits(&BROAD_PHDR, Class::C32)
 }
 
 #[test]
-fn program_headers(rt: HostRuntime) {
-    assert!(rt; phdrs_are_translated(rt.alloc()));
+fn program_headers_have_these_bytes(rt: HostRuntime) {
+    assert!(rt; phdrs_are_translated(&rt));
 }
 
 const NARROW_SHDR: Shdr = Shdr {
@@ -163,15 +163,15 @@ const BROAD_SHDR_BYTES: &[u8] = b"\x01\0\0\0\x02\0\0\0\x03\0\0\0\0\0\0\0\x04\0\0
 \x09\0\0\0\0\0\0\0\xff\xff\xff\xff\xff\xff\xff\xff";
 
 /// Whether both are translated, and the broad one does not fit class 32.
-fn shdrs_are_translated(alloc: Global) -> bool {
-    is_shdr(alloc, NARROW, NARROW_SHDR_BYTES, &NARROW_SHDR)
-        && is_shdr(alloc, BROAD, BROAD_SHDR_BYTES, &BROAD_SHDR)
+fn shdrs_are_translated(rt: &HostRuntime) -> bool {
+    is_shdr(rt, NARROW, NARROW_SHDR_BYTES, &NARROW_SHDR)
+        && is_shdr(rt, BROAD, BROAD_SHDR_BYTES, &BROAD_SHDR)
         && !shdr_fits(&BROAD_SHDR, Class::C32)
 }
 
 #[test]
-fn section_headers(rt: HostRuntime) {
-    assert!(rt; shdrs_are_translated(rt.alloc()));
+fn section_headers_have_these_bytes(rt: HostRuntime) {
+    assert!(rt; shdrs_are_translated(&rt));
 }
 
 const NARROW_EHDR: Ehdr = Ehdr {
@@ -216,13 +216,13 @@ const UNFIT_EHDR: Ehdr = Ehdr {
 };
 
 /// Whether both are translated, and the broad one does not fit class 32.
-fn ehdrs_are_translated(alloc: Global) -> bool {
-    is_ehdr(alloc, NARROW_EHDR_BYTES, &NARROW_EHDR)
-        && is_ehdr(alloc, BROAD_EHDR_BYTES, &BROAD_EHDR)
+fn ehdrs_are_translated(rt: &HostRuntime) -> bool {
+    is_ehdr(rt, NARROW_EHDR_BYTES, &NARROW_EHDR)
+        && is_ehdr(rt, BROAD_EHDR_BYTES, &BROAD_EHDR)
         && !ehdr_fits(&UNFIT_EHDR)
 }
 
 #[test]
-fn elf_headers(rt: HostRuntime) {
-    assert!(rt; ehdrs_are_translated(rt.alloc()));
+fn elf_headers_have_these_bytes(rt: HostRuntime) {
+    assert!(rt; ehdrs_are_translated(&rt));
 }

@@ -5,6 +5,7 @@ mod values;
 use elf_types::{Class, Dyn, ElfError, Kind, Octets, Order, Rel, Rela, Sym};
 use elf_xlate::{Items, XlateError, fsize, number, put_items, to_file, to_memory, unfit};
 use std::alloc::Global;
+use test_rows::{failed, failed_by, in_row, other, same, same_bytes};
 use values::{Form, Value, is_first, is_single, kind, of_two};
 
 const NARROW_LEAST: Form = (Class::C32, Order::Least);
@@ -16,15 +17,15 @@ const BROAD_LEAST: Form = (Class::C64, Order::Least);
 const BROAD_GREATEST: Form = (Class::C64, Order::Greatest);
 
 /// Whether items that fit are written as these bytes, into as many, as the range of all of them.
-fn is_range(items: &Items, form: Form, bytes: &[u8], out: &mut [u8]) -> bool {
+fn is_range(rt: &HostRuntime, items: &Items, form: Form, bytes: &[u8], out: &mut [u8]) -> bool {
     let Some(size) = fsize(items.kind(), form.0, items.count()) else {
-        return false;
+        return other(rt, &items.kind(), "a kind with a size");
     };
     if out.len() as u64 != size || unfit(items, form.0).is_some() {
-        return false;
+        return other(rt, &items.count(), "items that fit");
     }
     put_items(items, form.0, form.1, 0, items.count(), out);
-    *out == *bytes
+    same_bytes(rt, out, bytes)
 }
 
 /// So many zeros.
@@ -33,47 +34,54 @@ pub fn zeros(alloc: Global, len: usize) -> Result<Vec<u8>, ElfError> {
 }
 
 /// Whether they are into a list of as many.
-fn is_range_in(alloc: Global, items: &Items, form: Form, bytes: &[u8]) -> bool {
-    match zeros(alloc, bytes.len()) {
-        Ok(mut range) => is_range(items, form, bytes, range.as_mut_slice()),
-        Err(_) => false,
+fn is_range_in(rt: &HostRuntime, items: &Items, form: Form, bytes: &[u8]) -> bool {
+    match zeros(rt.alloc(), bytes.len()) {
+        Ok(mut range) => is_range(rt, items, form, bytes, range.as_mut_slice()),
+        Err(e) => failed(rt, e),
     }
 }
 
 /// Whether items are written as these bytes behind a byte that stays.
-fn is_appended(items: &Items, form: Form, bytes: &[u8], out: &mut Octets) -> bool {
-    let written = to_file(items, form.0, form.1, out).is_ok();
-    written && out.as_slice().strip_prefix(&[7]) == Some(bytes)
+fn is_appended(
+    rt: &HostRuntime,
+    items: &Items,
+    form: Form,
+    bytes: &[u8],
+    out: &mut Octets,
+) -> bool {
+    let written = same(rt, &to_file(items, form.0, form.1, out), &Ok(()));
+    written && same(rt, &out.as_slice().strip_prefix(&[7]), &Some(bytes))
 }
 
 /// Whether they are behind a list of that byte.
-fn is_behind(alloc: Global, items: &Items, form: Form, bytes: &[u8]) -> bool {
-    match Octets::from_slice(alloc, &[7]) {
-        Ok(mut out) => is_appended(items, form, bytes, &mut out),
-        Err(_) => false,
+fn is_behind(rt: &HostRuntime, items: &Items, form: Form, bytes: &[u8]) -> bool {
+    match Octets::from_slice(rt.alloc(), &[7]) {
+        Ok(mut out) => is_appended(rt, items, form, bytes, &mut out),
+        Err(e) => failed(rt, e),
     }
 }
 
 /// Whether items are written as these bytes, behind others and as a range.
-fn is_written(alloc: Global, items: &Items, form: Form, bytes: &[u8]) -> bool {
-    is_range_in(alloc, items, form, bytes) && is_behind(alloc, items, form, bytes)
+fn is_written(rt: &HostRuntime, items: &Items, form: Form, bytes: &[u8]) -> bool {
+    is_range_in(rt, items, form, bytes) && is_behind(rt, items, form, bytes)
 }
 
 /// A form, bytes, and the item that they hold in it.
 type Row = (Form, &'static [u8], Value);
 
 /// Whether bytes hold an item in a form, in a list, and are written for it again.
-fn is_held(alloc: Global, form: Form, bytes: &[u8], value: Value) -> bool {
-    match to_memory(alloc, kind(value), form.0, form.1, bytes) {
-        Ok(items) => is_first(&items, value) && is_written(alloc, &items, form, bytes),
-        Err(_) => false,
+fn is_held(rt: &HostRuntime, form: Form, bytes: &[u8], value: Value) -> bool {
+    match to_memory(rt.alloc(), kind(value), form.0, form.1, bytes) {
+        Ok(items) => is_first(rt, &items, value) && is_written(rt, &items, form, bytes),
+        Err(e) => failed_by(rt, &e),
     }
 }
 
 /// Whether it is so of each row, and the bytes hold the item alone.
-fn are_held(alloc: Global, rows: &[Row]) -> bool {
-    for (form, bytes, value) in rows {
-        if !is_single(*form, bytes, *value) || !is_held(alloc, *form, bytes, *value) {
+fn are_held(rt: &HostRuntime, rows: &[Row]) -> bool {
+    for (n, (form, bytes, value)) in rows.iter().enumerate() {
+        let so = is_single(rt, *form, bytes, *value) && is_held(rt, *form, bytes, *value);
+        if !in_row(rt, n, so) {
             return false;
         }
     }
@@ -81,16 +89,25 @@ fn are_held(alloc: Global, rows: &[Row]) -> bool {
 }
 
 /// Whether two items are refused in class 32 by the second, with nothing written, and fit class 64.
-fn is_refused(items: &Items, out: &mut Octets) -> bool {
+fn is_refused(rt: &HostRuntime, items: &Items, out: &mut Octets) -> bool {
     let refused = to_file(items, Class::C32, Order::Least, out);
-    let narrow = refused == Err(XlateError::Unfit { index: 1 }) && out.is_empty();
-    narrow && unfit(items, Class::C64).is_none()
+    same(rt, &refused, &Err(XlateError::Unfit { index: 1 }))
+        && same(rt, &out.len(), &0)
+        && same(rt, &unfit(items, Class::C64), &None)
 }
 
 /// Whether each of the items is refused behind one that fits.
-fn are_refused(alloc: Global, good: Value, others: &[Value]) -> bool {
-    for other in others {
-        if !is_refused(&of_two(alloc, good, *other), &mut Octets::new(alloc)) {
+fn are_refused(rt: &HostRuntime, good: Value, others: &[Value]) -> bool {
+    for (n, other) in others.iter().enumerate() {
+        if !in_row(
+            rt,
+            n,
+            is_refused(
+                rt,
+                &of_two(rt.alloc(), good, *other),
+                &mut Octets::new(rt.alloc()),
+            ),
+        ) {
             return false;
         }
     }
@@ -98,8 +115,8 @@ fn are_refused(alloc: Global, good: Value, others: &[Value]) -> bool {
 }
 
 /// Whether bytes hold their items in their forms, and the others are refused behind a good one.
-fn are_translated(alloc: Global, rows: &[Row], good: Value, others: &[Value]) -> bool {
-    are_held(alloc, rows) && are_refused(alloc, good, others)
+fn are_translated(rt: &HostRuntime, rows: &[Row], good: Value, others: &[Value]) -> bool {
+    are_held(rt, rows) && are_refused(rt, good, others)
 }
 
 const NARROW_SYM: Sym = Sym {
@@ -155,8 +172,8 @@ static UNFIT_SYMBOLS: [Value; 2] = [
 ];
 
 #[test]
-fn symbols(rt: HostRuntime) {
-    assert!(rt; are_translated(rt.alloc(), &SYMBOLS, Value::Sym(NARROW_SYM), &UNFIT_SYMBOLS));
+fn symbols_have_these_bytes_and_wide_ones_are_refused_in_class_32(rt: HostRuntime) {
+    assert!(rt; are_translated(&rt, &SYMBOLS, Value::Sym(NARROW_SYM), &UNFIT_SYMBOLS));
 }
 
 const NARROW_REL: Rel = Rel {
@@ -210,10 +227,10 @@ static UNFIT_RELOCATIONS: [Value; 3] = [
 ];
 
 #[test]
-fn relocations(rt: HostRuntime) {
+fn relocations_have_these_bytes_and_wide_ones_are_refused_in_class_32(rt: HostRuntime) {
     assert!(rt;
         are_translated(
-            rt.alloc(),
+            &rt,
             &RELOCATIONS,
             Value::Rel(NARROW_REL),
             &UNFIT_RELOCATIONS
@@ -273,8 +290,8 @@ static UNFIT_ADDENDS: [Value; 2] = [
 ];
 
 #[test]
-fn relocations_with_addends(rt: HostRuntime) {
-    assert!(rt; are_translated(rt.alloc(), &WITH_ADDENDS, Value::Rela(RELA), &UNFIT_ADDENDS));
+fn addends_have_these_bytes_and_wide_ones_are_refused_in_class_32(rt: HostRuntime) {
+    assert!(rt; are_translated(&rt, &WITH_ADDENDS, Value::Rela(RELA), &UNFIT_ADDENDS));
 }
 
 const NARROW_DYN: Dyn = Dyn {
@@ -320,8 +337,8 @@ static UNFIT_DYNAMIC: [Value; 2] = [
 ];
 
 #[test]
-fn dynamic_entries(rt: HostRuntime) {
-    assert!(rt; are_translated(rt.alloc(), &DYNAMIC, Value::Dyn(NARROW_DYN), &UNFIT_DYNAMIC));
+fn dynamic_entries_have_these_bytes_and_wide_ones_are_refused_in_class_32(rt: HostRuntime) {
+    assert!(rt; are_translated(&rt, &DYNAMIC, Value::Dyn(NARROW_DYN), &UNFIT_DYNAMIC));
 }
 
 static NUMBERS: [Row; 8] = [
@@ -346,9 +363,9 @@ static NUMBERS: [Row; 8] = [
 static UNFIT_ADDRESSES: [Value; 2] = [Value::Addr(1 << 32), Value::Addr(u64::MAX)];
 
 #[test]
-fn numbers_alone(rt: HostRuntime) {
+fn numbers_have_these_bytes_and_wide_ones_are_refused_in_class_32(rt: HostRuntime) {
     let good = Value::Addr(0xffff_ffff);
-    assert!(rt; are_translated(rt.alloc(), &NUMBERS, good, &UNFIT_ADDRESSES));
+    assert!(rt; are_translated(&rt, &NUMBERS, good, &UNFIT_ADDRESSES));
 }
 
 /// The numbers that three bytes hold in the two orders.
@@ -358,8 +375,8 @@ fn both_of_three() -> (u64, u64) {
 }
 
 #[test]
-fn a_number_of_three_bytes(rt: HostRuntime) {
-    assert!(rt; both_of_three() == (0x03_0201, 0x01_0203));
+fn three_bytes_are_a_number_in_both_orders(rt: HostRuntime) {
+    assert!(rt; same(&rt, &both_of_three(), &(0x03_0201, 0x01_0203)));
 }
 
 /// A kind, and the size of an item in class 32 and in class 64.
@@ -382,25 +399,34 @@ fn count_in_three(alloc: Global, kind: Kind) -> Result<u64, XlateError> {
 }
 
 /// Whether the items of a kind have these sizes, and are not read of fewer bytes.
-fn has_sizes(alloc: Global, kind: Kind, narrow: u64, broad: u64) -> bool {
-    let sizes = fsize(kind, Class::C32, 3) == Some(narrow.wrapping_mul(3))
-        && fsize(kind, Class::C64, 1) == Some(broad);
-    sizes && count_in_three(alloc, kind) == Err(XlateError::Ragged)
+fn has_sizes(rt: &HostRuntime, kind: Kind, narrow: u64, broad: u64) -> bool {
+    let sizes = same(
+        rt,
+        &fsize(kind, Class::C32, 3),
+        &Some(narrow.wrapping_mul(3)),
+    ) && same(rt, &fsize(kind, Class::C64, 1), &Some(broad));
+    sizes
+        && same(
+            rt,
+            &count_in_three(rt.alloc(), kind),
+            &Err(XlateError::Ragged),
+        )
 }
 
 /// Whether the kinds have those sizes.
-fn sizes_are_told(alloc: Global, sizes: &[(Kind, u64, u64)]) -> bool {
-    for (kind, narrow, broad) in sizes {
-        if !has_sizes(alloc, *kind, *narrow, *broad) {
+fn sizes_are_told(rt: &HostRuntime, sizes: &[(Kind, u64, u64)]) -> bool {
+    for (n, (kind, narrow, broad)) in sizes.iter().enumerate() {
+        if !in_row(rt, n, has_sizes(rt, *kind, *narrow, *broad)) {
             return false;
         }
     }
-    fsize(Kind::Half, Class::C64, 1 << 63).is_none() && count_in_three(alloc, Kind::Empty) == Ok(0)
+    same(rt, &fsize(Kind::Half, Class::C64, 1 << 63), &None)
+        && same(rt, &count_in_three(rt.alloc(), Kind::Empty), &Ok(0))
 }
 
 #[test]
-fn sizes(rt: HostRuntime) {
-    assert!(rt; sizes_are_told(rt.alloc(), &SIZES));
+fn each_kind_has_its_size_in_both_classes(rt: HostRuntime) {
+    assert!(rt; sizes_are_told(&rt, &SIZES));
 }
 
 /// Errors and their texts.
@@ -411,17 +437,17 @@ static TEXTS: [(XlateError, &str); 3] = [
 ];
 
 /// Whether an error has a text.
-fn has_text(alloc: Global, error: &XlateError, text: &str) -> bool {
-    match format!(in alloc; "{error}") {
-        Ok(shown) => shown.as_str() == text,
-        Err(_) => false,
+fn has_text(rt: &HostRuntime, error: &XlateError, text: &str) -> bool {
+    match format!(in rt.alloc(); "{error}") {
+        Ok(shown) => same_bytes(rt, shown.as_bytes(), text.as_bytes()),
+        Err(e) => failed_by(rt, &e),
     }
 }
 
 /// Whether the errors have those texts.
-fn texts_are_shown(alloc: Global, texts: &[(XlateError, &str)]) -> bool {
-    for (error, text) in texts {
-        if !has_text(alloc, error, text) {
+fn texts_are_shown(rt: &HostRuntime, texts: &[(XlateError, &str)]) -> bool {
+    for (n, (error, text)) in texts.iter().enumerate() {
+        if !in_row(rt, n, has_text(rt, error, text)) {
             return false;
         }
     }
@@ -429,6 +455,6 @@ fn texts_are_shown(alloc: Global, texts: &[(XlateError, &str)]) -> bool {
 }
 
 #[test]
-fn texts_of_errors(rt: HostRuntime) {
-    assert!(rt; texts_are_shown(rt.alloc(), &TEXTS));
+fn each_error_has_its_text(rt: HostRuntime) {
+    assert!(rt; texts_are_shown(&rt, &TEXTS));
 }

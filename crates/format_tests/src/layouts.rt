@@ -3,6 +3,7 @@
 use elf_layout::{PartAt, Parts, Places, overlap, place, ranks_by_position, rounded_within};
 use elf_types::{Class, ElfError, Part};
 use std::alloc::Global;
+use test_rows::{failed, in_row, same, same_items};
 
 /// A number, an alignment, a limit, and the next multiple within the limit.
 type Rounding = (u64, u64, u64, Option<u64>);
@@ -20,9 +21,13 @@ static ROUNDINGS: [Rounding; 9] = [
 ];
 
 /// Whether the numbers are rounded as stated.
-fn are_rounded(roundings: &[Rounding]) -> bool {
-    for (n, align, limit, multiple) in roundings {
-        if rounded_within(*n, *align, *limit) != *multiple {
+fn are_rounded(rt: &HostRuntime, roundings: &[Rounding]) -> bool {
+    for (k, (n, align, limit, multiple)) in roundings.iter().enumerate() {
+        if !in_row(
+            rt,
+            k,
+            same(rt, &rounded_within(*n, *align, *limit), multiple),
+        ) {
             return false;
         }
     }
@@ -31,7 +36,7 @@ fn are_rounded(roundings: &[Rounding]) -> bool {
 
 #[test]
 fn rounds_up_to_any_alignment(rt: HostRuntime) {
-    assert!(rt; are_rounded(&ROUNDINGS));
+    assert!(rt; are_rounded(&rt, &ROUNDINGS));
 }
 
 /// A part with bytes in the file: its position, its length and its alignment.
@@ -77,10 +82,16 @@ fn parts_of(alloc: Global, rows: &[Row]) -> Result<Parts, ElfError> {
 }
 
 /// Whether parts are placed at these positions, and the image ends there.
-fn stand_at(placed: Result<Places, ElfError>, positions: &[u64], end: u64) -> bool {
+fn stand_at(
+    rt: &HostRuntime,
+    placed: Result<Places, ElfError>,
+    positions: &[u64],
+    end: u64,
+) -> bool {
     match placed {
-        Ok(places) => places.at.as_slice() == positions && places.end == end,
-        Err(_) => false,
+        Ok(places) => same_items(rt, places.at.as_slice(), positions)
+            && same(rt, &places.end, &end),
+        Err(e) => failed(rt, e),
     }
 }
 
@@ -109,24 +120,29 @@ static NARROW: [Row; 5] = [
 static NARROW_AT: [u64; 5] = [0, 52, 52, 56, 88];
 
 /// Whether parts are placed at these positions, in order and where the caller puts them.
-fn stay_at(alloc: Global, parts: &Parts, positions: &[u64], length: u64, class: Class) -> bool {
-    let moved = place(alloc, parts, false, length, class);
-    stand_at(moved, positions, length)
-        && stand_at(place(alloc, parts, true, length, class), positions, length)
+fn stay_at(rt: &HostRuntime, parts: &Parts, positions: &[u64], length: u64, class: Class) -> bool {
+    let moved = place(rt.alloc(), parts, false, length, class);
+    stand_at(rt, moved, positions, length)
+        && stand_at(
+            rt,
+            place(rt.alloc(), parts, true, length, class),
+            positions,
+            length,
+        )
 }
 
 /// Whether each part is placed where it stands, and the image keeps its length.
-fn stays(alloc: Global, rows: &[Row], positions: &[u64], length: u64, class: Class) -> bool {
-    match parts_of(alloc, rows) {
-        Ok(parts) => stay_at(alloc, &parts, positions, length, class),
-        Err(_) => false,
+fn stays(rt: &HostRuntime, rows: &[Row], positions: &[u64], length: u64, class: Class) -> bool {
+    match parts_of(rt.alloc(), rows) {
+        Ok(parts) => stay_at(rt, &parts, positions, length, class),
+        Err(e) => failed(rt, e),
     }
 }
 
 #[test]
 fn an_image_stands_where_it_stood(rt: HostRuntime) {
-    assert!(rt; stays(rt.alloc(), &WIDE, &WIDE_AT, 312, Class::C64));
-    assert!(rt; stays(rt.alloc(), &NARROW, &NARROW_AT, 208, Class::C32));
+    assert!(rt; stays(&rt, &WIDE, &WIDE_AT, 312, Class::C64));
+    assert!(rt; stays(&rt, &NARROW, &NARROW_AT, 208, Class::C32));
 }
 
 /// The parts of an image of class 64, the position of each, and the image's length.
@@ -191,21 +207,22 @@ static IMAGES: [Image; 4] = [
 ];
 
 /// Whether an image is laid out as stated.
-fn is_laid_out(alloc: Global, image: &Image) -> bool {
-    match parts_of(alloc, image.parts) {
+fn is_laid_out(rt: &HostRuntime, image: &Image) -> bool {
+    match parts_of(rt.alloc(), image.parts) {
         Ok(parts) => stand_at(
-            place(alloc, &parts, false, 0, Class::C64),
+            rt,
+            place(rt.alloc(), &parts, false, 0, Class::C64),
             image.positions,
             image.end,
         ),
-        Err(_) => false,
+        Err(e) => failed(rt, e),
     }
 }
 
 /// Whether the images are.
-fn are_laid_out(alloc: Global, images: &[Image]) -> bool {
-    for image in images {
-        if !is_laid_out(alloc, image) {
+fn are_laid_out(rt: &HostRuntime, images: &[Image]) -> bool {
+    for (n, image) in images.iter().enumerate() {
+        if !in_row(rt, n, is_laid_out(rt, image)) {
             return false;
         }
     }
@@ -214,7 +231,7 @@ fn are_laid_out(alloc: Global, images: &[Image]) -> bool {
 
 #[test]
 fn sections_follow_the_program_headers(rt: HostRuntime) {
-    assert!(rt; are_laid_out(rt.alloc(), &IMAGES));
+    assert!(rt; are_laid_out(&rt, &IMAGES));
 }
 
 /// The position, the length and the alignment of sections 1 to 3.
@@ -249,14 +266,15 @@ static FOLLOWING: [Following; 3] = [
 ];
 
 /// Whether sections follow one another as stated.
-fn follow(alloc: Global, following: &Following) -> bool {
-    match three(alloc, following.0) {
+fn follow(rt: &HostRuntime, following: &Following) -> bool {
+    match three(rt.alloc(), following.0) {
         Ok(parts) => stand_at(
-            place(alloc, &parts, false, 1000, Class::C32),
+            rt,
+            place(rt.alloc(), &parts, false, 1000, Class::C32),
             following.1,
             following.2,
         ),
-        Err(_) => false,
+        Err(e) => failed(rt, e),
     }
 }
 
@@ -271,20 +289,21 @@ fn add_around_bare(parts: &mut Parts) -> Result<(), ElfError> {
 const AROUND_BARE: [u64; 3] = [0, 80, 65];
 
 /// Whether a section without bytes has a position of its own and moves nothing.
-fn bare_moves_nothing(alloc: Global) -> bool {
-    let mut parts = Parts::new(alloc);
-    add_around_bare(&mut parts).is_ok()
+fn bare_moves_nothing(rt: &HostRuntime) -> bool {
+    let mut parts = Parts::new(rt.alloc());
+    same(rt, &add_around_bare(&mut parts), &Ok(()))
         && stand_at(
-            place(alloc, &parts, false, 1000, Class::C32),
+            rt,
+            place(rt.alloc(), &parts, false, 1000, Class::C32),
             &AROUND_BARE,
             66,
         )
 }
 
 /// Whether all do.
-fn all_follow(alloc: Global, rows: &[Following]) -> bool {
-    for following in rows {
-        if !follow(alloc, following) {
+fn all_follow(rt: &HostRuntime, rows: &[Following]) -> bool {
+    for (n, following) in rows.iter().enumerate() {
+        if !in_row(rt, n, follow(rt, following)) {
             return false;
         }
     }
@@ -293,12 +312,12 @@ fn all_follow(alloc: Global, rows: &[Following]) -> bool {
 
 #[test]
 fn parts_follow_one_another(rt: HostRuntime) {
-    assert!(rt; all_follow(rt.alloc(), &FOLLOWING));
+    assert!(rt; all_follow(&rt, &FOLLOWING));
 }
 
 #[test]
 fn a_part_without_bytes_moves_nothing(rt: HostRuntime) {
-    assert!(rt; bare_moves_nothing(rt.alloc()));
+    assert!(rt; bare_moves_nothing(&rt));
 }
 
 /// Three sections, and the first of them that a later one meets, with that one.
@@ -340,23 +359,26 @@ fn refused_pair(placed: Result<Places, ElfError>) -> Result<Option<(Part, Part)>
 }
 
 /// Whether sections meet as stated, and are refused so where the caller places them.
-fn meet(alloc: Global, parts: &Parts, pair: Option<(Part, Part)>) -> bool {
-    refused_pair(place(alloc, parts, true, 0, Class::C64)) == Ok(pair)
-        && overlap(alloc, parts.as_slice()) == Ok(pair)
+fn meet(rt: &HostRuntime, parts: &Parts, pair: Option<(Part, Part)>) -> bool {
+    same(
+        rt,
+        &refused_pair(place(rt.alloc(), parts, true, 0, Class::C64)),
+        &Ok(pair),
+    ) && same(rt, &overlap(rt.alloc(), parts.as_slice()), &Ok(pair))
 }
 
 /// Whether the three do.
-fn three_meet(alloc: Global, meeting: &Meeting) -> bool {
-    match three(alloc, meeting.0) {
-        Ok(parts) => meet(alloc, &parts, meeting.1),
-        Err(_) => false,
+fn three_meet(rt: &HostRuntime, meeting: &Meeting) -> bool {
+    match three(rt.alloc(), meeting.0) {
+        Ok(parts) => meet(rt, &parts, meeting.1),
+        Err(e) => failed(rt, e),
     }
 }
 
 /// Whether all do.
-fn all_meet(alloc: Global, meetings: &[Meeting]) -> bool {
-    for meeting in meetings {
-        if !three_meet(alloc, meeting) {
+fn all_meet(rt: &HostRuntime, meetings: &[Meeting]) -> bool {
+    for (n, meeting) in meetings.iter().enumerate() {
+        if !in_row(rt, n, three_meet(rt, meeting)) {
             return false;
         }
     }
@@ -365,7 +387,7 @@ fn all_meet(alloc: Global, meetings: &[Meeting]) -> bool {
 
 #[test]
 fn parts_share_no_byte(rt: HostRuntime) {
-    assert!(rt; all_meet(rt.alloc(), &MEETINGS));
+    assert!(rt; all_meet(&rt, &MEETINGS));
 }
 
 /// Three sections, and the ranks of those that are not empty, by their positions.
@@ -380,25 +402,25 @@ static RANKINGS: [Ranking; 3] = [
 ];
 
 /// Whether parts are ranked as stated.
-fn have_ranks(alloc: Global, parts: &[PartAt], ranks: &[usize]) -> bool {
-    match ranks_by_position(alloc, parts) {
-        Ok(found) => found.as_slice() == ranks,
-        Err(_) => false,
+fn have_ranks(rt: &HostRuntime, parts: &[PartAt], ranks: &[usize]) -> bool {
+    match ranks_by_position(rt.alloc(), parts) {
+        Ok(found) => same_items(rt, found.as_slice(), ranks),
+        Err(e) => failed(rt, e),
     }
 }
 
 /// Whether sections are.
-fn are_ranked(alloc: Global, ranking: &Ranking) -> bool {
-    match three(alloc, ranking.0) {
-        Ok(parts) => have_ranks(alloc, parts.as_slice(), ranking.1),
-        Err(_) => false,
+fn are_ranked(rt: &HostRuntime, ranking: &Ranking) -> bool {
+    match three(rt.alloc(), ranking.0) {
+        Ok(parts) => have_ranks(rt, parts.as_slice(), ranking.1),
+        Err(e) => failed(rt, e),
     }
 }
 
 /// Whether all are.
-fn all_are_ranked(alloc: Global, rankings: &[Ranking]) -> bool {
-    for ranking in rankings {
-        if !are_ranked(alloc, ranking) {
+fn all_are_ranked(rt: &HostRuntime, rankings: &[Ranking]) -> bool {
+    for (n, ranking) in rankings.iter().enumerate() {
+        if !in_row(rt, n, are_ranked(rt, ranking)) {
             return false;
         }
     }
@@ -407,7 +429,7 @@ fn all_are_ranked(alloc: Global, rankings: &[Ranking]) -> bool {
 
 #[test]
 fn ranks_go_by_position(rt: HostRuntime) {
-    assert!(rt; all_are_ranked(rt.alloc(), &RANKINGS));
+    assert!(rt; all_are_ranked(&rt, &RANKINGS));
 }
 
 /// How parts are refused, if they are.
@@ -423,30 +445,45 @@ const HEADER: Row = (Part::Header, 0, 64, 1);
 
 /// Whether an image is refused as stated that reaches an end by its header, in order and where the
 /// caller places it.
-fn long_header_is(alloc: Global, class: Class, end: u64, stated: Option<ElfError>) -> bool {
+fn long_header_is(rt: &HostRuntime, class: Class, end: u64, stated: Option<ElfError>) -> bool {
     let long = [filled((Part::Header, 0, end, 1))];
-    refusal_of(alloc, &long, false, class) == stated
-        && refusal_of(alloc, &long, true, class) == stated
+    same(rt, &refusal_of(rt.alloc(), &long, false, class), &stated)
+        && same(rt, &refusal_of(rt.alloc(), &long, true, class), &stated)
 }
 
 /// Whether one is that reaches it by the bytes that are there already.
-fn long_base_is(alloc: Global, class: Class, end: u64, stated: Option<ElfError>) -> bool {
-    place(alloc, &Parts::new(alloc), true, end, class).err() == stated
+fn long_base_is(rt: &HostRuntime, class: Class, end: u64, stated: Option<ElfError>) -> bool {
+    same(
+        rt,
+        &place(rt.alloc(), &Parts::new(rt.alloc()), true, end, class).err(),
+        &stated,
+    )
 }
 
 /// Whether one is that reaches it by the alignment of a part without bytes, whose position is not
 /// the caller's; the caller's is free.
-fn far_part_is(alloc: Global, class: Class, end: u64, stated: Option<ElfError>) -> bool {
+fn far_part_is(rt: &HostRuntime, class: Class, end: u64, stated: Option<ElfError>) -> bool {
     let far = bare((Part::Section(1), 0, 9, end));
     let free = bare((Part::Section(1), u64::MAX, 9, end));
-    refusal_of(alloc, &[filled(HEADER), far], false, class) == stated
-        && refusal_of(alloc, &[filled(HEADER), free], true, class).is_none()
+    same(
+        rt,
+        &refusal_of(rt.alloc(), &[filled(HEADER), far], false, class),
+        &stated,
+    ) && same(
+        rt,
+        &refusal_of(rt.alloc(), &[filled(HEADER), free], true, class),
+        &None,
+    )
 }
 
 /// Whether a part is refused whose numbers are the greatest that there are.
-fn is_past(alloc: Global, class: Class, layout: bool) -> bool {
+fn is_past(rt: &HostRuntime, class: Class, layout: bool) -> bool {
     let past = filled((Part::Section(1), u64::MAX, u64::MAX, u64::MAX));
-    refusal_of(alloc, &[filled(HEADER), past], layout, class) == Some(ElfError::TooLarge)
+    same(
+        rt,
+        &refusal_of(rt.alloc(), &[filled(HEADER), past], layout, class),
+        &Some(ElfError::TooLarge),
+    )
 }
 
 /// A class, an end, and the refusal of an image that reaches it.
@@ -458,18 +495,18 @@ static LIMITS: [(Class, u64, Option<ElfError>); 4] = [
 ];
 
 /// Whether images are limited so.
-fn is_limited(alloc: Global, class: Class, end: u64, refusal: Option<ElfError>) -> bool {
-    long_header_is(alloc, class, end, refusal)
-        && long_base_is(alloc, class, end, refusal)
-        && far_part_is(alloc, class, end, refusal)
-        && is_past(alloc, class, false)
-        && is_past(alloc, class, true)
+fn is_limited(rt: &HostRuntime, class: Class, end: u64, refusal: Option<ElfError>) -> bool {
+    long_header_is(rt, class, end, refusal)
+        && long_base_is(rt, class, end, refusal)
+        && far_part_is(rt, class, end, refusal)
+        && is_past(rt, class, false)
+        && is_past(rt, class, true)
 }
 
 /// Whether all are.
-fn are_limited(alloc: Global, limits: &[(Class, u64, Option<ElfError>)]) -> bool {
-    for (class, end, refusal) in limits {
-        if !is_limited(alloc, *class, *end, *refusal) {
+fn are_limited(rt: &HostRuntime, limits: &[(Class, u64, Option<ElfError>)]) -> bool {
+    for (n, (class, end, refusal)) in limits.iter().enumerate() {
+        if !in_row(rt, n, is_limited(rt, *class, *end, *refusal)) {
             return false;
         }
     }
@@ -478,5 +515,5 @@ fn are_limited(alloc: Global, limits: &[(Class, u64, Option<ElfError>)]) -> bool
 
 #[test]
 fn images_have_limits(rt: HostRuntime) {
-    assert!(rt; are_limited(rt.alloc(), &LIMITS));
+    assert!(rt; are_limited(&rt, &LIMITS));
 }

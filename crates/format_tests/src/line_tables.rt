@@ -5,6 +5,7 @@ mod damages;
 use elf_types::{Class, ElfError, Octets, Order};
 use line_table::{FileNames, LineFault, Row, Unit, unit_at};
 use std::alloc::Global;
+use test_rows::{failed_by, in_row, other, same, same_bytes};
 
 /// A unit of version 2 with one file, in class 64 and least byte first. Its program has an address
 /// at 33, a special opcode at 44, an advance at 45 and the end of the sequence at 47.
@@ -71,7 +72,7 @@ static GREATEST: Held = (
 );
 
 /// Whether a row is shown so.
-fn is_shown(row: &Row, shown: &Shown) -> bool {
+fn is_shown(rt: &HostRuntime, row: &Row, shown: &Shown) -> bool {
     let (address, file, line, column, stmt, end) = *shown;
     let wanted = Row {
         address,
@@ -81,35 +82,37 @@ fn is_shown(row: &Row, shown: &Shown) -> bool {
         stmt,
         end,
     };
-    *row == wanted
+    same(rt, row, &wanted)
 }
 
 /// Whether these are the rows.
-fn have_rows(rows: &[Row], shown: &[Shown]) -> bool {
-    for (row, wanted) in rows.iter().zip(shown) {
-        if !is_shown(row, wanted) {
+fn have_rows(rt: &HostRuntime, rows: &[Row], shown: &[Shown]) -> bool {
+    for (n, (row, wanted)) in rows.iter().zip(shown).enumerate() {
+        if !in_row(rt, n, is_shown(rt, row, wanted)) {
             return false;
         }
     }
-    rows.len() == shown.len()
+    same(rt, &rows.len(), &shown.len())
 }
 
 /// Whether these are the names.
-fn have_names(files: &FileNames, names: &[&[u8]]) -> bool {
+fn have_names(rt: &HostRuntime, files: &FileNames, names: &[&[u8]]) -> bool {
     let files = files.as_slice();
-    for (file, name) in files.iter().zip(names) {
-        if file.as_slice() != *name {
+    for (n, (file, name)) in files.iter().zip(names).enumerate() {
+        if !in_row(rt, n, same_bytes(rt, file.as_slice(), name)) {
             return false;
         }
     }
-    files.len() == names.len()
+    same(rt, &files.len(), &names.len())
 }
 
 /// Whether a unit at the begin of a section holds that.
-fn is_held(unit: &Unit, held: &Held) -> bool {
+fn is_held(rt: &HostRuntime, unit: &Unit, held: &Held) -> bool {
     let (next, version, names, rows) = *held;
-    let placed = unit.at == 0 && unit.next == next && unit.version == version;
-    placed && have_names(&unit.files, names) && have_rows(unit.rows.as_slice(), rows)
+    let placed = same(rt, &unit.at, &0)
+        && same(rt, &unit.next, &next)
+        && same(rt, &unit.version, &version);
+    placed && have_names(rt, &unit.files, names) && have_rows(rt, unit.rows.as_slice(), rows)
 }
 
 /// A class and a byte order.
@@ -120,26 +123,27 @@ const WIDE: Form = (Class::C64, Order::Least);
 const NARROW: Form = (Class::C32, Order::Greatest);
 
 /// Whether there is a unit at the begin of a section, and it holds that.
-fn holds(alloc: Global, section: &[u8], form: Form, held: &Held) -> bool {
-    match unit_at(alloc, section, 0, form.0, form.1) {
-        Ok(Some(unit)) => is_held(&unit, held),
-        _ => false,
+fn holds(rt: &HostRuntime, section: &[u8], form: Form, held: &Held) -> bool {
+    match unit_at(rt.alloc(), section, 0, form.0, form.1) {
+        Ok(Some(unit)) => is_held(rt, &unit, held),
+        Ok(None) => other(rt, &"no unit", "a unit"),
+        Err(e) => failed_by(rt, &e),
     }
 }
 
 #[test]
 fn gives_the_rows_of_a_unit(rt: HostRuntime) {
-    assert!(rt; holds(rt.alloc(), SMALL_UNIT, WIDE, &SMALL));
+    assert!(rt; holds(&rt, SMALL_UNIT, WIDE, &SMALL));
 }
 
 #[test]
 fn executes_every_opcode(rt: HostRuntime) {
-    assert!(rt; holds(rt.alloc(), UNIT_OF_EVERY_OPCODE, WIDE, &EVERY_OPCODE));
+    assert!(rt; holds(&rt, UNIT_OF_EVERY_OPCODE, WIDE, &EVERY_OPCODE));
 }
 
 #[test]
 fn reads_the_greatest_byte_first(rt: HostRuntime) {
-    assert!(rt; holds(rt.alloc(), GREATEST_UNIT, NARROW, &GREATEST));
+    assert!(rt; holds(&rt, GREATEST_UNIT, NARROW, &GREATEST));
 }
 
 /// Where the unit at a place ends, and 0 where the section does.
@@ -154,15 +158,15 @@ fn next_of(alloc: Global, section: &[u8], place: usize) -> Result<u64, LineFault
 }
 
 /// Whether the next units are told so.
-fn ends_are_told(alloc: Global) -> bool {
-    let mut stated = next_of(alloc, SMALL_UNIT, 0) == Ok(50);
-    stated &= next_of(alloc, SMALL_UNIT, 50) == Ok(0);
-    stated && next_of(alloc, b"", 0) == Ok(0)
+fn ends_are_told(rt: &HostRuntime) -> bool {
+    let mut stated = same(rt, &next_of(rt.alloc(), SMALL_UNIT, 0), &Ok(50));
+    stated &= same(rt, &next_of(rt.alloc(), SMALL_UNIT, 50), &Ok(0));
+    stated && same(rt, &next_of(rt.alloc(), b"", 0), &Ok(0))
 }
 
 #[test]
 fn ends_where_the_section_ends(rt: HostRuntime) {
-    assert!(rt; ends_are_told(rt.alloc()));
+    assert!(rt; ends_are_told(&rt));
 }
 
 /// An opcode whose operand is a number of any length, and what its row has.
@@ -241,25 +245,25 @@ fn row_with(alloc: Global, opcode: u8, number: &[u8]) -> Option<Row> {
 }
 
 /// Whether a row has a number.
-fn has_number(row: &Row, number: Number) -> bool {
+fn has_number(rt: &HostRuntime, row: &Row, number: Number) -> bool {
     match number {
-        Number::Column(column) => row.column == column,
-        Number::Line(line) => row.line == line,
+        Number::Column(column) => same(rt, &row.column, &column),
+        Number::Line(line) => same(rt, &row.line, &line),
     }
 }
 
 /// Whether a number has these bytes.
-fn is_read(alloc: Global, number: Number, bytes: &[u8]) -> bool {
-    match row_with(alloc, opcode(number), bytes) {
-        Some(row) => has_number(&row, number),
-        None => false,
+fn is_read(rt: &HostRuntime, number: Number, bytes: &[u8]) -> bool {
+    match row_with(rt.alloc(), opcode(number), bytes) {
+        Some(row) => has_number(rt, &row, number),
+        None => other(rt, &"no row", "one row"),
     }
 }
 
 /// Whether all have.
-fn numbers_are_read(alloc: Global, numbers: &[(Number, &[u8])]) -> bool {
-    for (number, bytes) in numbers {
-        if !is_read(alloc, *number, bytes) {
+fn numbers_are_read(rt: &HostRuntime, numbers: &[(Number, &[u8])]) -> bool {
+    for (n, (number, bytes)) in numbers.iter().enumerate() {
+        if !in_row(rt, n, is_read(rt, *number, bytes)) {
             return false;
         }
     }
@@ -268,5 +272,5 @@ fn numbers_are_read(alloc: Global, numbers: &[(Number, &[u8])]) -> bool {
 
 #[test]
 fn reads_leb128_of_any_length(rt: HostRuntime) {
-    assert!(rt; numbers_are_read(rt.alloc(), &NUMBERS));
+    assert!(rt; numbers_are_read(&rt, &NUMBERS));
 }

@@ -8,7 +8,7 @@ use elf_types::{
     kind_of, machine_name, put_hex, put_signed, section_type_name, segment_type_name, stt,
     symbol_type_name, tag_name, text, vis, visibility_name,
 };
-use std::alloc::Global;
+use test_rows::{failed, in_row, same, same_bytes};
 
 /// A number of the standard.
 #[derive(Clone, Copy)]
@@ -60,9 +60,9 @@ static NAMES: [(Number, Option<&str>); 10] = [
 ];
 
 /// Whether the numbers have those names.
-fn numbers_are_named(names: &[(Number, Option<&str>)]) -> bool {
-    for (number, name) in names {
-        if name_of(*number) != *name {
+fn numbers_are_named(rt: &HostRuntime, names: &[(Number, Option<&str>)]) -> bool {
+    for (n, (number, name)) in names.iter().enumerate() {
+        if !in_row(rt, n, same(rt, &name_of(*number), name)) {
             return false;
         }
     }
@@ -71,7 +71,7 @@ fn numbers_are_named(names: &[(Number, Option<&str>)]) -> bool {
 
 #[test]
 fn numbers_have_the_names_of_the_standard(rt: HostRuntime) {
-    assert!(rt; numbers_are_named(&NAMES));
+    assert!(rt; numbers_are_named(&rt, &NAMES));
 }
 
 /// Errors and their texts.
@@ -93,17 +93,17 @@ static TEXTS: [(ElfError, &str); 5] = [
 ];
 
 /// Whether an error has a text.
-fn has_text(alloc: Global, e: &ElfError, wanted: &str) -> bool {
-    match text(alloc, e) {
-        Ok(shown) => shown.as_slice() == wanted.as_bytes(),
-        Err(_) => false,
+fn has_text(rt: &HostRuntime, e: &ElfError, wanted: &str) -> bool {
+    match text(rt.alloc(), e) {
+        Ok(shown) => same_bytes(rt, shown.as_slice(), wanted.as_bytes()),
+        Err(e) => failed(rt, e),
     }
 }
 
 /// Whether the errors have those texts.
-fn texts_are_shown(alloc: Global, texts: &[(ElfError, &str)]) -> bool {
-    for (e, wanted) in texts {
-        if !has_text(alloc, e, wanted) {
+fn texts_are_shown(rt: &HostRuntime, texts: &[(ElfError, &str)]) -> bool {
+    for (n, (e, wanted)) in texts.iter().enumerate() {
+        if !in_row(rt, n, has_text(rt, e, wanted)) {
             return false;
         }
     }
@@ -112,7 +112,7 @@ fn texts_are_shown(alloc: Global, texts: &[(ElfError, &str)]) -> bool {
 
 #[test]
 fn errors_have_texts(rt: HostRuntime) {
-    assert!(rt; texts_are_shown(rt.alloc(), &TEXTS));
+    assert!(rt; texts_are_shown(&rt, &TEXTS));
 }
 
 /// Numbers that are shown with the digits of 16.
@@ -131,14 +131,14 @@ fn put_numbers(out: &mut Octets) -> Result<(), ElfError> {
 }
 
 /// Whether the numbers have those digits.
-fn digits_are_put(alloc: Global) -> bool {
-    let mut out = Octets::new(alloc);
-    put_numbers(&mut out) == Ok(()) && out.as_slice() == DIGITS
+fn digits_are_put(rt: &HostRuntime) -> bool {
+    let mut out = Octets::new(rt.alloc());
+    same(rt, &put_numbers(&mut out), &Ok(())) && same_bytes(rt, out.as_slice(), DIGITS)
 }
 
 #[test]
 fn numbers_have_digits(rt: HostRuntime) {
-    assert!(rt; digits_are_put(rt.alloc()));
+    assert!(rt; digits_are_put(&rt));
 }
 
 /// The type, the flags and the size of an entry of a section, and the kind of its items.
@@ -164,9 +164,9 @@ fn kind_in(stype: u32, flags: u64, entsize: u64) -> Kind {
 }
 
 /// Whether the sections have those kinds.
-fn kinds_are_told(kinds: &[(u32, u64, u64, Kind)]) -> bool {
-    for (stype, flags, entsize, kind) in kinds {
-        if kind_in(*stype, *flags, *entsize) != *kind {
+fn kinds_are_told(rt: &HostRuntime, kinds: &[(u32, u64, u64, Kind)]) -> bool {
+    for (n, (stype, flags, entsize, kind)) in kinds.iter().enumerate() {
+        if !in_row(rt, n, same(rt, &kind_in(*stype, *flags, *entsize), kind)) {
             return false;
         }
     }
@@ -175,7 +175,7 @@ fn kinds_are_told(kinds: &[(u32, u64, u64, Kind)]) -> bool {
 
 #[test]
 fn sections_have_kinds(rt: HostRuntime) {
-    assert!(rt; kinds_are_told(&KINDS));
+    assert!(rt; kinds_are_told(&rt, &KINDS));
 }
 
 /// Appends four bytes and takes one away.
@@ -187,25 +187,28 @@ fn grow_and_shrink(list: &mut Octets) -> Result<(), ElfError> {
 }
 
 /// Whether a list holds three bytes, and is that made of them.
-fn holds_three(alloc: Global, list: &Octets) -> bool {
-    if list.len() != 3 || list.get(2) != Some(b'c') || list.get(3).is_some() {
+fn holds_three(rt: &HostRuntime, list: &Octets) -> bool {
+    let kept = same(rt, &list.len(), &3)
+        && same(rt, &list.get(2), &Some(b'c'))
+        && same(rt, &list.get(3), &None);
+    if !kept {
         return false;
     }
-    match Octets::from_slice(alloc, b"abc") {
-        Ok(copy) => copy.as_slice() == list.as_slice(),
-        Err(_) => false,
+    match Octets::from_slice(rt.alloc(), b"abc") {
+        Ok(copy) => same_bytes(rt, copy.as_slice(), list.as_slice()),
+        Err(e) => failed(rt, e),
     }
 }
 
 /// Whether a list with room for one holds three in the end.
-fn three_are_kept(alloc: Global) -> bool {
-    match Octets::with_capacity(alloc, 1) {
-        Ok(mut list) => grow_and_shrink(&mut list).is_ok() && holds_three(alloc, &list),
-        Err(_) => false,
+fn three_are_kept(rt: &HostRuntime) -> bool {
+    match Octets::with_capacity(rt.alloc(), 1) {
+        Ok(mut list) => same(rt, &grow_and_shrink(&mut list), &Ok(())) && holds_three(rt, &list),
+        Err(e) => failed(rt, e),
     }
 }
 
 #[test]
 fn a_list_keeps_its_items(rt: HostRuntime) {
-    assert!(rt; three_are_kept(rt.alloc()));
+    assert!(rt; three_are_kept(&rt));
 }

@@ -4,8 +4,8 @@ use crate::questions::{Form, GNU, Hashes, NARROW, Question, SYSV, WIDE, asked, i
 use elf_descriptor::Elf;
 use elf_outside::Source;
 use elf_types::{ElfError, Kind, ScnId, Shdr};
-use std::alloc::Global;
 use symbol_lookup::{find_gnu, find_sysv};
+use test_rows::{in_row, same};
 
 /// What a name finds: a symbol, none, or a chain that is bad at a place.
 #[derive(Clone, Copy)]
@@ -196,8 +196,8 @@ impl Question for ByWords<'_> {
         }
     }
 
-    fn is_answered<S: Source>(&self, elf: &mut Elf<S>) -> bool {
-        find_sysv(elf, SYSV, self.0.1) == answer(self.0.2)
+    fn is_answered<S: Source>(&self, rt: &HostRuntime, elf: &mut Elf<S>) -> bool {
+        same(rt, &find_sysv(elf, SYSV, self.0.1), &answer(self.0.2))
     }
 }
 
@@ -210,51 +210,51 @@ impl Question for ByBytes<'_> {
         self.0.0
     }
 
-    fn is_answered<S: Source>(&self, elf: &mut Elf<S>) -> bool {
-        find_gnu(elf, GNU, b"printf") == answer(self.0.1)
+    fn is_answered<S: Source>(&self, rt: &HostRuntime, elf: &mut Elf<S>) -> bool {
+        same(rt, &find_gnu(elf, GNU, b"printf"), &answer(self.0.1))
     }
 }
 
 /// Whether each row of words is answered in a form.
-fn words_are_answered(alloc: Global, form: Form) -> Result<bool, ElfError> {
-    for row in WORDS_ROWS.iter() {
-        if !is_answered(alloc, &ByWords(row), form)? {
-            return Ok(false);
+fn words_are_answered(rt: &HostRuntime, form: Form) -> bool {
+    for (n, row) in WORDS_ROWS.iter().enumerate() {
+        if !in_row(rt, n, is_answered(rt, &ByWords(row), form)) {
+            return false;
         }
     }
-    Ok(true)
+    true
 }
 
 /// Whether each row of bytes is answered in class 64.
-fn bytes_are_answered(alloc: Global) -> Result<bool, ElfError> {
-    for row in BYTES_ROWS.iter() {
-        if !is_answered(alloc, &ByBytes(row), WIDE)? {
-            return Ok(false);
+fn bytes_are_answered(rt: &HostRuntime) -> bool {
+    for (n, row) in BYTES_ROWS.iter().enumerate() {
+        if !in_row(rt, n, is_answered(rt, &ByBytes(row), WIDE)) {
+            return false;
         }
     }
-    Ok(true)
+    true
 }
 
 #[test]
 fn a_chain_of_words_is_walked_to_its_end(rt: HostRuntime) {
-    assert!(rt; words_are_answered(rt.alloc(), WIDE) == Ok(true));
-    assert!(rt; words_are_answered(rt.alloc(), NARROW) == Ok(true));
+    assert!(rt; words_are_answered(&rt, WIDE));
+    assert!(rt; words_are_answered(&rt, NARROW));
 }
 
 #[test]
 fn a_chain_of_bytes_is_walked_to_its_end(rt: HostRuntime) {
-    assert!(rt; bytes_are_answered(rt.alloc()) == Ok(true));
+    assert!(rt; bytes_are_answered(&rt));
 }
 
 /// Whether `printf` is found by bytes in class 32, the greatest byte first, whose bloom words have
 /// four bytes.
-fn is_found_in_class_32(alloc: Global) -> Result<bool, ElfError> {
-    is_answered(alloc, &ByBytes(&(WHOLE, Found::At(5))), NARROW)
+fn is_found_in_class_32(rt: &HostRuntime) -> bool {
+    is_answered(rt, &ByBytes(&(WHOLE, Found::At(5))), NARROW)
 }
 
 #[test]
 fn a_bloom_of_class_32_is_passed(rt: HostRuntime) {
-    assert!(rt; is_found_in_class_32(rt.alloc()) == Ok(true));
+    assert!(rt; is_found_in_class_32(&rt));
 }
 
 /// Sections that are refused before they are read.
@@ -280,21 +280,21 @@ impl Question for Refused {
         WHOLE
     }
 
-    fn is_answered<S: Source>(&self, elf: &mut Elf<S>) -> bool {
-        let mut refused = find_sysv(elf, GNU, b"printf") == BYTES;
-        refused &= find_gnu(elf, SYSV, b"printf") == WORDS;
-        refused &= find_sysv(elf, ScnId(9), b"printf") == NO_SECTION;
-        refused &= find_gnu(elf, ScnId(9), b"printf") == NO_SECTION;
-        refused &= link_to_strings(elf, SYSV) == Ok(());
-        refused &= link_to_strings(elf, GNU) == Ok(());
-        refused &= find_sysv(elf, SYSV, b"printf") == BYTES;
-        refused && find_gnu(elf, GNU, b"printf") == BYTES
+    fn is_answered<S: Source>(&self, rt: &HostRuntime, elf: &mut Elf<S>) -> bool {
+        let mut refused = same(rt, &find_sysv(elf, GNU, b"printf"), &BYTES);
+        refused &= same(rt, &find_gnu(elf, SYSV, b"printf"), &WORDS);
+        refused &= same(rt, &find_sysv(elf, ScnId(9), b"printf"), &NO_SECTION);
+        refused &= same(rt, &find_gnu(elf, ScnId(9), b"printf"), &NO_SECTION);
+        refused &= same(rt, &link_to_strings(elf, SYSV), &Ok(()));
+        refused &= same(rt, &link_to_strings(elf, GNU), &Ok(()));
+        refused &= same(rt, &find_sysv(elf, SYSV, b"printf"), &BYTES);
+        refused && same(rt, &find_gnu(elf, GNU, b"printf"), &BYTES)
     }
 }
 
 #[test]
 fn other_sections_are_refused(rt: HostRuntime) {
-    assert!(rt; is_answered(rt.alloc(), &Refused, WIDE) == Ok(true));
+    assert!(rt; is_answered(&rt, &Refused, WIDE));
 }
 
 /// A name is looked up twice by words and twice by bytes.
@@ -305,12 +305,12 @@ impl Question for Twice {
         WHOLE
     }
 
-    fn is_answered<S: Source>(&self, elf: &mut Elf<S>) -> bool {
+    fn is_answered<S: Source>(&self, rt: &HostRuntime, elf: &mut Elf<S>) -> bool {
         for _ in 0..2u8 {
-            if find_sysv(elf, SYSV, b"printf") != Ok(Some(5)) {
+            if !same(rt, &find_sysv(elf, SYSV, b"printf"), &Ok(Some(5))) {
                 return false;
             }
-            if find_gnu(elf, GNU, b"printf") != Ok(Some(5)) {
+            if !same(rt, &find_gnu(elf, GNU, b"printf"), &Ok(Some(5))) {
                 return false;
             }
         }
@@ -326,5 +326,5 @@ const FRONT: u64 = 64 + 5 * 64;
 
 #[test]
 fn each_section_is_read_once(rt: HostRuntime) {
-    assert!(rt; asked(rt.alloc(), &Twice, WIDE) == Ok(Some(ONCE)));
+    assert!(rt; same(&rt, &asked(&rt, &Twice, WIDE), &Ok(Some(ONCE))));
 }

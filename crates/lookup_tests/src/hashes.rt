@@ -1,6 +1,7 @@
 //! Known hashes of names.
 
 use symbol_hashes::{elf_hash, gnu_hash};
+use test_rows::{in_row, same};
 
 /// A name with its two hashes.
 struct Hashed {
@@ -50,14 +51,14 @@ const HASHED: [Hashed; 7] = [
 ];
 
 /// Whether a name has these hashes.
-fn is_hashed(h: &Hashed) -> bool {
-    elf_hash(h.name) == h.elf && gnu_hash(h.name) == h.gnu
+fn is_hashed(rt: &HostRuntime, h: &Hashed) -> bool {
+    same(rt, &elf_hash(h.name), &h.elf) && same(rt, &gnu_hash(h.name), &h.gnu)
 }
 
 /// Whether each of those does.
-fn all_are_hashed() -> bool {
-    for h in HASHED.iter() {
-        if !is_hashed(h) {
+fn all_are_hashed(rt: &HostRuntime) -> bool {
+    for (n, h) in HASHED.iter().enumerate() {
+        if !in_row(rt, n, is_hashed(rt, h)) {
             return false;
         }
     }
@@ -66,5 +67,5 @@ fn all_are_hashed() -> bool {
 
 #[test]
 fn names_have_known_hashes(rt: HostRuntime) {
-    assert!(rt; all_are_hashed());
+    assert!(rt; all_are_hashed(&rt));
 }

@@ -4,8 +4,8 @@ use crate::questions::{Hashes, NARROW, Question, WIDE, is_answered};
 use elf_descriptor::Elf;
 use elf_outside::Source;
 use elf_types::{ElfError, Kind, ScnId};
-use std::alloc::Global;
 use symbol_lookup::find_linear;
+use test_rows::{in_row, same, within};
 
 /// A section, a name, and what the name finds there.
 type Row = (u32, &'static [u8], Result<Option<u64>, ElfError>);
@@ -39,8 +39,8 @@ const NO_HASHES: Hashes = Hashes {
 };
 
 /// Whether a row is as it is found.
-fn is_found<S: Source>(elf: &mut Elf<S>, row: &Row) -> bool {
-    find_linear(elf, ScnId(row.0), row.1) == row.2
+fn is_found<S: Source>(rt: &HostRuntime, elf: &mut Elf<S>, row: &Row) -> bool {
+    same(rt, &find_linear(elf, ScnId(row.0), row.1), &row.2)
 }
 
 /// All rows are as they are found.
@@ -51,9 +51,9 @@ impl Question for AllFound {
         NO_HASHES
     }
 
-    fn is_answered<S: Source>(&self, elf: &mut Elf<S>) -> bool {
-        for row in ROWS.iter() {
-            if !is_found(elf, row) {
+    fn is_answered<S: Source>(&self, rt: &HostRuntime, elf: &mut Elf<S>) -> bool {
+        for (n, row) in ROWS.iter().enumerate() {
+            if !in_row(rt, n, is_found(rt, elf, row)) {
                 return false;
             }
         }
@@ -62,11 +62,12 @@ impl Question for AllFound {
 }
 
 /// Whether they are in both classes and orders.
-fn are_all_found(alloc: Global) -> Result<bool, ElfError> {
-    Ok(is_answered(alloc, &AllFound, WIDE)? && is_answered(alloc, &AllFound, NARROW)?)
+fn are_all_found(rt: &HostRuntime) -> bool {
+    within(rt, &WIDE, is_answered(rt, &AllFound, WIDE))
+        && within(rt, &NARROW, is_answered(rt, &AllFound, NARROW))
 }
 
 #[test]
 fn the_least_symbol_is_found(rt: HostRuntime) {
-    assert!(rt; are_all_found(rt.alloc()) == Ok(true));
+    assert!(rt; are_all_found(&rt));
 }

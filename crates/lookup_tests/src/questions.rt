@@ -12,6 +12,7 @@ use elf_types::{
 use elf_xlate::{Items, item_size, shdr_size};
 use std::alloc::Global;
 use test_images::{Image, header_of};
+use test_rows::failed;
 use test_sources::{Sparse, source};
 
 /// A class and an order.
@@ -195,37 +196,44 @@ pub trait Question {
     fn hashes(&self) -> Hashes;
 
     /// Whether the descriptor that began over it answers as it should.
-    fn is_answered<S: Source>(&self, elf: &mut Elf<S>) -> bool;
+    fn is_answered<S: Source>(&self, rt: &HostRuntime, elf: &mut Elf<S>) -> bool;
 }
 
 /// Whether a question is answered over a source, which is given back.
-fn is_answered_over<Q: Question, S: Source>(alloc: Global, q: &Q, src: S) -> (S, bool) {
-    match Elf::begin(alloc, src) {
+fn is_answered_over<Q: Question, S: Source>(rt: &HostRuntime, q: &Q, src: S) -> (S, bool) {
+    match Elf::begin(rt.alloc(), src) {
         Ok(mut elf) => {
-            let answered = q.is_answered(&mut elf);
+            let answered = q.is_answered(rt, &mut elf);
             (elf.end(), answered)
         }
-        Err((src, _)) => (src, false),
+        Err((src, e)) => (src, failed(rt, e)),
     }
 }
 
 /// How many bytes of a source in memory were asked for once a question was answered; none where it
 /// was not.
-pub fn asked<Q: Question>(alloc: Global, q: &Q, form: Form) -> Result<Option<u64>, ElfError> {
-    let image = image_with(alloc, form, &q.hashes())?;
-    let (src, answered) = is_answered_over(alloc, q, source(alloc, image.bytes, 0)?);
+pub fn asked<Q: Question>(rt: &HostRuntime, q: &Q, form: Form) -> Result<Option<u64>, ElfError> {
+    let image = image_with(rt.alloc(), form, &q.hashes())?;
+    let (src, answered) = is_answered_over(rt, q, source(rt.alloc(), image.bytes, 0)?);
     Ok(if answered { Some(src.asked()) } else { None })
 }
 
 /// Whether it is answered over a source that does not tell its bytes.
-fn is_answered_untold<Q: Question>(alloc: Global, q: &Q, form: Form) -> Result<bool, ElfError> {
-    let image = image_with(alloc, form, &q.hashes())?;
-    let len = image.bytes.len();
-    let (_src, answered) = is_answered_over(alloc, q, Sparse::new(image.bytes, len));
-    Ok(answered)
+fn is_answered_untold<Q: Question>(rt: &HostRuntime, q: &Q, form: Form) -> bool {
+    match image_with(rt.alloc(), form, &q.hashes()) {
+        Ok(image) => {
+            let len = image.bytes.len();
+            let (_src, answered) = is_answered_over(rt, q, Sparse::new(image.bytes, len));
+            answered
+        }
+        Err(e) => failed(rt, e),
+    }
 }
 
 /// Whether it is over either.
-pub fn is_answered<Q: Question>(alloc: Global, q: &Q, form: Form) -> Result<bool, ElfError> {
-    Ok(asked(alloc, q, form)?.is_some() && is_answered_untold(alloc, q, form)?)
+pub fn is_answered<Q: Question>(rt: &HostRuntime, q: &Q, form: Form) -> bool {
+    match asked(rt, q, form) {
+        Ok(asked) => asked.is_some() && is_answered_untold(rt, q, form),
+        Err(e) => failed(rt, e),
+    }
 }

@@ -4,9 +4,9 @@ use elf_descriptor::Elf;
 use elf_outside::Source;
 use elf_types::constants::{SHT_GNU_HASH, SHT_HASH};
 use elf_types::{ElfError, Octets, ScnId, Shdr};
-use std::alloc::Global;
 use symbol_lookup::{find_gnu, find_sysv};
 use test_images::{Content, Field, HeaderField, NULL_SECTION, OBJECT, Put, Recipe, image_of};
+use test_rows::{failed, in_row, same};
 use test_sources::{Sparse, source};
 
 /// A hash section of words that links to the symbols, which are section 2.
@@ -57,24 +57,24 @@ static BY_WORDS: [Row; 3] = [
 static BY_BYTES: [Row; 2] = [(4, b"a", Ok(Some(1))), (4, b"b", Ok(None))];
 
 /// Whether a row of words is as it is found.
-fn is_found_by_words<S: Source>(elf: &mut Elf<S>, row: &Row) -> bool {
-    find_sysv(elf, ScnId(row.0), row.1) == row.2
+fn is_found_by_words<S: Source>(rt: &HostRuntime, elf: &mut Elf<S>, row: &Row) -> bool {
+    same(rt, &find_sysv(elf, ScnId(row.0), row.1), &row.2)
 }
 
 /// Whether a row of bytes is.
-fn is_found_by_bytes<S: Source>(elf: &mut Elf<S>, row: &Row) -> bool {
-    find_gnu(elf, ScnId(row.0), row.1) == row.2
+fn is_found_by_bytes<S: Source>(rt: &HostRuntime, elf: &mut Elf<S>, row: &Row) -> bool {
+    same(rt, &find_gnu(elf, ScnId(row.0), row.1), &row.2)
 }
 
 /// Whether each row is.
-fn are_found<S: Source>(elf: &mut Elf<S>) -> bool {
-    for row in BY_WORDS.iter() {
-        if !is_found_by_words(elf, row) {
+fn are_found<S: Source>(rt: &HostRuntime, elf: &mut Elf<S>) -> bool {
+    for (n, row) in BY_WORDS.iter().enumerate() {
+        if !in_row(rt, n, is_found_by_words(rt, elf, row)) {
             return false;
         }
     }
-    for row in BY_BYTES.iter() {
-        if !is_found_by_bytes(elf, row) {
+    for (n, row) in BY_BYTES.iter().enumerate() {
+        if !in_row(rt, n, is_found_by_bytes(rt, elf, row)) {
             return false;
         }
     }
@@ -82,46 +82,46 @@ fn are_found<S: Source>(elf: &mut Elf<S>) -> bool {
 }
 
 /// Whether they are over a source.
-fn are_found_over<S: Source + Drop>(alloc: Global, src: S) -> bool {
-    match Elf::begin(alloc, src) {
+fn are_found_over<S: Source + Drop>(rt: &HostRuntime, src: S) -> bool {
+    match Elf::begin(rt.alloc(), src) {
         Ok(mut elf) => {
-            let found = are_found(&mut elf);
+            let found = are_found(rt, &mut elf);
             let _src = elf.end();
             found
         }
-        Err(_) => false,
+        Err((_src, e)) => failed(rt, e),
     }
 }
 
 /// Whether they are over a source in memory of these bytes.
-fn are_found_told(alloc: Global, bytes: Octets) -> bool {
-    match source(alloc, bytes, 0) {
-        Ok(src) => are_found_over(alloc, src),
-        Err(_) => false,
+fn are_found_told(rt: &HostRuntime, bytes: Octets) -> bool {
+    match source(rt.alloc(), bytes, 0) {
+        Ok(src) => are_found_over(rt, src),
+        Err(e) => failed(rt, e),
     }
 }
 
 /// Whether they are over one that does not tell them.
-fn are_found_untold(alloc: Global, bytes: Octets) -> bool {
+fn are_found_untold(rt: &HostRuntime, bytes: Octets) -> bool {
     let len = bytes.len();
-    are_found_over(alloc, Sparse::new(bytes, len))
+    are_found_over(rt, Sparse::new(bytes, len))
 }
 
 /// Whether they are in an image, over a source that tells its bytes or does not.
-fn are_found_in(alloc: Global, recipe: &Recipe, told: bool) -> bool {
-    match image_of(alloc, recipe) {
+fn are_found_in(rt: &HostRuntime, recipe: &Recipe, told: bool) -> bool {
+    match image_of(rt.alloc(), recipe) {
         Ok(image) => {
             if told {
-                return are_found_told(alloc, image.bytes);
+                return are_found_told(rt, image.bytes);
             }
-            are_found_untold(alloc, image.bytes)
+            are_found_untold(rt, image.bytes)
         }
-        Err(_) => false,
+        Err(e) => failed(rt, e),
     }
 }
 
 #[test]
 fn a_name_is_found_by_sections_of_one_bucket(rt: HostRuntime) {
-    assert!(rt; are_found_in(rt.alloc(), &HASHED, true));
-    assert!(rt; are_found_in(rt.alloc(), &HASHED, false));
+    assert!(rt; are_found_in(&rt, &HASHED, true));
+    assert!(rt; are_found_in(&rt, &HASHED, false));
 }

@@ -6,6 +6,7 @@ use elf_outside::writes::{set_len, write_at};
 use elf_outside::{Device, MemDevice};
 use elf_types::{Addrs, ElfError};
 use std::alloc::Global;
+use test_rows::{failed, other, same, same_bytes};
 
 /// A device in memory: its bytes, its room, and the numbers of the reads and the writes that fail.
 pub struct Made {
@@ -101,34 +102,34 @@ static ZEROS: Row = Row {
 };
 
 /// Whether the steps are answered and ask for so much.
-fn is_answered(device: &mut MemDevice, row: &Row) -> bool {
-    answers_all(device, row.steps) && device.asked() == row.asked
+fn is_answered(rt: &HostRuntime, device: &mut MemDevice, row: &Row) -> bool {
+    answers_all(rt, device, row.steps) && same(rt, &device.asked(), &row.asked)
 }
 
 /// Whether they are, and leave these bytes.
-fn is_left(alloc: Global, row: &Row) -> bool {
-    match device(alloc, &row.made) {
+fn is_left(rt: &HostRuntime, row: &Row) -> bool {
+    match device(rt.alloc(), &row.made) {
         Ok(mut device) => {
-            let stated = is_answered(&mut device, row);
-            device.into_bytes().as_slice() == row.left && stated
+            let stated = is_answered(rt, &mut device, row);
+            same_bytes(rt, device.into_bytes().as_slice(), row.left) && stated
         }
-        Err(_) => false,
+        Err(e) => failed(rt, e),
     }
 }
 
 #[test]
 fn a_device_grows_up_to_its_room(rt: HostRuntime) {
-    assert!(rt; is_left(rt.alloc(), &GROWING));
+    assert!(rt; is_left(&rt, &GROWING));
 }
 
 #[test]
 fn a_device_grows_by_zeros_up_to_its_room(rt: HostRuntime) {
-    assert!(rt; is_left(rt.alloc(), &ZEROS));
+    assert!(rt; is_left(&rt, &ZEROS));
 }
 
 #[test]
 fn the_reads_and_the_writes_that_were_named_fail(rt: HostRuntime) {
-    assert!(rt; is_left(rt.alloc(), &FAILING));
+    assert!(rt; is_left(&rt, &FAILING));
 }
 
 /// A device whose third write fails.
@@ -140,33 +141,39 @@ static PATCHED: Made = Made {
 };
 
 /// Whether a write over a range that lies in a device is answered so.
-fn patches<D: Device>(device: &mut D, at: u64, piece: &[u8], told: Result<(), ElfError>) -> bool {
+fn patches<D: Device>(
+    rt: &HostRuntime,
+    device: &mut D,
+    at: u64,
+    piece: &[u8],
+    told: Result<(), ElfError>,
+) -> bool {
     let len = device.len();
     if at > len || piece.len() as u64 > len - at {
-        return false;
+        return other(rt, &len, "room for the piece");
     }
-    write_at(device, at, piece) == told
+    same(rt, &write_at(device, at, piece), &told)
 }
 
 /// Whether a device of four bytes is patched, and a write that fails is an error.
-fn is_patched<D: Device>(device: &mut D) -> bool {
+fn is_patched<D: Device>(rt: &HostRuntime, device: &mut D) -> bool {
     let refused = Err(ElfError::Write);
-    let mut stated = patches(device, 1, b"XY", Ok(()));
-    stated &= set_len(device, 6) == Ok(());
-    stated &= patches(device, 4, b"ef", refused);
-    stated &= set_len(device, 7) == refused;
-    stated && reads(device, 0, 6, Some(b"aXYd\0\0"))
+    let mut stated = patches(rt, device, 1, b"XY", Ok(()));
+    stated &= same(rt, &set_len(device, 6), &Ok(()));
+    stated &= patches(rt, device, 4, b"ef", refused);
+    stated &= same(rt, &set_len(device, 7), &refused);
+    stated && reads(rt, device, 0, 6, Some(b"aXYd\0\0"))
 }
 
 /// Whether it is so of a device in memory.
-fn memory_is_patched(alloc: Global) -> bool {
-    match device(alloc, &PATCHED) {
-        Ok(mut device) => is_patched(&mut device),
-        Err(_) => false,
+fn memory_is_patched(rt: &HostRuntime) -> bool {
+    match device(rt.alloc(), &PATCHED) {
+        Ok(mut device) => is_patched(rt, &mut device),
+        Err(e) => failed(rt, e),
     }
 }
 
 #[test]
 fn a_device_is_patched(rt: HostRuntime) {
-    assert!(rt; memory_is_patched(rt.alloc()));
+    assert!(rt; memory_is_patched(&rt));
 }

@@ -5,6 +5,7 @@ use crate::visits::{Told, Way, hand_out, is_visited};
 use elf_outside::{Files, MemFiles, OpenFault};
 use elf_types::{Addrs, ElfError, Octets};
 use std::alloc::Global;
+use test_rows::{failed, failed_by, in_step, same};
 
 /// What is asked of a set, and what it is to answer.
 #[derive(Clone, Copy)]
@@ -84,20 +85,20 @@ fn add_name(alloc: Global, files: &mut MemFiles, row: &Row) -> Result<(), ElfErr
 }
 
 /// Whether a call is answered so.
-fn answers(alloc: Global, files: &mut MemFiles, call: Call) -> bool {
+fn answers(rt: &HostRuntime, files: &mut MemFiles, call: Call) -> bool {
     match call {
-        Call::Visit(way, name, told) => is_visited(alloc, files, way, name, told),
-        Call::Bytes(name, bytes) => files.bytes(name) == bytes,
+        Call::Visit(way, name, told) => is_visited(rt, files, way, name, told),
+        Call::Bytes(name, bytes) => same(rt, &files.bytes(name), &bytes),
     }
 }
 
 /// Whether the name can be added, and the calls are answered so, one after another.
-fn answers_all(alloc: Global, files: &mut MemFiles, row: &Row) -> bool {
-    if add_name(alloc, files, row).is_err() {
-        return false;
+fn answers_all(rt: &HostRuntime, files: &mut MemFiles, row: &Row) -> bool {
+    if let Err(e) = add_name(rt.alloc(), files, row) {
+        return failed(rt, e);
     }
-    for call in row.calls {
-        if !answers(alloc, files, *call) {
+    for (n, call) in row.calls.iter().enumerate() {
+        if !in_step(rt, n, answers(rt, files, *call)) {
             return false;
         }
     }
@@ -105,43 +106,43 @@ fn answers_all(alloc: Global, files: &mut MemFiles, row: &Row) -> bool {
 }
 
 /// Whether the set of a row answers its calls.
-fn is_answered(alloc: Global, row: &Row) -> bool {
-    match empty_set(alloc, row) {
-        Ok(mut files) => answers_all(alloc, &mut files, row),
-        Err(_) => false,
+fn is_answered(rt: &HostRuntime, row: &Row) -> bool {
+    match empty_set(rt.alloc(), row) {
+        Ok(mut files) => answers_all(rt, &mut files, row),
+        Err(e) => failed(rt, e),
     }
 }
 
 #[test]
 fn a_name_holds_what_was_closed_under_it(rt: HostRuntime) {
-    assert!(rt; is_answered(rt.alloc(), &KEPT));
+    assert!(rt; is_answered(&rt, &KEPT));
 }
 
 #[test]
 fn the_calls_that_were_named_fail(rt: HostRuntime) {
-    assert!(rt; is_answered(rt.alloc(), &FAILING));
+    assert!(rt; is_answered(&rt, &FAILING));
 }
 
 /// Whether a file that was made under one name can be closed under another, which stays away.
-fn stays_away(alloc: Global, files: &mut MemFiles) -> bool {
-    match hand_out(alloc, files, Way::Create, "a") {
+fn stays_away(rt: &HostRuntime, files: &mut MemFiles) -> bool {
+    match hand_out(rt.alloc(), files, Way::Create, "a") {
         Ok(file) => {
             files.close("other", file);
-            files.bytes("other").is_none()
+            same(rt, &files.bytes("other"), &None)
         }
-        Err(_) => false,
+        Err(e) => failed_by(rt, &e),
     }
 }
 
 /// Whether it is so of a set without names.
-fn stays_away_in_memory(alloc: Global, row: &Row) -> bool {
-    match empty_set(alloc, row) {
-        Ok(mut files) => stays_away(alloc, &mut files),
-        Err(_) => false,
+fn stays_away_in_memory(rt: &HostRuntime, row: &Row) -> bool {
+    match empty_set(rt.alloc(), row) {
+        Ok(mut files) => stays_away(rt, &mut files),
+        Err(e) => failed(rt, e),
     }
 }
 
 #[test]
 fn a_name_that_is_not_there_stays_away(rt: HostRuntime) {
-    assert!(rt; stays_away_in_memory(rt.alloc(), &KEPT));
+    assert!(rt; stays_away_in_memory(&rt, &KEPT));
 }

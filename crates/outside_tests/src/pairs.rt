@@ -4,7 +4,7 @@ use crate::sources::source;
 use crate::steps::{Read, reads_all};
 use elf_outside::Source;
 use source_pair::SourcePair;
-use std::alloc::Global;
+use test_rows::{failed, same};
 
 /// Reads of a pair of three bytes and five: of each alone, and across their border, where a read
 /// fails of the first and then one of the second; of all bytes, and at the end.
@@ -19,31 +19,32 @@ static READS: [Read; 7] = [
 ];
 
 /// Two sources, and whether their pair is read so.
-fn reads_pair<S: Source, T: Source>(first: S, second: T) -> ((S, T), bool) {
+fn reads_pair<S: Source, T: Source>(rt: &HostRuntime, first: S, second: T) -> ((S, T), bool) {
     if first.len() != 3 || second.len() != 5 {
         return ((first, second), false);
     }
     let mut pair = SourcePair::new(first, second);
-    let stated = pair.len() == 8 && reads_all(&mut pair, &READS);
+    let stated = pair.len() == 8 && reads_all(rt, &mut pair, &READS);
     (pair.into_parts(), stated)
 }
 
 /// Whether a pair reads both of its sources, across their border also where the first fails, and
 /// gives them back.
-fn pair_reads(alloc: Global) -> bool {
-    let Ok(first) = source(alloc, b"abc", &[2]) else {
-        return false;
+fn pair_reads(rt: &HostRuntime) -> bool {
+    let first = match source(rt.alloc(), b"abc", &[2]) {
+        Ok(first) => first,
+        Err(e) => return failed(rt, e),
     };
-    match source(alloc, b"defgh", &[3]) {
+    match source(rt.alloc(), b"defgh", &[3]) {
         Ok(second) => {
-            let ((first, second), stated) = reads_pair(first, second);
-            stated && first.asked() == 9 && second.asked() == 15
+            let ((first, second), stated) = reads_pair(rt, first, second);
+            stated && same(rt, &first.asked(), &9) && same(rt, &second.asked(), &15)
         }
-        Err(_) => false,
+        Err(e) => failed(rt, e),
     }
 }
 
 #[test]
 fn a_pair_reads_both_of_its_sources(rt: HostRuntime) {
-    assert!(rt; pair_reads(rt.alloc()));
+    assert!(rt; pair_reads(&rt));
 }

@@ -7,6 +7,7 @@ use elf_outside::real::read_ahead::ReadAhead;
 use elf_outside::{Device, MemSource, Source};
 use elf_types::{Addrs, ElfError, Octets};
 use std::alloc::Global;
+use test_rows::same;
 
 /// A device with eight bytes and room for one more.
 static EIGHT: Made = Made {
@@ -31,17 +32,17 @@ static STEPS: [Step; 9] = [
 ];
 
 /// A device, and whether it answers the steps behind a window.
-fn answers_ahead<D: Device>(alloc: Global, device: D, steps: &[Step]) -> (D, bool) {
-    let mut ahead = ReadAhead::new(alloc, device);
-    let stated = answers_all(&mut ahead, steps);
+fn answers_ahead<D: Device>(rt: &HostRuntime, device: D, steps: &[Step]) -> (D, bool) {
+    let mut ahead = ReadAhead::new(rt.alloc(), device);
+    let stated = answers_all(rt, &mut ahead, steps);
     (ahead.into_inner(), stated)
 }
 
 /// How many bytes the device is asked for by the steps, if they are answered so.
-fn asked_by_steps(alloc: Global, made: &Made, steps: &[Step]) -> Option<u64> {
-    match device(alloc, made) {
+fn asked_by_steps(rt: &HostRuntime, made: &Made, steps: &[Step]) -> Option<u64> {
+    match device(rt.alloc(), made) {
         Ok(device) => {
-            let (device, stated) = answers_ahead(alloc, device, steps);
+            let (device, stated) = answers_ahead(rt, device, steps);
             if stated { Some(device.asked()) } else { None }
         }
         Err(_) => None,
@@ -50,7 +51,13 @@ fn asked_by_steps(alloc: Global, made: &Made, steps: &[Step]) -> Option<u64> {
 
 #[test]
 fn small_reads_are_served_from_one_window(rt: HostRuntime) {
-    assert!(rt; asked_by_steps(rt.alloc(), &EIGHT, &STEPS) == Some(7 + 7 + 2 + 6));
+    assert!(rt;
+        same(
+            &rt,
+            &asked_by_steps(&rt, &EIGHT, &STEPS),
+            &Some(7 + 7 + 2 + 6)
+        )
+    );
 }
 
 /// A source of 100,000 bytes, each 7, of which the reads of these numbers fail.
@@ -61,17 +68,17 @@ fn sevens(alloc: Global, bad_reads: &[u64]) -> Result<MemSource, ElfError> {
 }
 
 /// A source, and whether it answers the reads behind a window.
-fn reads_ahead<S: Source>(alloc: Global, source: S, rows: &[Reading]) -> (S, bool) {
-    let mut ahead = ReadAhead::new(alloc, source);
-    let stated = reads_all(&mut ahead, rows);
+fn reads_ahead<S: Source>(rt: &HostRuntime, source: S, rows: &[Reading]) -> (S, bool) {
+    let mut ahead = ReadAhead::new(rt.alloc(), source);
+    let stated = reads_all(rt, &mut ahead, rows);
     (ahead.into_inner(), stated)
 }
 
 /// How many bytes the source of sevens is asked for by these reads, if they are answered so.
-fn asked(alloc: Global, bad_reads: &[u64], rows: &[Reading]) -> Option<u64> {
-    match sevens(alloc, bad_reads) {
+fn asked(rt: &HostRuntime, bad_reads: &[u64], rows: &[Reading]) -> Option<u64> {
+    match sevens(rt.alloc(), bad_reads) {
         Ok(source) => {
-            let (source, stated) = reads_ahead(alloc, source, rows);
+            let (source, stated) = reads_ahead(rt, source, rows);
             if stated { Some(source.asked()) } else { None }
         }
         Err(_) => None,
@@ -90,9 +97,9 @@ static LOST: [Reading; 3] = [
 
 #[test]
 fn a_window_that_fails_loses_no_read(rt: HostRuntime) {
-    assert!(rt; asked(rt.alloc(), &[1], &ALONE) == Some(4096 + 2));
+    assert!(rt; same(&rt, &asked(&rt, &[1], &ALONE), &Some(4096 + 2)));
     let windows = 4096 + 4096 + 8192;
-    assert!(rt; asked(rt.alloc(), &[1, 4, 5], &LOST) == Some(windows + 2 + 2));
+    assert!(rt; same(&rt, &asked(&rt, &[1, 4, 5], &LOST), &Some(windows + 2 + 2)));
 }
 
 /// A walk over the source.
@@ -107,5 +114,5 @@ static WALK: [Reading; 6] = [
 
 #[test]
 fn a_walk_takes_ever_larger_windows(rt: HostRuntime) {
-    assert!(rt; asked(rt.alloc(), &[], &WALK) == Some(4096 + 8192 + 16384 + 1));
+    assert!(rt; same(&rt, &asked(&rt, &[], &WALK), &Some(4096 + 8192 + 16384 + 1)));
 }

@@ -7,6 +7,7 @@ use std::fs::Permissions;
 use std::io::ErrorKind;
 use std::os::unix::fs::{MetadataExt, PermissionsExt, symlink};
 use std::{env, fs, process};
+use test_rows::{failed_by, holds, in_step, same, same_bytes};
 
 /// Where a file is.
 #[derive(Clone, Copy)]
@@ -78,9 +79,17 @@ fn path_of(rt: &HostRuntime, place: Place) -> Option<String> {
 }
 
 /// Whether a failure is of this name, attempt and kind.
-fn is_said(kept: Option<&Failure>, name: &str, attempt: Attempt, said: ErrorKind) -> bool {
+fn is_said(
+    rt: &HostRuntime,
+    kept: Option<&Failure>,
+    name: &str,
+    attempt: Attempt,
+    said: ErrorKind,
+) -> bool {
     match kept {
-        Some(f) => f.name.as_str() == name && f.attempt == attempt && f.why.kind() == said,
+        Some(f) => same(rt, &f.name.as_str(), &name)
+            && same(rt, &f.attempt, &attempt)
+            && same(rt, &f.why.kind(), &said),
         None => false,
     }
 }
@@ -104,32 +113,33 @@ fn is_pointed_at(rt: &HostRuntime, path: &str, name: &str) -> bool {
 /// Whether these permissions of a file are those.
 fn has_mode(rt: &HostRuntime, path: &str, of: u32, mode: u32) -> bool {
     match fs::metadata(rt, path) {
-        Ok(about) => about.permissions().mode() & 0o777 & of == mode,
-        Err(_) => false,
+        Ok(about) => same(rt, &(about.permissions().mode() & 0o777 & of), &mode),
+        Err(e) => failed_by(rt, &e),
     }
 }
 
 /// Whether a file has a length and takes few blocks.
 fn is_hole(rt: &HostRuntime, path: &str, len: u64) -> bool {
     match fs::metadata(rt, path) {
-        Ok(about) => about.len() == len && about.blocks() <= 8,
-        Err(_) => false,
+        Ok(about) => same(rt, &about.len(), &len)
+            && holds(rt, "it takes few blocks", about.blocks() <= 8),
+        Err(e) => failed_by(rt, &e),
     }
 }
 
 /// Whether the stream of a file takes these puts.
 fn is_streamed(rt: &HostRuntime, path: &str, puts: &[Put]) -> bool {
     match fs::File::create(rt, path) {
-        Ok(file) => puts_all(&mut RealSink::new(file), puts),
-        Err(_) => false,
+        Ok(file) => puts_all(rt, &mut RealSink::new(file), puts),
+        Err(e) => failed_by(rt, &e),
     }
 }
 
 /// Whether a file holds these bytes.
-fn holds(rt: &HostRuntime, path: &str, bytes: &[u8]) -> bool {
+fn has_bytes(rt: &HostRuntime, path: &str, bytes: &[u8]) -> bool {
     match fs::read(rt, path) {
-        Ok(held) => held.as_slice() == bytes,
-        Err(_) => false,
+        Ok(held) => same_bytes(rt, held.as_slice(), bytes),
+        Err(e) => failed_by(rt, &e),
     }
 }
 
@@ -145,7 +155,7 @@ fn is_done_alone(rt: &HostRuntime, path: &str, act: Act) -> bool {
         Act::SetMode(mode) => fs::set_permissions(rt, path, Permissions::from_mode(mode)).is_ok(),
         Act::Hole(len) => is_hole(rt, path, len),
         Act::Stream(puts) => is_streamed(rt, path, puts),
-        Act::Holds(bytes) => holds(rt, path, bytes),
+        Act::Holds(bytes) => has_bytes(rt, path, bytes),
         _ => false,
     }
 }
@@ -153,9 +163,9 @@ fn is_done_alone(rt: &HostRuntime, path: &str, act: Act) -> bool {
 /// Whether an act is answered as it should, by the files of the system or by the system itself.
 fn is_done(rt: &HostRuntime, files: &mut RealFiles<HostRuntime>, path: &str, act: Act) -> bool {
     match act {
-        Act::Visit(way, told) => is_visited(rt.alloc(), files, way, path, told),
-        Act::Unsaid => files.last_failure().is_none(),
-        Act::Said(attempt, said) => is_said(files.last_failure(), path, attempt, said),
+        Act::Visit(way, told) => is_visited(rt, files, way, path, told),
+        Act::Unsaid => holds(rt, "no call has failed", files.last_failure().is_none()),
+        Act::Said(attempt, said) => is_said(rt, files.last_failure(), path, attempt, said),
         _ => is_done_alone(rt, path, act),
     }
 }
@@ -170,8 +180,8 @@ fn is_taken(rt: &HostRuntime, files: &mut RealFiles<HostRuntime>, step: Step) ->
 
 /// Whether each step is, one after another.
 fn all_are_taken(rt: &HostRuntime, files: &mut RealFiles<HostRuntime>, steps: &[Step]) -> bool {
-    for step in steps {
-        if !is_taken(rt, files, *step) {
+    for (n, step) in steps.iter().enumerate() {
+        if !in_step(rt, n, is_taken(rt, files, *step)) {
             return false;
         }
     }
@@ -191,7 +201,7 @@ fn are_taken_beside(
             files.close(path, file);
             taken
         }
-        Err(_) => false,
+        Err(e) => failed_by(rt, &e),
     }
 }
 
@@ -211,7 +221,7 @@ fn is_played(rt: &HostRuntime, files: &mut RealFiles<HostRuntime>, held: &Held) 
 pub fn are_taken(rt: &HostRuntime, steps: &[Step]) -> bool {
     match rt.clone() {
         Ok(system) => all_are_taken(rt, &mut RealFiles::new(rt.alloc(), system), steps),
-        Err(_) => false,
+        Err(e) => failed_by(rt, &e),
     }
 }
 
@@ -219,6 +229,6 @@ pub fn are_taken(rt: &HostRuntime, steps: &[Step]) -> bool {
 pub fn are_taken_while(rt: &HostRuntime, held: &Held) -> bool {
     match rt.clone() {
         Ok(system) => is_played(rt, &mut RealFiles::new(rt.alloc(), system), held),
-        Err(_) => false,
+        Err(e) => failed_by(rt, &e),
     }
 }

@@ -6,6 +6,7 @@ use elf_outside::writes::{put, put_zeros};
 use elf_outside::{DeviceSink, MemSink, Sink};
 use elf_types::{Addrs, ElfError};
 use std::alloc::Global;
+use test_rows::{failed, same, same_bytes};
 
 /// A sink with a room, of which the puts of these numbers fail.
 fn sink(alloc: Global, room: u64, bad_puts: &[u64]) -> Result<MemSink, ElfError> {
@@ -25,22 +26,22 @@ enum Fill {
 }
 
 /// Whether what is put is answered so.
-fn is_taken<K: Sink>(sink: &mut K, fill: &Fill) -> bool {
+fn is_taken<K: Sink>(rt: &HostRuntime, sink: &mut K, fill: &Fill) -> bool {
     match fill {
-        Fill::Pieces(puts) => puts_all(sink, puts),
-        Fill::Zeros(puts) => zeros_all(sink, puts),
-        Fill::Checked => second_is_an_error(sink),
+        Fill::Pieces(puts) => puts_all(rt, sink, puts),
+        Fill::Zeros(puts) => zeros_all(rt, sink, puts),
+        Fill::Checked => second_is_an_error(rt, sink),
     }
 }
 
 /// Whether it is by a sink with a room, of which the second put fails, and leaves what was taken.
-fn leaves(alloc: Global, room: u64, fill: &Fill, left: &[u8]) -> bool {
-    match sink(alloc, room, &[2]) {
+fn leaves(rt: &HostRuntime, room: u64, fill: &Fill, left: &[u8]) -> bool {
+    match sink(rt.alloc(), room, &[2]) {
         Ok(mut sink) => {
-            let stated = is_taken(&mut sink, fill);
-            sink.into_bytes().as_slice() == left && stated
+            let stated = is_taken(rt, &mut sink, fill);
+            same_bytes(rt, sink.into_bytes().as_slice(), left) && stated
         }
-        Err(_) => false,
+        Err(e) => failed(rt, e),
     }
 }
 
@@ -56,7 +57,7 @@ static PUTS: Fill = Fill::Pieces(&[
 
 #[test]
 fn puts_fail_where_they_were_named_or_pass_the_room(rt: HostRuntime) {
-    assert!(rt; leaves(rt.alloc(), 5, &PUTS, b"abcde"));
+    assert!(rt; leaves(&rt, 5, &PUTS, b"abcde"));
 }
 
 /// Zeros put into a room of five bytes, of which the second put is to fail.
@@ -71,22 +72,22 @@ static ZEROS: Fill = Fill::Zeros(&[
 
 #[test]
 fn zeros_fail_where_they_were_named_or_pass_the_room(rt: HostRuntime) {
-    assert!(rt; leaves(rt.alloc(), 5, &ZEROS, b"\0\0\0\0\0"));
+    assert!(rt; leaves(&rt, 5, &ZEROS, b"\0\0\0\0\0"));
 }
 
 /// Whether the second of three puts is an error, and so are three zeros where two have room.
-fn second_is_an_error<K: Sink>(sink: &mut K) -> bool {
-    let mut stated = put(sink, b"ab") == Ok(());
-    stated &= put(sink, b"cd") == Err(ElfError::Write);
-    stated &= put(sink, b"ef") == Ok(());
-    stated &= put_zeros(sink, 3) == Err(ElfError::Write);
-    stated &= put_zeros(sink, 2) == Ok(());
+fn second_is_an_error<K: Sink>(rt: &HostRuntime, sink: &mut K) -> bool {
+    let mut stated = same(rt, &put(sink, b"ab"), &Ok(()));
+    stated &= same(rt, &put(sink, b"cd"), &Err(ElfError::Write));
+    stated &= same(rt, &put(sink, b"ef"), &Ok(()));
+    stated &= same(rt, &put_zeros(sink, 3), &Err(ElfError::Write));
+    stated &= same(rt, &put_zeros(sink, 2), &Ok(()));
     stated
 }
 
 #[test]
 fn a_refused_put_is_an_error(rt: HostRuntime) {
-    assert!(rt; leaves(rt.alloc(), 6, &Fill::Checked, b"abef\0\0"));
+    assert!(rt; leaves(&rt, 6, &Fill::Checked, b"abef\0\0"));
 }
 
 /// A device with two bytes and room for six.
@@ -104,29 +105,29 @@ static APPENDED: [Put; 2] = [(b"cd", true), (b"efg", false)];
 static LENGTHENED: [Zeros; 3] = [(3, false), (2, true), (1, false)];
 
 /// Whether a sink takes pieces and then zeros as stated.
-fn are_taken<K: Sink>(sink: &mut K, puts: &[Put], zeros: &[Zeros]) -> bool {
-    puts_all(sink, puts) && zeros_all(sink, zeros)
+fn are_taken<K: Sink>(rt: &HostRuntime, sink: &mut K, puts: &[Put], zeros: &[Zeros]) -> bool {
+    puts_all(rt, sink, puts) && zeros_all(rt, sink, zeros)
 }
 
 /// Whether a sink over a device does, and the device has these bytes then.
 fn device_sink_leaves(
-    alloc: Global,
+    rt: &HostRuntime,
     made: &Made,
     puts: &[Put],
     zeros: &[Zeros],
     left: &[u8],
 ) -> bool {
-    match device(alloc, made) {
+    match device(rt.alloc(), made) {
         Ok(device) => {
             let mut sink = DeviceSink::new(device);
-            let stated = are_taken(&mut sink, puts, zeros);
-            sink.into_inner().into_bytes().as_slice() == left && stated
+            let stated = are_taken(rt, &mut sink, puts, zeros);
+            same_bytes(rt, sink.into_inner().into_bytes().as_slice(), left) && stated
         }
-        Err(_) => false,
+        Err(e) => failed(rt, e),
     }
 }
 
 #[test]
 fn a_sink_over_a_device_appends(rt: HostRuntime) {
-    assert!(rt; device_sink_leaves(rt.alloc(), &SHORT, &APPENDED, &LENGTHENED, b"abcd\0\0"));
+    assert!(rt; device_sink_leaves(&rt, &SHORT, &APPENDED, &LENGTHENED, b"abcd\0\0"));
 }

@@ -5,6 +5,7 @@ use elf_outside::reads::{read_array, read_range};
 use elf_outside::{MemSource, Source};
 use elf_types::{Addrs, ElfError, Octets};
 use std::alloc::Global;
+use test_rows::{failed, other, same, same_bytes};
 
 /// A source of these bytes, of which the reads of these numbers fail.
 pub fn source(alloc: Global, bytes: &[u8], bad_reads: &[u64]) -> Result<MemSource, ElfError> {
@@ -32,29 +33,29 @@ static EMPTY: [Read; 5] = [
 ];
 
 /// Whether reads of four bytes are answered so, ask for so much and leave the bytes.
-fn reads_are_answered(alloc: Global, bad_reads: &[u64], rows: &[Read], asked: u64) -> bool {
-    match source(alloc, b"abcd", bad_reads) {
+fn reads_are_answered(rt: &HostRuntime, bad_reads: &[u64], rows: &[Read], asked: u64) -> bool {
+    match source(rt.alloc(), b"abcd", bad_reads) {
         Ok(mut source) => {
-            let stated = ask_for(&mut source, rows, asked);
-            source.into_bytes().as_slice() == b"abcd".as_slice() && stated
+            let stated = ask_for(rt, &mut source, rows, asked);
+            same_bytes(rt, source.into_bytes().as_slice(), b"abcd".as_slice()) && stated
         }
-        Err(_) => false,
+        Err(e) => failed(rt, e),
     }
 }
 
 /// Whether reads are answered so, and ask for so much.
-fn ask_for(source: &mut MemSource, rows: &[Read], asked: u64) -> bool {
-    reads_all(source, rows) && source.asked() == asked
+fn ask_for(rt: &HostRuntime, source: &mut MemSource, rows: &[Read], asked: u64) -> bool {
+    reads_all(rt, source, rows) && same(rt, &source.asked(), &asked)
 }
 
 #[test]
 fn the_reads_that_were_named_fail(rt: HostRuntime) {
-    assert!(rt; reads_are_answered(rt.alloc(), &[2, 4], &NAMED, 10));
+    assert!(rt; reads_are_answered(&rt, &[2, 4], &NAMED, 10));
 }
 
 #[test]
 fn no_read_fails_where_none_was_named(rt: HostRuntime) {
-    assert!(rt; reads_are_answered(rt.alloc(), &[], &EMPTY, 0));
+    assert!(rt; reads_are_answered(&rt, &[], &EMPTY, 0));
 }
 
 /// The first four bytes, where the source has six.
@@ -67,7 +68,7 @@ fn first_four<S: Source>(source: &mut S) -> Result<[u8; 4], ElfError> {
 
 /// Whether a range of a source with six bytes is read, or refused, so.
 fn is_range<S: Source>(
-    alloc: Global,
+    rt: &HostRuntime,
     source: &mut S,
     at: u64,
     len: u64,
@@ -76,43 +77,44 @@ fn is_range<S: Source>(
     if source.len() != 6 || 0 < len && (at > 6 || len > 6 - at) {
         return false;
     }
-    match (read_range(alloc, source, at, len), wanted) {
-        (Ok(bytes), Ok(wanted)) => bytes.as_slice() == wanted,
-        (Err(e), Err(wanted)) => e == wanted,
-        _ => false,
+    match (read_range(rt.alloc(), source, at, len), wanted) {
+        (Ok(bytes), Ok(wanted)) => same_bytes(rt, bytes.as_slice(), wanted),
+        (Err(e), Err(wanted)) => same(rt, &e, &wanted),
+        (Ok(_), Err(_)) => other(rt, &at, "a range that is refused"),
+        (Err(e), Ok(_)) => failed(rt, e),
     }
 }
 
 /// Whether the ranges of six bytes are read whole; an empty one may stand anywhere.
-fn ranges_are_read<S: Source>(alloc: Global, source: &mut S) -> bool {
-    let mut stated = first_four(source) == Ok(*b"abcd");
-    stated &= is_range(alloc, source, 2, 4, Ok(b"cdef"));
-    stated && is_range(alloc, source, 99, 0, Ok(b""))
+fn ranges_are_read<S: Source>(rt: &HostRuntime, source: &mut S) -> bool {
+    let mut stated = same(rt, &first_four(source), &Ok(*b"abcd"));
+    stated &= is_range(rt, source, 2, 4, Ok(b"cdef"));
+    stated && is_range(rt, source, 99, 0, Ok(b""))
 }
 
 /// Whether the reads of those ranges are answered so, and ask for eight bytes; or the read of one
 /// fails, and is refused.
-fn is_asked(alloc: Global, source: &mut MemSource, fails: bool) -> bool {
+fn is_asked(rt: &HostRuntime, source: &mut MemSource, fails: bool) -> bool {
     if fails {
-        return is_range(alloc, source, 0, 6, Err(ElfError::Read));
+        return is_range(rt, source, 0, 6, Err(ElfError::Read));
     }
-    ranges_are_read(alloc, source) && source.asked() == 8
+    ranges_are_read(rt, source) && same(rt, &source.asked(), &8)
 }
 
 /// Whether they are of a source of six bytes, of which the first read fails or none does.
-fn six_are_asked(alloc: Global, bad_reads: &[u64], fails: bool) -> bool {
-    match source(alloc, b"abcdef", bad_reads) {
-        Ok(mut source) => is_asked(alloc, &mut source, fails),
-        Err(_) => false,
+fn six_are_asked(rt: &HostRuntime, bad_reads: &[u64], fails: bool) -> bool {
+    match source(rt.alloc(), b"abcdef", bad_reads) {
+        Ok(mut source) => is_asked(rt, &mut source, fails),
+        Err(e) => failed(rt, e),
     }
 }
 
 #[test]
 fn ranges_are_read_whole(rt: HostRuntime) {
-    assert!(rt; six_are_asked(rt.alloc(), &[], false));
+    assert!(rt; six_are_asked(&rt, &[], false));
 }
 
 #[test]
 fn a_failed_read_is_an_error(rt: HostRuntime) {
-    assert!(rt; six_are_asked(rt.alloc(), &[1], true));
+    assert!(rt; six_are_asked(&rt, &[1], true));
 }

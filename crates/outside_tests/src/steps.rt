@@ -3,6 +3,7 @@
 ghost use Rattle.std.specs.Prelude.{◌+◌, ◌≤◌, length};
 
 use elf_outside::{Device, Failed, Sink, Source};
+use test_rows::{in_step, other, same, same_bytes};
 
 /// A read of a length from a place on, and its bytes, or None where it is to fail.
 pub type Read = (u64, usize, Option<&'static [u8]>);
@@ -32,78 +33,91 @@ pub enum Step {
 const MOST: usize = 8;
 
 /// Whether a read into a buffer gives these bytes, or fails where there are none.
-fn gives<S: Source>(source: &mut S, at: u64, buf: &mut [u8], wanted: Option<&[u8]>) -> bool
+fn gives<S: Source>(
+    rt: &HostRuntime,
+    source: &mut S,
+    at: u64,
+    buf: &mut [u8],
+    wanted: Option<&[u8]>,
+) -> bool
     requires { at + length buf.old ≤ S.size source.old }
 {
     match (source.read_at(at, buf), wanted) {
-        (Ok(()), Some(bytes)) => *buf == *bytes,
+        (Ok(()), Some(bytes)) => same_bytes(rt, buf, bytes),
         (Err(Failed), None) => true,
-        _ => false,
+        (Ok(()), None) => other(rt, &"bytes", "a failed read"),
+        (Err(Failed), Some(_)) => other(rt, &"a failed read", "bytes"),
     }
 }
 
 /// Whether a range lies in a source, and a read of it is answered so.
-pub fn reads<S: Source>(source: &mut S, at: u64, n: usize, wanted: Option<&[u8]>) -> bool {
+pub fn reads<S: Source>(
+    rt: &HostRuntime,
+    source: &mut S,
+    at: u64,
+    n: usize,
+    wanted: Option<&[u8]>,
+) -> bool {
     let mut buf = [0u8; MOST];
     let len = source.len();
     if n > MOST || at > len || n as u64 > len - at {
-        return false;
+        return other(rt, &len, "a length that holds the read");
     }
-    gives(source, at, &mut buf[..n], wanted)
+    gives(rt, source, at, &mut buf[..n], wanted)
 }
 
 /// Whether the reads are answered so, one after another.
-pub fn reads_all<S: Source>(source: &mut S, rows: &[Read]) -> bool {
+pub fn reads_all<S: Source>(rt: &HostRuntime, source: &mut S, rows: &[Read]) -> bool {
     let mut stated = true;
-    for (at, n, wanted) in rows {
-        stated &= reads(source, *at, *n, *wanted);
+    for (k, (at, n, wanted)) in rows.iter().enumerate() {
+        stated &= in_step(rt, k, reads(rt, source, *at, *n, *wanted));
     }
     stated
 }
 
 /// Whether a range lies in a device, and a write over it is answered so.
-fn writes<D: Device>(device: &mut D, at: u64, piece: &[u8], done: bool) -> bool {
+fn writes<D: Device>(rt: &HostRuntime, device: &mut D, at: u64, piece: &[u8], done: bool) -> bool {
     let len = device.len();
     if at > len || piece.len() as u64 > len - at {
-        return false;
+        return other(rt, &len, "a length that holds the write");
     }
-    device.write_at(at, piece).is_ok() == done
+    same(rt, &device.write_at(at, piece).is_ok(), &done)
 }
 
 /// Whether a step is answered so.
-fn answers<D: Device>(device: &mut D, step: Step) -> bool {
+fn answers<D: Device>(rt: &HostRuntime, device: &mut D, step: Step) -> bool {
     match step {
-        Step::Read(at, n, wanted) => reads(device, at, n, wanted),
-        Step::Write(at, piece, done) => writes(device, at, piece, done),
-        Step::SetLen(n, done) => device.set_len(n).is_ok() == done,
-        Step::Append(piece, done) => device.append(piece).is_ok() == done,
-        Step::AppendZeros(n, done) => device.append_zeros(n).is_ok() == done,
+        Step::Read(at, n, wanted) => reads(rt, device, at, n, wanted),
+        Step::Write(at, piece, done) => writes(rt, device, at, piece, done),
+        Step::SetLen(n, done) => same(rt, &device.set_len(n).is_ok(), &done),
+        Step::Append(piece, done) => same(rt, &device.append(piece).is_ok(), &done),
+        Step::AppendZeros(n, done) => same(rt, &device.append_zeros(n).is_ok(), &done),
     }
 }
 
 /// Whether the steps are answered so, one after another.
-pub fn answers_all<D: Device>(device: &mut D, steps: &[Step]) -> bool {
+pub fn answers_all<D: Device>(rt: &HostRuntime, device: &mut D, steps: &[Step]) -> bool {
     let mut stated = true;
-    for step in steps {
-        stated &= answers(device, *step);
+    for (k, step) in steps.iter().enumerate() {
+        stated &= in_step(rt, k, answers(rt, device, *step));
     }
     stated
 }
 
 /// Whether the puts are answered so, one after another.
-pub fn puts_all<K: Sink>(sink: &mut K, puts: &[Put]) -> bool {
+pub fn puts_all<K: Sink>(rt: &HostRuntime, sink: &mut K, puts: &[Put]) -> bool {
     let mut stated = true;
-    for (piece, done) in puts {
-        stated &= sink.put(*piece).is_ok() == *done;
+    for (k, (piece, done)) in puts.iter().enumerate() {
+        stated &= in_step(rt, k, same(rt, &sink.put(*piece).is_ok(), done));
     }
     stated
 }
 
 /// Whether the puts of zeros are answered so, one after another.
-pub fn zeros_all<K: Sink>(sink: &mut K, puts: &[Zeros]) -> bool {
+pub fn zeros_all<K: Sink>(rt: &HostRuntime, sink: &mut K, puts: &[Zeros]) -> bool {
     let mut stated = true;
-    for (n, done) in puts {
-        stated &= sink.put_zeros(*n).is_ok() == *done;
+    for (k, (n, done)) in puts.iter().enumerate() {
+        stated &= in_step(rt, k, same(rt, &sink.put_zeros(*n).is_ok(), done));
     }
     stated
 }

@@ -7,6 +7,7 @@ use crate::visits::Way;
 use elf_outside::{Attempt, OpenFault, RealSink, take_streams};
 use std::fs;
 use std::io::ErrorKind;
+use test_rows::{failed_by, other, same};
 
 /// A file.
 const FILE: Place = Place::Own("file");
@@ -162,20 +163,20 @@ fn a_put_reaches_the_stream(rt: HostRuntime) {
 }
 
 /// Whether a stream takes neither bytes nor zeros, and says why then alone.
-fn says_full(stream: &mut RealSink<fs::File>) -> bool {
+fn says_full(rt: &HostRuntime, stream: &mut RealSink<fs::File>) -> bool {
     let silent = stream.failure().is_none();
-    let refused = puts_all(stream, &[(b"a", false)]) && zeros_all(stream, &[(1, false)]);
+    let refused = puts_all(rt, stream, &[(b"a", false)]) && zeros_all(rt, stream, &[(1, false)]);
     match stream.failure() {
-        Some(why) => silent && refused && why.kind() == ErrorKind::StorageFull,
-        None => false,
+        Some(why) => silent && refused && same(rt, &why.kind(), &ErrorKind::StorageFull),
+        None => other(rt, &"nothing said", "why the stream is full"),
     }
 }
 
 /// Whether that of a full device does.
 fn full_device_says_so(rt: &HostRuntime) -> bool {
     match fs::File::create(rt, "/dev/full") {
-        Ok(file) => says_full(&mut RealSink::new(file)),
-        Err(_) => false,
+        Ok(file) => says_full(rt, &mut RealSink::new(file)),
+        Err(e) => failed_by(rt, &e),
     }
 }
 

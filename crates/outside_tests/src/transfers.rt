@@ -8,6 +8,7 @@ use std::io;
 use std::io::{Error, ErrorKind, Write};
 use std::os::unix::fs::FileExt;
 use std::test::Fail;
+use test_rows::{same, same_bytes};
 
 /// The bytes of a file.
 const BYTES: &[u8] = b"abcdefg";
@@ -92,61 +93,72 @@ fn unsaid() -> Error {
 
 /// Whether the bytes from a place on are read into five, or those that there are, and what is said
 /// then.
-fn is_read(at: u8, wanted: &[u8], said: ErrorKind) -> bool {
+fn is_read(rt: &HostRuntime, at: u8, wanted: &[u8], said: ErrorKind) -> bool {
     let mut buf = [0u8; 5];
     let mut why = unsaid();
     let n = read_from(&new_drip(), u64::from(at), &mut buf, &mut why);
-    n == wanted.len() && buf.starts_with(wanted) && why.kind() == said
+    same(rt, &n, &wanted.len()) && buf.starts_with(wanted) && same(rt, &why.kind(), &said)
 }
 
 #[test]
 fn a_file_that_gives_little_is_read_whole(rt: HostRuntime) {
-    assert!(rt; is_read(1, b"bcdef", ErrorKind::Other));
-    assert!(rt; is_read(4, b"efg", ErrorKind::UnexpectedEof));
-    assert!(rt; is_read(9, b"", ErrorKind::UnexpectedEof));
+    assert!(rt; is_read(&rt, 1, b"bcdef", ErrorKind::Other));
+    assert!(rt; is_read(&rt, 4, b"efg", ErrorKind::UnexpectedEof));
+    assert!(rt; is_read(&rt, 9, b"", ErrorKind::UnexpectedEof));
 }
 
 /// Whether so many bytes of a piece are written from a place on, and have that sum, and what is
 /// said then.
-fn is_written(at: u8, piece: &[u8; 5], done: usize, sum: u64, said: ErrorKind) -> bool {
+fn is_written(
+    rt: &HostRuntime,
+    at: u8,
+    piece: &[u8; 5],
+    done: usize,
+    sum: u64,
+    said: ErrorKind,
+) -> bool {
     let file = new_drip();
     let mut why = unsaid();
     let n = write_from(&file, u64::from(at), piece, &mut why);
-    n == done && file.sum.get() == sum && why.kind() == said
+    same(rt, &n, &done) && same(rt, &file.sum.get(), &sum) && same(rt, &why.kind(), &said)
 }
 
 #[test]
 fn a_file_that_takes_little_is_written_whole(rt: HostRuntime) {
-    assert!(rt; is_written(0, &[1, 2, 4, 8, 16], 5, 31, ErrorKind::Other));
-    assert!(rt; is_written(6, &[1, 2, 4, 8, 16], 3, 7, ErrorKind::WriteZero));
+    assert!(rt; is_written(&rt, 0, &[1, 2, 4, 8, 16], 5, 31, ErrorKind::Other));
+    assert!(rt; is_written(&rt, 6, &[1, 2, 4, 8, 16], 3, 7, ErrorKind::WriteZero));
 }
 
 /// Whether zeros are written from a place on, of which a file takes those from places below 7.
-fn zeros_are_written(at: u8, n: u16, done: u64) -> bool {
-    write_zeros_from(&new_drip(), u64::from(at), u64::from(n), &mut unsaid()) == done
+fn zeros_are_written(rt: &HostRuntime, at: u8, n: u16, done: u64) -> bool {
+    same(
+        rt,
+        &write_zeros_from(&new_drip(), u64::from(at), u64::from(n), &mut unsaid()),
+        &done,
+    )
 }
 
 #[test]
 fn zeros_are_written_as_far_as_the_file_takes_them(rt: HostRuntime) {
-    assert!(rt; zeros_are_written(1, 0, 0));
-    assert!(rt; zeros_are_written(1, 5, 5));
-    assert!(rt; zeros_are_written(1, 10000, 6));
+    assert!(rt; zeros_are_written(&rt, 1, 0, 0));
+    assert!(rt; zeros_are_written(&rt, 1, 5, 5));
+    assert!(rt; zeros_are_written(&rt, 1, 10000, 6));
 }
 
 /// Whether a stream takes three bytes, two zeros, and then the two bytes for which there is room.
-fn is_filled(stream: &mut Trickle) -> bool {
+fn is_filled(rt: &HostRuntime, stream: &mut Trickle) -> bool {
     let mut why = unsaid();
-    let mut stated = write_to(stream, b"abc", &mut why) == 3;
-    stated &= write_zeros_to(stream, 2, &mut why) == 2;
-    stated &= why.kind() == ErrorKind::Other;
-    stated &= write_to(stream, b"fgh", &mut why) == 2;
-    stated &= write_zeros_to(stream, 5000, &mut why) == 0;
-    stated &= why.kind() == ErrorKind::WriteZero;
-    stated && stream.bytes.as_slice() == b"abc\0\0fg".as_slice()
+    let mut stated = same(rt, &write_to(stream, b"abc", &mut why), &3);
+    stated &= same(rt, &write_zeros_to(stream, 2, &mut why), &2);
+    stated &= same(rt, &why.kind(), &ErrorKind::Other);
+    stated &= same(rt, &write_to(stream, b"fgh", &mut why), &2);
+    stated &= same(rt, &write_zeros_to(stream, 5000, &mut why), &0);
+    stated &= same(rt, &why.kind(), &ErrorKind::WriteZero);
+    stated && same_bytes(rt, stream.bytes.as_slice(), b"abc\0\0fg".as_slice())
 }
 
 #[test]
 fn a_stream_that_takes_little_is_written_whole(rt: HostRuntime) {
     let bytes = Vec::new(rt.alloc());
-    assert!(rt; is_filled(&mut Trickle { bytes, calls: 0 }));
+    assert!(rt; is_filled(&rt, &mut Trickle { bytes, calls: 0 }));
 }

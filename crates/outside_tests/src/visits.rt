@@ -3,6 +3,7 @@
 use crate::steps::{Step, answers_all};
 use elf_outside::{Files, OpenFault};
 use std::alloc::Global;
+use test_rows::{other, same};
 
 /// A call that hands out a file.
 #[derive(Clone, Copy)]
@@ -34,12 +35,13 @@ pub fn hand_out<F: Files>(
 
 /// Whether a file answers the steps, before it is closed.
 fn answers_and_closes<F: Files>(
+    rt: &HostRuntime,
     files: &mut F,
     name: &str,
     mut file: F::File,
     steps: &[Step],
 ) -> bool {
-    let stated = answers_all(&mut file, steps);
+    let stated = answers_all(rt, &mut file, steps);
     files.close(name, file);
     stated
 }
@@ -47,7 +49,7 @@ fn answers_and_closes<F: Files>(
 /// Whether a file is handed out that answers these steps before it is closed, or none is for this
 /// reason.
 pub fn is_visited<F: Files>(
-    alloc: Global,
+    rt: &HostRuntime,
     files: &mut F,
     way: Way,
     name: &str,
@@ -56,9 +58,10 @@ pub fn is_visited<F: Files>(
 where
     F::File: Drop,
 {
-    match (hand_out(alloc, files, way, name), told) {
-        (Ok(file), Ok(steps)) => answers_and_closes(files, name, file, steps),
-        (Err(fault), Err(wanted)) => fault == wanted,
-        _ => false,
+    match (hand_out(rt.alloc(), files, way, name), told) {
+        (Ok(file), Ok(steps)) => answers_and_closes(rt, files, name, file, steps),
+        (Err(fault), Err(wanted)) => same(rt, &fault, &wanted),
+        (Ok(_file), Err(wanted)) => other(rt, &wanted, "that in place of a file"),
+        (Err(fault), Ok(_)) => other(rt, &fault, "a file"),
     }
 }

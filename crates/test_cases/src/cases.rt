@@ -2,9 +2,9 @@
 
 use crate::files::{Bad, Found, GOOD, Setting, Stored, bytes_in, is_there};
 use elf_types::Octets;
-use std::alloc::Global;
 use test_images::{FORMS, Form};
-use test_runs::{DONE, Ending, Failing, Left, NOTHING, run_leaving};
+use test_rows::{failed, in_row, other, same, within};
+use test_runs::{DONE, Ending, Failing, Left, NOTHING, run_leaving, same_file};
 
 /// What a name holds after a run.
 #[derive(Drop)]
@@ -64,7 +64,7 @@ pub const RUN: Case = Case {
 
 /// Whether these bytes are what a file holds that is there.
 pub(crate) fn are_stored(
-    alloc: Global,
+    rt: &HostRuntime,
     form: &Option<Form>,
     bytes: &[u8],
     stored: &Stored,
@@ -72,45 +72,55 @@ pub(crate) fn are_stored(
     if !is_there(stored) {
         return false;
     }
-    match bytes_in(alloc, form, stored) {
+    match bytes_in(rt.alloc(), form, stored) {
         Ok(whole) => whole.as_slice() == bytes,
-        Err(_) => false,
+        Err(e) => failed(rt, e),
     }
 }
 
 /// Whether this is what a file holds, or there is none of both.
-fn is_stored(alloc: Global, form: &Option<Form>, held: &Option<Octets>, stored: &Stored) -> bool {
+fn is_stored(
+    rt: &HostRuntime,
+    form: &Option<Form>,
+    held: &Option<Octets>,
+    stored: &Stored,
+) -> bool {
     match held {
-        Some(bytes) => are_stored(alloc, form, bytes.as_slice(), stored),
+        Some(bytes) => are_stored(rt, form, bytes.as_slice(), stored),
         None => !is_there(stored),
     }
 }
 
-/// Whether this is what a file held that one of these names had, or there is none of both.
-fn is_one_of(alloc: Global, beside: &[Found], name: &str, held: &Option<Octets>) -> bool {
-    for found in beside {
+/// There is no file.
+static NOT_THERE: Stored = Stored::Nothing;
+
+/// What a name held before a run, and its form where one is asked for; nothing, where no file of
+/// that name was there.
+fn before<'a>(setting: &Setting<'a>, name: &str) -> (&'a Stored, Option<Form>) {
+    let (first, second) = setting.names;
+    if name == first {
+        return (setting.file, setting.form);
+    }
+    if name == second {
+        return (setting.script, None);
+    }
+    for found in setting.beside {
         if found.name == name {
-            return is_stored(alloc, &None, held, &found.stored);
+            return (&found.stored, None);
         }
     }
-    held.is_none()
+    (&NOT_THERE, None)
 }
 
 /// Whether this is what a name held before a run.
 pub(crate) fn is_as_before(
-    alloc: Global,
+    rt: &HostRuntime,
     setting: &Setting<'_>,
     name: &str,
     held: &Option<Octets>,
 ) -> bool {
-    let (first, second) = setting.names;
-    if name == first {
-        return is_stored(alloc, &setting.form, held, setting.file);
-    }
-    if name == second {
-        return is_stored(alloc, &None, held, setting.script);
-    }
-    is_one_of(alloc, setting.beside, name, held)
+    let (stored, form) = before(setting, name);
+    is_stored(rt, &form, held, stored)
 }
 
 /// Whether a name holds so many bytes.
@@ -123,7 +133,7 @@ fn has_length(held: &Option<Octets>, len: u64) -> bool {
 
 /// Whether a name holds what it is to hold.
 pub(crate) fn is_held(
-    alloc: Global,
+    rt: &HostRuntime,
     setting: &Setting<'_>,
     name: &str,
     held: &Option<Octets>,
@@ -131,19 +141,73 @@ pub(crate) fn is_held(
 ) -> bool {
     match wanted {
         Held::Any => true,
-        Held::Before => is_as_before(alloc, setting, name, held),
-        Held::Now(stored) => is_stored(alloc, &None, held, stored),
+        Held::Before => is_as_before(rt, setting, name, held),
+        Held::Now(stored) => is_stored(rt, &None, held, stored),
         Held::Length(len) => has_length(held, *len),
     }
 }
 
-/// Whether a run ends as a case says, and a name holds this then.
-fn ends_so(alloc: Global, case: &Case, setting: &Setting<'_>, name: &str, wanted: &Held) -> bool {
-    match run_leaving(alloc, case.line, setting, setting.failing, name) {
-        Ok(left) => {
-            left.ran.is(&case.ending) && is_held(alloc, setting, name, &left.held, wanted)
+/// Says what a file holds in place of what is stored.
+fn say_stored(rt: &HostRuntime, form: &Option<Form>, bytes: &[u8], stored: &Stored) -> bool {
+    if !is_there(stored) {
+        return other(rt, &bytes.len(), "no such file");
+    }
+    match bytes_in(rt.alloc(), form, stored) {
+        Ok(whole) => same_file(rt, bytes, whole.as_slice()),
+        Err(e) => failed(rt, e),
+    }
+}
+
+/// Says what a file holds in place of what its name is to hold.
+fn say_held(
+    rt: &HostRuntime,
+    setting: &Setting<'_>,
+    name: &str,
+    bytes: &[u8],
+    wanted: &Held,
+) -> bool {
+    match wanted {
+        Held::Any => true,
+        Held::Before => {
+            let (stored, form) = before(setting, name);
+            say_stored(rt, &form, bytes, stored)
         }
-        Err(_) => false,
+        Held::Now(stored) => say_stored(rt, &None, bytes, stored),
+        Held::Length(len) => same(rt, &(bytes.len() as u64), len),
+    }
+}
+
+/// Whether a name holds what it is to hold. Where it does not, it says what it holds.
+fn holds_so(
+    rt: &HostRuntime,
+    setting: &Setting<'_>,
+    name: &str,
+    held: &Option<Octets>,
+    wanted: &Held,
+) -> bool {
+    if is_held(rt, setting, name, held, wanted) {
+        return true;
+    }
+    let said = match held {
+        Some(bytes) => say_held(rt, setting, name, bytes.as_slice(), wanted),
+        None => other(rt, &"no file", "one"),
+    };
+    within(rt, &("the file", name), said)
+}
+
+/// Whether a run ends as a case says, and a name holds this then.
+fn ends_so(
+    rt: &HostRuntime,
+    case: &Case,
+    setting: &Setting<'_>,
+    name: &str,
+    wanted: &Held,
+) -> bool {
+    match run_leaving(rt.alloc(), case.line, setting, setting.failing, name) {
+        Ok(left) => {
+            left.ran.is(rt, &case.ending) && holds_so(rt, setting, name, &left.held, wanted)
+        }
+        Err(e) => failed(rt, e),
     }
 }
 
@@ -156,9 +220,10 @@ pub(crate) fn is_looked_at(wanted: &Held) -> bool {
 }
 
 /// Whether a run over files ends as a case says.
-pub(crate) fn is_so_over(alloc: Global, case: &Case, setting: &Setting<'_>) -> bool {
-    ends_so(alloc, case, setting, case.name, &case.held)
-        && (!is_looked_at(&case.also) || ends_so(alloc, case, setting, case.second, &case.also))
+pub(crate) fn is_so_over(rt: &HostRuntime, case: &Case, setting: &Setting<'_>) -> bool {
+    let so = ends_so(rt, case, setting, case.name, &case.held)
+        && (!is_looked_at(&case.also) || ends_so(rt, case, setting, case.second, &case.also));
+    within(rt, &case.line, so)
 }
 
 /// What a case finds beside these files, its first file in a form where one is asked for.
@@ -179,24 +244,27 @@ pub(crate) fn setting_of<'a>(
 }
 
 /// Whether a run beside these files ends as its case says.
-pub fn is_so<'x>(alloc: Global, beside: &'x [Found], case: &'x Case) -> bool {
-    is_so_over(alloc, case, &setting_of(case, beside, None))
+pub fn is_so<'x>(rt: &HostRuntime, beside: &'x [Found], case: &'x Case) -> bool {
+    is_so_over(rt, case, &setting_of(case, beside, None))
 }
 
-/// What a run beside these files leaves under the name of its case, and none where there is no
-/// memory for it.
-pub fn left_by<'x>(alloc: Global, beside: &'x [Found], case: &'x Case) -> Option<Left> {
+/// What a run beside these files leaves under the name of its case, and none, which is said, where
+/// there is no memory for it.
+pub fn left_by<'x>(rt: &HostRuntime, beside: &'x [Found], case: &'x Case) -> Option<Left> {
     let setting = setting_of(case, beside, None);
-    match run_leaving(alloc, case.line, &setting, setting.failing, case.name) {
+    match run_leaving(rt.alloc(), case.line, &setting, setting.failing, case.name) {
         Ok(left) => Some(left),
-        Err(_) => None,
+        Err(e) => {
+            let _said = failed(rt, e);
+            None
+        }
     }
 }
 
-/// Whether each run beside these files ends as its case says.
-pub fn are_so<'x>(alloc: Global, beside: &'x [Found], cases: &'x [Case]) -> bool {
-    for case in cases {
-        if !is_so(alloc, beside, case) {
+/// Whether each run beside these files ends as its case says. It says the first that does not.
+pub fn are_so<'x>(rt: &HostRuntime, beside: &'x [Found], cases: &'x [Case]) -> bool {
+    for (row, case) in cases.iter().enumerate() {
+        if !in_row(rt, row, is_so(rt, beside, case)) {
             return false;
         }
     }
@@ -204,19 +272,20 @@ pub fn are_so<'x>(alloc: Global, beside: &'x [Found], cases: &'x [Case]) -> bool
 }
 
 /// Whether each does with its first file in a form.
-fn are_so_in<'x>(alloc: Global, beside: &'x [Found], cases: &'x [Case], form: Form) -> bool {
-    for case in cases {
-        if !is_so_over(alloc, case, &setting_of(case, beside, Some(form))) {
+fn are_so_in<'x>(rt: &HostRuntime, beside: &'x [Found], cases: &'x [Case], form: Form) -> bool {
+    for (row, case) in cases.iter().enumerate() {
+        let so = is_so_over(rt, case, &setting_of(case, beside, Some(form)));
+        if !in_row(rt, row, so) {
             return false;
         }
     }
     true
 }
 
-/// Whether each does with its first file in each form.
-pub fn are_so_in_all_forms<'x>(alloc: Global, beside: &'x [Found], cases: &'x [Case]) -> bool {
+/// Whether each does with its first file in each form. It says the first that does not.
+pub fn are_so_in_all_forms<'x>(rt: &HostRuntime, beside: &'x [Found], cases: &'x [Case]) -> bool {
     for form in FORMS.iter() {
-        if !are_so_in(alloc, beside, cases, *form) {
+        if !within(rt, form, are_so_in(rt, beside, cases, *form)) {
             return false;
         }
     }

@@ -3,7 +3,7 @@
 use crate::cases::{Case, Held, is_as_before, is_held, is_so_over, setting_of};
 use crate::files::{Bad, Found, GOOD, Setting, Stored, bytes_of};
 use elf_types::Octets;
-use std::alloc::Global;
+use test_rows::{failed, in_row, other, within};
 use test_runs::run_leaving;
 use tool_output::Status;
 
@@ -53,13 +53,13 @@ pub struct Outcome {
 }
 
 /// Whether these are the first bytes of what a name is to hold, fewer than that has.
-fn is_front(alloc: Global, bytes: &[u8], wanted: &Held) -> bool {
+fn is_front(rt: &HostRuntime, bytes: &[u8], wanted: &Held) -> bool {
     let Held::Now(stored) = wanted else {
         return false;
     };
-    match bytes_of(alloc, stored) {
+    match bytes_of(rt.alloc(), stored) {
         Ok(whole) => { bytes.len() < whole.as_slice().len() && whole.as_slice().starts_with(bytes) }
-        Err(_) => false,
+        Err(e) => failed(rt, e),
     }
 }
 
@@ -80,27 +80,28 @@ fn are_torn(held: &[u8], before: &[u8], after: &[u8]) -> bool {
 }
 
 /// Whether they are so of what was there before and of what is to be there.
-fn are_between(alloc: Global, bytes: &[u8], before: &Stored, after: &Stored) -> bool {
-    let Ok(before) = bytes_of(alloc, before) else {
-        return false;
+fn are_between(rt: &HostRuntime, bytes: &[u8], before: &Stored, after: &Stored) -> bool {
+    let before = match bytes_of(rt.alloc(), before) {
+        Ok(before) => before,
+        Err(e) => return failed(rt, e),
     };
-    match bytes_of(alloc, after) {
+    match bytes_of(rt.alloc(), after) {
         Ok(after) => are_torn(bytes, before.as_slice(), after.as_slice()),
-        Err(_) => false,
+        Err(e) => failed(rt, e),
     }
 }
 
 /// Whether they are so of the first file before and of what a name is to hold.
-fn is_torn(alloc: Global, bytes: &[u8], setting: &Setting<'_>, wanted: &Held) -> bool {
+fn is_torn(rt: &HostRuntime, bytes: &[u8], setting: &Setting<'_>, wanted: &Held) -> bool {
     match wanted {
-        Held::Now(after) => are_between(alloc, bytes, setting.file, after),
+        Held::Now(after) => are_between(rt, bytes, setting.file, after),
         _ => false,
     }
 }
 
 /// Whether bytes are in a state that tells of some of them.
 fn are_in(
-    alloc: Global,
+    rt: &HostRuntime,
     setting: &Setting<'_>,
     held: &Option<Octets>,
     wanted: &Held,
@@ -108,8 +109,8 @@ fn are_in(
 ) -> bool {
     match held {
         Some(bytes) => match state {
-            State::Front => is_front(alloc, bytes.as_slice(), wanted),
-            State::Torn => is_torn(alloc, bytes.as_slice(), setting, wanted),
+            State::Front => is_front(rt, bytes.as_slice(), wanted),
+            State::Torn => is_torn(rt, bytes.as_slice(), setting, wanted),
             _ => false,
         },
         None => false,
@@ -118,7 +119,7 @@ fn are_in(
 
 /// Whether a name that is to hold something is in a state.
 fn is_in(
-    alloc: Global,
+    rt: &HostRuntime,
     setting: &Setting<'_>,
     name: &str,
     held: &Option<Octets>,
@@ -127,15 +128,15 @@ fn is_in(
 ) -> bool {
     match state {
         State::Any => true,
-        State::Before => is_as_before(alloc, setting, name, held),
-        State::After => is_held(alloc, setting, name, held, wanted),
-        State::Front | State::Torn => are_in(alloc, setting, held, wanted, state),
+        State::Before => is_as_before(rt, setting, name, held),
+        State::After => is_held(rt, setting, name, held, wanted),
+        State::Front | State::Torn => are_in(rt, setting, held, wanted, state),
     }
 }
 
 /// Whether a run of a line ends with a status and leaves a name that is to hold something in a state.
 fn leaves(
-    alloc: Global,
+    rt: &HostRuntime,
     line: &str,
     setting: &Setting<'_>,
     status: Status,
@@ -143,19 +144,19 @@ fn leaves(
     wanted: &Held,
     state: &State,
 ) -> bool {
-    match run_leaving(alloc, line, setting, setting.failing, name) {
+    match run_leaving(rt.alloc(), line, setting, setting.failing, name) {
         Ok(left) => {
-            left.ran.status == status && is_in(alloc, setting, name, &left.held, wanted, state)
+            left.ran.status == status && is_in(rt, setting, name, &left.held, wanted, state)
         }
-        Err(_) => false,
+        Err(e) => failed(rt, e),
     }
 }
 
 /// Whether a run of a case has an outcome.
-fn has(alloc: Global, case: &Case, setting: &Setting<'_>, outcome: &Outcome) -> bool {
+fn has(rt: &HostRuntime, case: &Case, setting: &Setting<'_>, outcome: &Outcome) -> bool {
     let status = outcome.status;
     leaves(
-        alloc,
+        rt,
         case.line,
         setting,
         status,
@@ -163,7 +164,7 @@ fn has(alloc: Global, case: &Case, setting: &Setting<'_>, outcome: &Outcome) -> 
         &case.held,
         &outcome.held,
     ) && leaves(
-        alloc,
+        rt,
         case.line,
         setting,
         status,
@@ -198,9 +199,9 @@ fn failing_at<'a>(beside: &'a [Found], case: &'a Case, call: &Call, number: u64)
 }
 
 /// Whether a run has one of the outcomes.
-fn has_one(alloc: Global, case: &Case, setting: &Setting<'_>, outcomes: &[Outcome]) -> bool {
+fn has_one(rt: &HostRuntime, case: &Case, setting: &Setting<'_>, outcomes: &[Outcome]) -> bool {
     for outcome in outcomes {
-        if has(alloc, case, setting, outcome) {
+        if has(rt, case, setting, outcome) {
             return true;
         }
     }
@@ -210,7 +211,7 @@ fn has_one(alloc: Global, case: &Case, setting: &Setting<'_>, outcomes: &[Outcom
 /// Whether each run of which one of the first calls fails, so many, ends as the case says or has one
 /// of the outcomes.
 fn are_told<'x>(
-    alloc: Global,
+    rt: &HostRuntime,
     beside: &'x [Found],
     case: &'x Case,
     call: &Call,
@@ -218,8 +219,10 @@ fn are_told<'x>(
     outcomes: &[Outcome],
 ) -> bool {
     for before in 0..calls {
-        let setting = failing_at(beside, case, call, before.saturating_add(1));
-        if !is_so_over(alloc, case, &setting) && !has_one(alloc, case, &setting, outcomes) {
+        let number = before.saturating_add(1);
+        let setting = failing_at(beside, case, call, number);
+        let so = has_one(rt, case, &setting, outcomes) || is_so_over(rt, case, &setting);
+        if !within(rt, &("the failing call", number), so) {
             return false;
         }
     }
@@ -228,7 +231,7 @@ fn are_told<'x>(
 
 /// How many of them have an outcome.
 fn count_of<'x>(
-    alloc: Global,
+    rt: &HostRuntime,
     beside: &'x [Found],
     case: &'x Case,
     call: &Call,
@@ -238,7 +241,7 @@ fn count_of<'x>(
     let mut count = 0u64;
     for before in 0..calls {
         let setting = failing_at(beside, case, call, before.saturating_add(1));
-        if has(alloc, case, &setting, outcome) {
+        if has(rt, case, &setting, outcome) {
             count = count.saturating_add(1);
         }
     }
@@ -246,20 +249,23 @@ fn count_of<'x>(
 }
 
 /// Whether each run beside these files of which one of the first calls fails, so many, ends as the
-/// case says or has one of the outcomes, and each outcome comes as often as it tells.
+/// case says or has one of the outcomes, and each outcome comes as often as it tells. It says the first
+/// call or outcome of which that is not so.
 pub fn fail_so<'x>(
-    alloc: Global,
+    rt: &HostRuntime,
     beside: &'x [Found],
     case: &'x Case,
     call: &Call,
     calls: u64,
     outcomes: &[Outcome],
 ) -> bool {
-    for outcome in outcomes {
-        let count = count_of(alloc, beside, case, call, calls, outcome);
+    for (row, outcome) in outcomes.iter().enumerate() {
+        let count = count_of(rt, beside, case, call, calls, outcome);
         if count < outcome.least || count > outcome.most {
-            return false;
+            let some = (outcome.status, outcome.least, outcome.most);
+            let so = other(rt, &count, "as many runs as the outcome tells");
+            return in_row(rt, row, within(rt, &some, so));
         }
     }
-    are_told(alloc, beside, case, call, calls, outcomes)
+    are_told(rt, beside, case, call, calls, outcomes)
 }

@@ -14,5 +14,5 @@ pub use objects::{
 };
 pub use runs::{
     Bytes, DONE, Ending, Failing, Given, Left, NOTHING, REFUSED, Ran, add_file, ends, numbered,
-    refuses, run_leaving, run_line, run_words, shows,
+    refuses, run_leaving, run_line, run_words, same_file, shows,
 };

@@ -11,6 +11,7 @@ use elfkit_run::prelude::{
 };
 use std::alloc::Global;
 use test_images::Image;
+use test_rows::{same, same_bytes, within};
 use tool_output::{Outputs, Stop};
 
 /// The room of each output, more than a test writes.
@@ -28,9 +29,14 @@ pub struct Said {
 }
 
 impl Said {
-    /// Whether it is said so.
-    pub fn is(&self, refused: bool, out: &[u8], err: &[u8]) -> bool {
-        self.refused == Ok(refused) && self.out.as_slice() == out && self.err.as_slice() == err
+    /// Whether it is said so. Where it is not, all that differs is said.
+    pub fn is(&self, rt: &HostRuntime, refused: bool, out: &[u8], err: &[u8]) -> bool {
+        let answer = same(rt, &self.refused, &Ok(refused));
+        let shown = same_bytes(rt, self.out.as_slice(), out);
+        let told = same_bytes(rt, self.err.as_slice(), err);
+        within(rt, &"the answer", answer)
+            & within(rt, &"standard output", shown)
+            & within(rt, &"standard error", told)
     }
 }
 

@@ -5,6 +5,7 @@ use elf_types::{Addrs, ElfError, Octets};
 use elfkit_run::run;
 use std::alloc::Global;
 use test_images::Image;
+use test_rows::{failed, same, same_bytes, within};
 use tool_output::Status;
 use tool_text::Args;
 
@@ -53,11 +54,14 @@ pub struct Ran {
 }
 
 impl Ran {
-    /// Whether the run ended so.
-    pub fn is(&self, ending: &Ending) -> bool {
-        self.status == ending.status
-            && self.out.as_slice() == ending.out
-            && self.err.as_slice() == ending.err
+    /// Whether the run ended so. Where it did not, all that differs is said.
+    pub fn is(&self, rt: &HostRuntime, ending: &Ending) -> bool {
+        let status = same(rt, &self.status, &ending.status);
+        let out = same_bytes(rt, self.out.as_slice(), ending.out);
+        let err = same_bytes(rt, self.err.as_slice(), ending.err);
+        within(rt, &"the status", status)
+            & within(rt, &"standard output", out)
+            & within(rt, &"standard error", err)
     }
 }
 
@@ -266,33 +270,54 @@ pub fn run_leaving<G: Given>(
     }
 }
 
-/// Whether a run of the words of a line ends so, where no call of the outside fails. What is given
-/// is taken by value, so that a test that leaves by `?` owns nothing.
-pub fn ends<G: Given + Drop>(
-    alloc: Global,
-    line: &str,
-    given: G,
-    ending: &Ending,
-) -> Result<bool, ElfError> {
-    Ok(run_line(alloc, line, &given, NOTHING)?.is(ending))
+/// Whether a run of the words of a line ends so, where no call of the outside fails.
+pub fn ends<G: Given + Drop>(rt: &HostRuntime, line: &str, given: G, ending: &Ending) -> bool {
+    let so = match run_line(rt.alloc(), line, &given, NOTHING) {
+        Ok(ran) => ran.is(rt, ending),
+        Err(e) => failed(rt, e),
+    };
+    within(rt, &line, so)
 }
 
 /// Whether a run of the words of a line shows this, and refuses nothing.
-pub fn shows<G: Given + Drop>(
-    alloc: Global,
-    line: &str,
-    given: G,
-    out: &'static [u8],
-) -> Result<bool, ElfError> {
-    ends(alloc, line, given, &Ending { out, ..DONE })
+pub fn shows<G: Given + Drop>(rt: &HostRuntime, line: &str, given: G, out: &'static [u8]) -> bool {
+    ends(rt, line, given, &Ending { out, ..DONE })
 }
 
 /// Whether a run of the words of a line refuses something by this message, and shows nothing.
 pub fn refuses<G: Given + Drop>(
-    alloc: Global,
+    rt: &HostRuntime,
     line: &str,
     given: G,
     err: &'static [u8],
-) -> Result<bool, ElfError> {
-    ends(alloc, line, given, &Ending { err, ..REFUSED })
+) -> bool {
+    ends(rt, line, given, &Ending { err, ..REFUSED })
+}
+
+/// The first place at which bytes differ.
+fn differ_at(gave: &[u8], wanted: &[u8]) -> usize {
+    for (at, (a, b)) in gave.iter().zip(wanted).enumerate() {
+        if *a != *b {
+            return at;
+        }
+    }
+    gave.len().min(wanted.len())
+}
+
+/// At most 32 bytes from a place on.
+fn some_from(bytes: &[u8], at: usize) -> &[u8] {
+    let rest = bytes.get(at..).unwrap_or(&[]);
+    rest.get(..32).unwrap_or(rest)
+}
+
+/// Whether a file has the wanted bytes. Where it has not, the lengths, the first place at which they
+/// differ and some bytes from there on are said.
+pub fn same_file(rt: &HostRuntime, gave: &[u8], wanted: &[u8]) -> bool {
+    if *gave == *wanted {
+        return true;
+    }
+    let _lengths = same(rt, &gave.len(), &wanted.len());
+    let at = differ_at(gave, wanted);
+    let _bytes = same_bytes(rt, some_from(gave, at), some_from(wanted, at));
+    within(rt, &("bytes from", at), false)
 }

@@ -9,6 +9,7 @@ use gelf_view::{
     addr, dynent, half, rel, rela, update_addr, update_dynent, update_half, update_rel,
     update_rela, update_word, word,
 };
+use test_rows::same;
 
 /// A half that is stored in place of a zero one, and told.
 fn half_told<S: Source>(elf: &mut Elf<S>, x: u16) -> Result<u16, ElfError> {
@@ -84,17 +85,17 @@ fn dyn_told<S: Source>(elf: &mut Elf<S>, x: Dyn) -> Result<Dyn, ElfError> {
 struct Told;
 
 impl Question for Told {
-    fn is_answered<S: Source>(&self, elf: &mut Elf<S>) -> bool {
-        let mut told = half_told(elf, 5) == Ok(5);
-        told &= word_told(elf, 6) == Ok(6);
-        told &= addr_told(elf, 7) == Ok(7);
-        told &= rel_told(elf, REL) == Ok(REL);
-        told &= rela_told(elf, RELA) == Ok(RELA);
-        told && dyn_told(elf, DYN) == Ok(DYN)
+    fn is_answered<S: Source>(&self, rt: &HostRuntime, elf: &mut Elf<S>) -> bool {
+        let mut told = same(rt, &half_told(elf, 5), &Ok(5));
+        told &= same(rt, &word_told(elf, 6), &Ok(6));
+        told &= same(rt, &addr_told(elf, 7), &Ok(7));
+        told &= same(rt, &rel_told(elf, REL), &Ok(REL));
+        told &= same(rt, &rela_told(elf, RELA), &Ok(RELA));
+        told && same(rt, &dyn_told(elf, DYN), &Ok(DYN))
     }
 }
 
 #[test]
 fn items_are_told_one_by_one(rt: HostRuntime) {
-    assert!(rt; is_answered(rt.alloc(), &Told));
+    assert!(rt; is_answered(&rt, &Told));
 }

@@ -8,6 +8,7 @@ use elf_types::{ElfError, NULL_SECTION, Octets, ScnId, Shdr};
 use elf_xlate::Items;
 use gelf_view::{is_named, section_name, section_name_front};
 use test_images::{Content, OBJECT, Put, Recipe, Start};
+use test_rows::{in_row, same};
 
 /// An object whose section 1 has the names. No NUL ends the last one, section 5's, and section 6's
 /// begins past the table.
@@ -101,20 +102,24 @@ static ROWS: [Row; 9] = [
 ];
 
 /// Whether that is seen of a section's name.
-fn is_seen<S: Source>(elf: &mut Elf<S>, row: &Seen) -> bool {
+fn is_seen<S: Source>(rt: &HostRuntime, elf: &mut Elf<S>, row: &Seen) -> bool {
     if row.0 >= elf.shnum() {
         return false;
     }
     match row.1 {
-        Look::Whole => section_name(elf, ScnId(row.0)) == Ok(row.2),
-        Look::Front(longest) => section_name_front(elf, ScnId(row.0), longest) == Ok(row.2),
+        Look::Whole => same(rt, &section_name(elf, ScnId(row.0)), &Ok(row.2)),
+        Look::Front(longest) => same(
+            rt,
+            &section_name_front(elf, ScnId(row.0), longest),
+            &Ok(row.2),
+        ),
     }
 }
 
 /// Whether it is of each.
-fn are_seen<S: Source>(elf: &mut Elf<S>, rows: &[Seen]) -> bool {
-    for row in rows {
-        if !is_seen(elf, row) {
+fn are_seen<S: Source>(rt: &HostRuntime, elf: &mut Elf<S>, rows: &[Seen]) -> bool {
+    for (n, row) in rows.iter().enumerate() {
+        if !in_row(rt, n, is_seen(rt, elf, row)) {
             return false;
         }
     }
@@ -122,17 +127,17 @@ fn are_seen<S: Source>(elf: &mut Elf<S>, rows: &[Seen]) -> bool {
 }
 
 /// Whether a section has a name exactly where it should.
-fn is_so<S: Source>(elf: &mut Elf<S>, row: &Row) -> bool {
+fn is_so<S: Source>(rt: &HostRuntime, elf: &mut Elf<S>, row: &Row) -> bool {
     if row.0 >= elf.shnum() {
         return false;
     }
-    is_named(elf, ScnId(row.0), row.1) == Ok(row.2)
+    same(rt, &is_named(elf, ScnId(row.0), row.1), &Ok(row.2))
 }
 
 /// Whether each does.
-fn are_so<S: Source>(elf: &mut Elf<S>) -> bool {
-    for row in ROWS.iter() {
-        if !is_so(elf, row) {
+fn are_so<S: Source>(rt: &HostRuntime, elf: &mut Elf<S>) -> bool {
+    for (n, row) in ROWS.iter().enumerate() {
+        if !in_row(rt, n, is_so(rt, elf, row)) {
             return false;
         }
     }
@@ -149,26 +154,28 @@ fn replace_names<S: Source>(elf: &mut Elf<S>) -> Result<(), ElfError> {
 struct Names;
 
 impl Question for Names {
-    fn is_answered<S: Source>(&self, elf: &mut Elf<S>) -> bool {
-        are_seen(elf, &SEEN) && replace_names(elf).is_ok() && are_seen(elf, &SEEN_THEN)
+    fn is_answered<S: Source>(&self, rt: &HostRuntime, elf: &mut Elf<S>) -> bool {
+        are_seen(rt, elf, &SEEN)
+            && same(rt, &replace_names(elf), &Ok(()))
+            && are_seen(rt, elf, &SEEN_THEN)
     }
 }
 
 #[test]
 fn the_first_bytes_of_a_name_tell_whether_it_is_longer(rt: HostRuntime) {
-    assert!(rt; is_answered_of(rt.alloc(), &Names, &NAMED));
+    assert!(rt; is_answered_of(&rt, &Names, &NAMED));
 }
 
 /// Whether sections have names.
 struct Called;
 
 impl Question for Called {
-    fn is_answered<S: Source>(&self, elf: &mut Elf<S>) -> bool {
-        are_so(elf)
+    fn is_answered<S: Source>(&self, rt: &HostRuntime, elf: &mut Elf<S>) -> bool {
+        are_so(rt, elf)
     }
 }
 
 #[test]
 fn a_section_has_its_name_alone(rt: HostRuntime) {
-    assert!(rt; is_answered_of(rt.alloc(), &Called, &NAMED));
+    assert!(rt; is_answered_of(&rt, &Called, &NAMED));
 }

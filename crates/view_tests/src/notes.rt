@@ -5,6 +5,7 @@ use elf_descriptor::Elf;
 use elf_outside::Source;
 use elf_types::{DataId, ElfError, Order};
 use gelf_view::{NoteAt, note, note_align, note_in};
+use test_rows::{in_row, other, same};
 
 /// A note of type 7 with the name `GNU` and a descriptor of one byte.
 static ONE_NOTE: [u8; 17] = [4, 0, 0, 0, 1, 0, 0, 0, 7, 0, 0, 0, b'G', b'N', b'U', 0, 9];
@@ -29,14 +30,14 @@ static CASES: [(u64, Result<Option<NoteAt>, ElfError>); 5] = [
 ];
 
 /// Whether a note is there.
-fn is_note(at: u64, want: Result<Option<NoteAt>, ElfError>) -> bool {
-    note_in(&ONE_NOTE, at, 4, Order::Least) == want
+fn is_note(rt: &HostRuntime, at: u64, want: Result<Option<NoteAt>, ElfError>) -> bool {
+    same(rt, &note_in(&ONE_NOTE, at, 4, Order::Least), &want)
 }
 
 /// Whether the note at each place is as stated.
-fn are_notes() -> bool {
-    for (at, want) in CASES.iter() {
-        if !is_note(*at, *want) {
+fn are_notes(rt: &HostRuntime) -> bool {
+    for (n, (at, want)) in CASES.iter().enumerate() {
+        if !in_row(rt, n, is_note(rt, *at, *want)) {
             return false;
         }
     }
@@ -45,7 +46,7 @@ fn are_notes() -> bool {
 
 #[test]
 fn notes_lie_in_their_piece(rt: HostRuntime) {
-    assert!(rt; are_notes());
+    assert!(rt; are_notes(&rt));
 }
 
 /// A note of type 1 with a name of five bytes and no descriptor, and the pad to the next note.
@@ -58,25 +59,25 @@ static NAME_ALONE: [u8; 24] = [
 static ALIGNED: [(u64, usize, u64); 4] = [(1, 24, 20), (8, 24, 24), (8, 20, 20), (4, 17, 17)];
 
 /// Whether they begin there.
-fn begins_at(addralign: u64, bytes: &[u8], place: u64) -> bool {
+fn begins_at(rt: &HostRuntime, addralign: u64, bytes: &[u8], place: u64) -> bool {
     match note_in(bytes, 0, note_align(addralign), Order::Greatest) {
-        Ok(Some(note)) => note.desc_at == place && note.next == place,
-        _ => false,
+        Ok(Some(note)) => same(rt, &note.desc_at, &place) && same(rt, &note.next, &place),
+        _ => other(rt, &place, "a note whose description begins there"),
     }
 }
 
 /// Whether they do in the first bytes, so many.
-fn begins_in(addralign: u64, size: usize, place: u64) -> bool {
+fn begins_in(rt: &HostRuntime, addralign: u64, size: usize, place: u64) -> bool {
     match NAME_ALONE.get(..size) {
-        Some(bytes) => begins_at(addralign, bytes, place),
-        None => false,
+        Some(bytes) => begins_at(rt, addralign, bytes, place),
+        None => other(rt, &size, "a size within the bytes"),
     }
 }
 
 /// Whether they do for each alignment.
-fn are_aligned() -> bool {
-    for (addralign, size, place) in ALIGNED.iter() {
-        if !begins_in(*addralign, *size, *place) {
+fn are_aligned(rt: &HostRuntime) -> bool {
+    for (n, (addralign, size, place)) in ALIGNED.iter().enumerate() {
+        if !in_row(rt, n, begins_in(rt, *addralign, *size, *place)) {
             return false;
         }
     }
@@ -85,7 +86,7 @@ fn are_aligned() -> bool {
 
 #[test]
 fn notes_are_aligned_by_their_section(rt: HostRuntime) {
-    assert!(rt; are_aligned());
+    assert!(rt; are_aligned(&rt));
 }
 
 /// A note of type 3 with the name `GNU` and a descriptor of four bytes.
@@ -124,14 +125,22 @@ fn one_note_of<S: Source>(elf: &mut Elf<S>, bytes: &[u8]) -> Result<(u32, bool),
 struct Walk;
 
 impl Question for Walk {
-    fn is_answered<S: Source>(&self, elf: &mut Elf<S>) -> bool {
-        one_note_of(elf, NOTE) == Ok((3, true))
-            && one_note_of(elf, CUT) == Err(ElfError::BadChain { at: 0 })
-            && one_note_of(elf, LONG_NAME) == Err(ElfError::BadChain { at: 0 })
+    fn is_answered<S: Source>(&self, rt: &HostRuntime, elf: &mut Elf<S>) -> bool {
+        same(rt, &one_note_of(elf, NOTE), &Ok((3, true)))
+            && same(
+                rt,
+                &one_note_of(elf, CUT),
+                &Err(ElfError::BadChain { at: 0 }),
+            )
+            && same(
+                rt,
+                &one_note_of(elf, LONG_NAME),
+                &Err(ElfError::BadChain { at: 0 }),
+            )
     }
 }
 
 #[test]
 fn notes_end_with_their_piece(rt: HostRuntime) {
-    assert!(rt; is_answered(rt.alloc(), &Walk));
+    assert!(rt; is_answered(&rt, &Walk));
 }

@@ -7,6 +7,7 @@ use elf_types::{DataId, ElfError, Octets, ScnId};
 use elf_xlate::Items;
 use std::alloc::Global;
 use test_images::{NARROW, OBJECT, Recipe, image_of};
+use test_rows::failed;
 use test_sources::{Sparse, source};
 
 /// The first piece of section 1, the strings.
@@ -24,33 +25,33 @@ pub const SYMBOLS: DataId = DataId {
 /// A question on the object, with its answer.
 pub trait Question {
     /// Whether the descriptor that began over it answers as it should.
-    fn is_answered<S: Source>(&self, elf: &mut Elf<S>) -> bool;
+    fn is_answered<S: Source>(&self, rt: &HostRuntime, elf: &mut Elf<S>) -> bool;
 }
 
 /// Whether a question is answered over a source.
-fn is_answered_over<Q: Question, S: Source + Drop>(alloc: Global, q: &Q, src: S) -> bool {
-    match Elf::begin(alloc, src) {
+fn is_answered_over<Q: Question, S: Source + Drop>(rt: &HostRuntime, q: &Q, src: S) -> bool {
+    match Elf::begin(rt.alloc(), src) {
         Ok(mut elf) => {
-            let answered = q.is_answered(&mut elf);
+            let answered = q.is_answered(rt, &mut elf);
             let _src = elf.end();
             answered
         }
-        Err(_) => false,
+        Err((_src, e)) => failed(rt, e),
     }
 }
 
 /// Whether it is over a source in memory of these bytes.
-fn is_answered_told<Q: Question>(alloc: Global, q: &Q, bytes: Octets) -> bool {
-    match source(alloc, bytes, 0) {
-        Ok(src) => is_answered_over(alloc, q, src),
-        Err(_) => false,
+fn is_answered_told<Q: Question>(rt: &HostRuntime, q: &Q, bytes: Octets) -> bool {
+    match source(rt.alloc(), bytes, 0) {
+        Ok(src) => is_answered_over(rt, q, src),
+        Err(e) => failed(rt, e),
     }
 }
 
 /// Whether it is over one that does not tell them.
-fn is_answered_untold<Q: Question>(alloc: Global, q: &Q, bytes: Octets) -> bool {
+fn is_answered_untold<Q: Question>(rt: &HostRuntime, q: &Q, bytes: Octets) -> bool {
     let len = bytes.len();
-    is_answered_over(alloc, q, Sparse::new(bytes, len))
+    is_answered_over(rt, q, Sparse::new(bytes, len))
 }
 
 /// The object of class 64, the least byte first.
@@ -71,26 +72,24 @@ fn bytes_of(alloc: Global, recipe: &Recipe) -> Result<Octets, ElfError> {
 }
 
 /// Whether it is over the first source, of an image.
-fn is_answered_told_of<Q: Question>(alloc: Global, q: &Q, recipe: &Recipe) -> bool {
-    match bytes_of(alloc, recipe) {
-        Ok(bytes) => is_answered_told(alloc, q, bytes),
-        Err(_) => false,
+fn is_answered_told_of<Q: Question>(rt: &HostRuntime, q: &Q, recipe: &Recipe) -> bool {
+    match bytes_of(rt.alloc(), recipe) {
+        Ok(bytes) => is_answered_told(rt, q, bytes),
+        Err(e) => failed(rt, e),
     }
 }
 
 /// Whether it is over either, of an image.
-pub fn is_answered_of<Q: Question>(alloc: Global, q: &Q, recipe: &Recipe) -> bool {
-    match bytes_of(alloc, recipe) {
-        Ok(bytes) => {
-            is_answered_untold(alloc, q, bytes) && is_answered_told_of(alloc, q, recipe)
-        }
-        Err(_) => false,
+pub fn is_answered_of<Q: Question>(rt: &HostRuntime, q: &Q, recipe: &Recipe) -> bool {
+    match bytes_of(rt.alloc(), recipe) {
+        Ok(bytes) => { is_answered_untold(rt, q, bytes) && is_answered_told_of(rt, q, recipe) }
+        Err(e) => failed(rt, e),
     }
 }
 
 /// The same of the object of class 64, the least byte first.
-pub fn is_answered<Q: Question>(alloc: Global, q: &Q) -> bool {
-    is_answered_of(alloc, q, &WIDE_OBJECT)
+pub fn is_answered<Q: Question>(rt: &HostRuntime, q: &Q) -> bool {
+    is_answered_of(rt, q, &WIDE_OBJECT)
 }
 
 /// Adds a piece to section 1, at a multiple of 8.

@@ -2,6 +2,7 @@
 
 use elf_types::{ElfError, Order};
 use gelf_view::{Verdaux, Verdef, Vernaux, Verneed, verdaux_in, verdef_in, vernaux_in, verneed_in};
+use test_rows::{in_row, same};
 
 /// Bytes that tell their places, so that each number shows where it was read.
 static PLACES: [u8; 24] = [
@@ -43,14 +44,14 @@ static DEFINITIONS: [(u64, Order, Result<Verdef, ElfError>); 4] = [
 ];
 
 /// Whether a definition is there.
-fn is_definition(at: u64, order: Order, want: Result<Verdef, ElfError>) -> bool {
-    verdef_in(&PLACES, at, order) == want
+fn is_definition(rt: &HostRuntime, at: u64, order: Order, want: Result<Verdef, ElfError>) -> bool {
+    same(rt, &verdef_in(&PLACES, at, order), &want)
 }
 
 /// Whether the definition at each place is as stated.
-fn are_definitions() -> bool {
-    for (at, order, want) in DEFINITIONS.iter() {
-        if !is_definition(*at, *order, *want) {
+fn are_definitions(rt: &HostRuntime) -> bool {
+    for (n, (at, order, want)) in DEFINITIONS.iter().enumerate() {
+        if !in_row(rt, n, is_definition(rt, *at, *order, *want)) {
             return false;
         }
     }
@@ -59,7 +60,7 @@ fn are_definitions() -> bool {
 
 #[test]
 fn version_definitions_are_read(rt: HostRuntime) {
-    assert!(rt; are_definitions());
+    assert!(rt; are_definitions(&rt));
 }
 
 /// The name of a definition at 16, the least byte first.
@@ -87,30 +88,30 @@ const VERSION: Vernaux = Vernaux {
 };
 
 /// Whether a name is at a place.
-fn is_name(at: u64, want: Result<Verdaux, ElfError>) -> bool {
-    verdaux_in(&PLACES, at, Order::Least) == want
+fn is_name(rt: &HostRuntime, at: u64, want: Result<Verdaux, ElfError>) -> bool {
+    same(rt, &verdaux_in(&PLACES, at, Order::Least), &want)
 }
 
 /// Whether a file is.
-fn is_file(at: u64, want: Result<Verneed, ElfError>) -> bool {
-    verneed_in(&PLACES, at, Order::Greatest) == want
+fn is_file(rt: &HostRuntime, at: u64, want: Result<Verneed, ElfError>) -> bool {
+    same(rt, &verneed_in(&PLACES, at, Order::Greatest), &want)
 }
 
 /// Whether a version is.
-fn is_version(at: u64, want: Result<Vernaux, ElfError>) -> bool {
-    vernaux_in(&PLACES, at, Order::Greatest) == want
+fn is_version(rt: &HostRuntime, at: u64, want: Result<Vernaux, ElfError>) -> bool {
+    same(rt, &vernaux_in(&PLACES, at, Order::Greatest), &want)
 }
 
 /// Whether a name, a file and a version are read, and none that passes the end.
-fn are_read() -> bool {
-    is_name(16, Ok(NAME))
-        && is_name(17, Err(ElfError::BadChain { at: 17 }))
-        && is_file(8, Ok(FILE))
-        && is_file(9, Err(ElfError::BadChain { at: 9 }))
-        && is_version(8, Ok(VERSION))
+fn are_read(rt: &HostRuntime) -> bool {
+    is_name(rt, 16, Ok(NAME))
+        && is_name(rt, 17, Err(ElfError::BadChain { at: 17 }))
+        && is_file(rt, 8, Ok(FILE))
+        && is_file(rt, 9, Err(ElfError::BadChain { at: 9 }))
+        && is_version(rt, 8, Ok(VERSION))
 }
 
 #[test]
 fn names_and_needs_are_read(rt: HostRuntime) {
-    assert!(rt; are_read());
+    assert!(rt; are_read(&rt));
 }

@@ -7,6 +7,7 @@ use elf_types::{DataId, ElfError, Octets, ScnId};
 use elf_xlate::Items;
 use gelf_view::{bytes, is_called, is_string_at, short_string, string_from, string_in, strptr};
 use test_images::{Content, OBJECT, Put, Recipe};
+use test_rows::{failed, holds, in_row, same};
 
 /// Bytes, and the string that they begin with, if they end it.
 static CASES: [(&[u8], Option<&[u8]>); 4] = [
@@ -17,14 +18,14 @@ static CASES: [(&[u8], Option<&[u8]>); 4] = [
 ];
 
 /// Whether they begin with it.
-fn begin_with(bytes: &[u8], string: Option<&[u8]>) -> bool {
-    string_in(bytes) == string && string_from(bytes, 0) == string
+fn begin_with(rt: &HostRuntime, bytes: &[u8], string: Option<&[u8]>) -> bool {
+    same(rt, &string_in(bytes), &string) && same(rt, &string_from(bytes, 0), &string)
 }
 
 /// Whether each do.
-fn all_begin() -> bool {
-    for (bytes, string) in CASES.iter() {
-        if !begin_with(bytes, *string) {
+fn all_begin(rt: &HostRuntime) -> bool {
+    for (n, (bytes, string)) in CASES.iter().enumerate() {
+        if !in_row(rt, n, begin_with(rt, bytes, *string)) {
             return false;
         }
     }
@@ -33,7 +34,7 @@ fn all_begin() -> bool {
 
 #[test]
 fn strings_end_before_their_nul(rt: HostRuntime) {
-    assert!(rt; all_begin());
+    assert!(rt; all_begin(&rt));
 }
 
 /// Bytes, how long a string may be, and the one that they begin with, if it ends in them and is no
@@ -48,9 +49,9 @@ static SHORT: [(&[u8], usize, Option<&[u8]>); 6] = [
 ];
 
 /// Whether each does.
-fn all_begin_short() -> bool {
-    for (bytes, longest, string) in SHORT.iter() {
-        if short_string(bytes, *longest) != *string {
+fn all_begin_short(rt: &HostRuntime) -> bool {
+    for (n, (bytes, longest, string)) in SHORT.iter().enumerate() {
+        if !in_row(rt, n, same(rt, &short_string(bytes, *longest), string)) {
             return false;
         }
     }
@@ -59,7 +60,7 @@ fn all_begin_short() -> bool {
 
 #[test]
 fn longer_strings_are_none(rt: HostRuntime) {
-    assert!(rt; all_begin_short());
+    assert!(rt; all_begin_short(&rt));
 }
 
 /// Bytes, a place of them, a name, and whether it begins there.
@@ -75,9 +76,9 @@ static NAMES: [(&[u8], u64, &[u8], bool); 8] = [
 ];
 
 /// Whether each name begins where it is told to, and no other.
-fn all_are_at() -> bool {
-    for (bytes, place, name, there) in NAMES.iter() {
-        if is_string_at(bytes, *place, name) != *there {
+fn all_are_at(rt: &HostRuntime) -> bool {
+    for (n, (bytes, place, name, there)) in NAMES.iter().enumerate() {
+        if !in_row(rt, n, same(rt, &is_string_at(bytes, *place, name), there)) {
             return false;
         }
     }
@@ -86,7 +87,7 @@ fn all_are_at() -> bool {
 
 #[test]
 fn a_name_at_a_place_ends_there_too(rt: HostRuntime) {
-    assert!(rt; all_are_at());
+    assert!(rt; all_are_at(&rt));
 }
 
 /// Whether a name is called by itself alone, and none by nothing.
@@ -113,21 +114,23 @@ static PLACES: [(u32, u64, Result<&[u8], ElfError>); 5] = [
 
 /// Whether the string at an offset of a section is answered so.
 fn is_string<S: Source>(
+    rt: &HostRuntime,
     elf: &mut Elf<S>,
     section: u32,
     offset: u64,
     want: Result<&[u8], ElfError>,
 ) -> bool {
-    strptr(elf, ScnId(section), offset) == want
+    same(rt, &strptr(elf, ScnId(section), offset), &want)
 }
 
 /// Whether each of these is.
 fn are_strings<S: Source>(
+    rt: &HostRuntime,
     elf: &mut Elf<S>,
     places: &[(u32, u64, Result<&[u8], ElfError>)],
 ) -> bool {
-    for (section, offset, want) in places.iter() {
-        if !is_string(elf, *section, *offset, *want) {
+    for (n, (section, offset, want)) in places.iter().enumerate() {
+        if !in_row(rt, n, is_string(rt, elf, *section, *offset, *want)) {
             return false;
         }
     }
@@ -135,22 +138,24 @@ fn are_strings<S: Source>(
 }
 
 /// Whether the bytes of the first piece are these.
-fn first_is<S: Source>(elf: &mut Elf<S>, want: &[u8]) -> bool {
+fn first_is<S: Source>(rt: &HostRuntime, elf: &mut Elf<S>, want: &[u8]) -> bool {
     match bytes(elf, STRINGS) {
-        Ok(found) => found == want,
-        Err(_) => false,
+        Ok(found) => same(rt, &found, &want),
+        Err(e) => failed(rt, e),
     }
 }
 
 impl Question for TwoPieces {
-    fn is_answered<S: Source>(&self, elf: &mut Elf<S>) -> bool {
-        add_bytes(elf, b"b").is_ok() && first_is(elf, b"\0a\0") && are_strings(elf, &PLACES)
+    fn is_answered<S: Source>(&self, rt: &HostRuntime, elf: &mut Elf<S>) -> bool {
+        holds(rt, "a piece is added", add_bytes(elf, b"b").is_ok())
+            && first_is(rt, elf, b"\0a\0")
+            && are_strings(rt, elf, &PLACES)
     }
 }
 
 #[test]
 fn strings_stand_in_their_pieces(rt: HostRuntime) {
-    assert!(rt; is_answered(rt.alloc(), &TwoPieces));
+    assert!(rt; is_answered(&rt, &TwoPieces));
 }
 
 /// Section 1 has 600 pieces more of three bytes, each at a multiple of eight; then one in their
@@ -224,17 +229,17 @@ fn lengthen<S: Source>(elf: &mut Elf<S>) -> Result<(), ElfError> {
 }
 
 impl Question for ManyPieces {
-    fn is_answered<S: Source>(&self, elf: &mut Elf<S>) -> bool {
-        add_many(elf, 600).is_ok()
-            && are_strings(elf, &EARLY)
-            && lengthen(elf).is_ok()
-            && are_strings(elf, &LATE)
+    fn is_answered<S: Source>(&self, rt: &HostRuntime, elf: &mut Elf<S>) -> bool {
+        same(rt, &add_many(elf, 600), &Ok(()))
+            && are_strings(rt, elf, &EARLY)
+            && same(rt, &lengthen(elf), &Ok(()))
+            && are_strings(rt, elf, &LATE)
     }
 }
 
 #[test]
 fn strings_stand_in_many_pieces_as_they_are_by_now(rt: HostRuntime) {
-    assert!(rt; is_answered(rt.alloc(), &ManyPieces));
+    assert!(rt; is_answered(&rt, &ManyPieces));
 }
 
 /// The object whose strings end with two bytes behind their last NUL.
@@ -271,12 +276,14 @@ fn replace_strings<S: Source>(elf: &mut Elf<S>) -> Result<(), ElfError> {
 }
 
 impl Question for OpenEnd {
-    fn is_answered<S: Source>(&self, elf: &mut Elf<S>) -> bool {
-        are_strings(elf, &IN_HOME) && replace_strings(elf).is_ok() && are_strings(elf, &IN_OWN)
+    fn is_answered<S: Source>(&self, rt: &HostRuntime, elf: &mut Elf<S>) -> bool {
+        are_strings(rt, elf, &IN_HOME)
+            && same(rt, &replace_strings(elf), &Ok(()))
+            && are_strings(rt, elf, &IN_OWN)
     }
 }
 
 #[test]
 fn strings_behind_the_last_nul_are_unended(rt: HostRuntime) {
-    assert!(rt; is_answered_of(rt.alloc(), &OpenEnd, &OPEN_END));
+    assert!(rt; is_answered_of(&rt, &OpenEnd, &OPEN_END));
 }

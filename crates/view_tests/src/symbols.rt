@@ -9,6 +9,7 @@ use elf_types::constants::{SHN_XINDEX, SHT_SYMTAB_SHNDX};
 use elf_types::{DataId, ElfError, Kind, Part, ScnId, Shdr, Sym, Syms, Words};
 use elf_xlate::Items;
 use gelf_view::{SymPlace, item_count, sym, symshndx, update_sym};
+use test_rows::same;
 
 /// A symbol.
 fn symbol<S: Source>(elf: &mut Elf<S>, i: u64) -> Result<Sym, ElfError> {
@@ -62,19 +63,19 @@ struct Placed;
 const NO_INDEX: ElfError = ElfError::NoEntry { index: 0, count: 0 };
 
 impl Question for Placed {
-    fn is_answered<S: Source>(&self, elf: &mut Elf<S>) -> bool {
-        let mut placed = place(elf, 1) == Ok(SymPlace::Special(0xfff1));
-        placed &= extend(elf) == Ok(());
-        placed &= place(elf, 0) == Err(NO_INDEX);
-        placed &= set_table(elf) == Ok(());
-        placed &= set_number(elf, 70_000) == Ok(());
-        placed && place(elf, 0) == Ok(SymPlace::Section(70_000))
+    fn is_answered<S: Source>(&self, rt: &HostRuntime, elf: &mut Elf<S>) -> bool {
+        let mut placed = same(rt, &place(elf, 1), &Ok(SymPlace::Special(0xfff1)));
+        placed &= same(rt, &extend(elf), &Ok(()));
+        placed &= same(rt, &place(elf, 0), &Err(NO_INDEX));
+        placed &= same(rt, &set_table(elf), &Ok(()));
+        placed &= same(rt, &set_number(elf, 70_000), &Ok(()));
+        placed && same(rt, &place(elf, 0), &Ok(SymPlace::Section(70_000)))
     }
 }
 
 #[test]
 fn symbols_have_sections(rt: HostRuntime) {
-    assert!(rt; is_answered(rt.alloc(), &Placed));
+    assert!(rt; is_answered(&rt, &Placed));
 }
 
 /// Stores symbol 1 with another value, and answers the one that is told then.
@@ -112,16 +113,16 @@ fn function(value: u64) -> Sym {
 }
 
 impl Question for Stored {
-    fn is_answered<S: Source>(&self, elf: &mut Elf<S>) -> bool {
-        let mut stored = count_of(elf, SYMBOLS) == Ok(2);
+    fn is_answered<S: Source>(&self, rt: &HostRuntime, elf: &mut Elf<S>) -> bool {
+        let mut stored = same(rt, &count_of(elf, SYMBOLS), &Ok(2));
         stored &= count_of(elf, STRINGS) == Err(ElfError::WrongKind { held: Kind::Bytes });
-        stored &= store(elf, 1 << 32) == Err(UNFIT);
-        stored &= symbol(elf, 1) == Ok(function(0x1000));
-        stored && store(elf, 7) == Ok(function(7))
+        stored &= same(rt, &store(elf, 1 << 32), &Err(UNFIT));
+        stored &= same(rt, &symbol(elf, 1), &Ok(function(0x1000)));
+        stored && same(rt, &store(elf, 7), &Ok(function(7)))
     }
 }
 
 #[test]
 fn a_symbol_is_stored(rt: HostRuntime) {
-    assert!(rt; is_answered_of(rt.alloc(), &Stored, &NARROW_OBJECT));
+    assert!(rt; is_answered_of(&rt, &Stored, &NARROW_OBJECT));
 }

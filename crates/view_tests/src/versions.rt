@@ -8,6 +8,7 @@ use gelf_view::{
     AuxPlace, Verdaux, Verdef, Vernaux, Verneed, first_entry, next_verdaux, verdaux, verdef,
     vernaux, verneed,
 };
+use test_rows::{failed, same};
 
 /// A definition at 0 with one name, which is at 20.
 static DEFINITION: [u8; 28] = [
@@ -38,28 +39,30 @@ const BACK: Verdef = Verdef {
 };
 
 /// Whether the first definition is at a place.
-fn begins_at<S: Source>(elf: &mut Elf<S>, d: DataId, want: Option<u64>) -> bool {
-    first_entry(elf, d) == Ok(want)
+fn begins_at<S: Source>(rt: &HostRuntime, elf: &mut Elf<S>, d: DataId, want: Option<u64>) -> bool {
+    same(rt, &first_entry(elf, d), &Ok(want))
 }
 
 /// Whether a definition is at a place.
 fn is_definition<S: Source>(
+    rt: &HostRuntime,
     elf: &mut Elf<S>,
     d: DataId,
     at: u64,
     want: Result<Verdef, ElfError>,
 ) -> bool {
-    verdef(elf, d, at) == want
+    same(rt, &verdef(elf, d, at), &want)
 }
 
 /// Whether a name is.
 fn is_name<S: Source>(
+    rt: &HostRuntime,
     elf: &mut Elf<S>,
     d: DataId,
     at: u64,
     want: Result<Verdaux, ElfError>,
 ) -> bool {
-    verdaux(elf, d, at) == want
+    same(rt, &verdaux(elf, d, at), &want)
 }
 
 /// Whether the next name of a walk is found, or why not.
@@ -75,16 +78,20 @@ fn next_name<S: Source>(
 }
 
 /// Whether no second name is found behind one that says that it is the last.
-fn last_name_is_last<S: Source>(elf: &mut Elf<S>, d: DataId) -> bool {
+fn last_name_is_last<S: Source>(rt: &HostRuntime, elf: &mut Elf<S>, d: DataId) -> bool {
     let mut place = TWO_NAMES.first_aux(0);
-    next_name(elf, d, &mut place) == Ok(true)
-        && next_name(elf, d, &mut place) == Err(ElfError::BadChain { at: 20 })
+    same(rt, &next_name(elf, d, &mut place), &Ok(true))
+        && same(
+            rt,
+            &next_name(elf, d, &mut place),
+            &Err(ElfError::BadChain { at: 20 }),
+        )
 }
 
 /// Whether an entry that tells a greater distance than there is leads to none.
-fn backwards_is_nowhere<S: Source>(elf: &mut Elf<S>, d: DataId) -> bool {
+fn backwards_is_nowhere<S: Source>(rt: &HostRuntime, elf: &mut Elf<S>, d: DataId) -> bool {
     match BACK.next_place(20) {
-        Some(at) => is_definition(elf, d, at, Err(ElfError::BadChain { at })),
+        Some(at) => is_definition(rt, elf, d, at, Err(ElfError::BadChain { at })),
         None => false,
     }
 }
@@ -93,27 +100,27 @@ fn backwards_is_nowhere<S: Source>(elf: &mut Elf<S>, d: DataId) -> bool {
 struct Walk;
 
 /// Whether they are in a piece.
-fn is_walked<S: Source>(elf: &mut Elf<S>, d: DataId) -> bool {
-    begins_at(elf, d, Some(0))
-        && is_definition(elf, d, 0, Ok(BASE))
-        && is_name(elf, d, 20, Ok(NAME))
-        && is_definition(elf, d, 9, Err(ElfError::BadChain { at: 9 }))
-        && last_name_is_last(elf, d)
-        && backwards_is_nowhere(elf, d)
+fn is_walked<S: Source>(rt: &HostRuntime, elf: &mut Elf<S>, d: DataId) -> bool {
+    begins_at(rt, elf, d, Some(0))
+        && is_definition(rt, elf, d, 0, Ok(BASE))
+        && is_name(rt, elf, d, 20, Ok(NAME))
+        && is_definition(rt, elf, d, 9, Err(ElfError::BadChain { at: 9 }))
+        && last_name_is_last(rt, elf, d)
+        && backwards_is_nowhere(rt, elf, d)
 }
 
 impl Question for Walk {
-    fn is_answered<S: Source>(&self, elf: &mut Elf<S>) -> bool {
+    fn is_answered<S: Source>(&self, rt: &HostRuntime, elf: &mut Elf<S>) -> bool {
         match add_bytes(elf, &DEFINITION) {
-            Ok(d) => is_walked(elf, d),
-            Err(_) => false,
+            Ok(d) => is_walked(rt, elf, d),
+            Err(e) => failed(rt, e),
         }
     }
 }
 
 #[test]
 fn versions_are_walked(rt: HostRuntime) {
-    assert!(rt; is_answered(rt.alloc(), &Walk));
+    assert!(rt; is_answered(&rt, &Walk));
 }
 
 /// The need of one version of a file, at 0, and that version, at 16.
@@ -142,45 +149,47 @@ const NEEDED: Vernaux = Vernaux {
 
 /// Whether a file of a need is at a place.
 fn is_file<S: Source>(
+    rt: &HostRuntime,
     elf: &mut Elf<S>,
     d: DataId,
     at: u64,
     want: Result<Verneed, ElfError>,
 ) -> bool {
-    verneed(elf, d, at) == want
+    same(rt, &verneed(elf, d, at), &want)
 }
 
 /// Whether a version of a need is at a place.
 fn is_version<S: Source>(
+    rt: &HostRuntime,
     elf: &mut Elf<S>,
     d: DataId,
     at: u64,
     want: Result<Vernaux, ElfError>,
 ) -> bool {
-    vernaux(elf, d, at) == want
+    same(rt, &vernaux(elf, d, at), &want)
 }
 
 /// The file and the version are read, and none that passes the end.
 struct Needs;
 
 /// Whether they are in a piece.
-fn is_needed<S: Source>(elf: &mut Elf<S>, d: DataId) -> bool {
-    is_file(elf, d, 0, Ok(FILE))
-        && is_file(elf, d, 17, Err(ElfError::BadChain { at: 17 }))
-        && is_version(elf, d, 16, Ok(NEEDED))
-        && is_version(elf, d, 17, Err(ElfError::BadChain { at: 17 }))
+fn is_needed<S: Source>(rt: &HostRuntime, elf: &mut Elf<S>, d: DataId) -> bool {
+    is_file(rt, elf, d, 0, Ok(FILE))
+        && is_file(rt, elf, d, 17, Err(ElfError::BadChain { at: 17 }))
+        && is_version(rt, elf, d, 16, Ok(NEEDED))
+        && is_version(rt, elf, d, 17, Err(ElfError::BadChain { at: 17 }))
 }
 
 impl Question for Needs {
-    fn is_answered<S: Source>(&self, elf: &mut Elf<S>) -> bool {
+    fn is_answered<S: Source>(&self, rt: &HostRuntime, elf: &mut Elf<S>) -> bool {
         match add_bytes(elf, &NEED) {
-            Ok(d) => is_needed(elf, d),
-            Err(_) => false,
+            Ok(d) => is_needed(rt, elf, d),
+            Err(e) => failed(rt, e),
         }
     }
 }
 
 #[test]
 fn needs_and_their_versions_are_read(rt: HostRuntime) {
-    assert!(rt; is_answered(rt.alloc(), &Needs));
+    assert!(rt; is_answered(&rt, &Needs));
 }

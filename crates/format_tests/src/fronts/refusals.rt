@@ -8,6 +8,7 @@ use std::alloc::Global;
 use test_images::{
     FORMS, Field, HeaderField, Image, SectionField, numbers_in_section_0, two_tables,
 };
+use test_rows::{failed, in_row, same, within};
 use test_sources::Sparse;
 
 const VERSION: Field = Field::Header(HeaderField::Version);
@@ -70,10 +71,10 @@ fn change_all(image: &mut Image, changes: &[Change]) {
 }
 
 /// Whether a change of an image is refused as stated.
-fn is_refused(alloc: Global, mut image: Image, change: &Change) -> bool {
+fn is_refused(rt: &HostRuntime, mut image: Image, change: &Change) -> bool {
     let len = image.bytes.len();
     image.put_field(change.0, change.1);
-    refusal_of(alloc, image, len) == Some(change.2)
+    same(rt, &refusal_of(rt.alloc(), image, len), &Some(change.2))
 }
 
 /// An image whose numbers stand in its header, or in section 0.
@@ -85,17 +86,17 @@ fn image_of(alloc: Global, form: Form, extended: bool) -> Result<Image, ElfError
 }
 
 /// Whether a change of that image is refused as stated.
-fn is_refused_of(alloc: Global, form: Form, extended: bool, change: &Change) -> bool {
-    match image_of(alloc, form, extended) {
-        Ok(image) => is_refused(alloc, image, change),
-        Err(_) => false,
+fn is_refused_of(rt: &HostRuntime, form: Form, extended: bool, change: &Change) -> bool {
+    match image_of(rt.alloc(), form, extended) {
+        Ok(image) => is_refused(rt, image, change),
+        Err(e) => failed(rt, e),
     }
 }
 
 /// Whether each change of it is, in a form.
-fn are_refused_in(alloc: Global, form: Form, extended: bool, changes: &[Change]) -> bool {
-    for change in changes {
-        if !is_refused_of(alloc, form, extended, change) {
+fn are_refused_in(rt: &HostRuntime, form: Form, extended: bool, changes: &[Change]) -> bool {
+    for (n, change) in changes.iter().enumerate() {
+        if !in_row(rt, n, is_refused_of(rt, form, extended, change)) {
             return false;
         }
     }
@@ -103,9 +104,9 @@ fn are_refused_in(alloc: Global, form: Form, extended: bool, changes: &[Change])
 }
 
 /// Whether each is in all forms.
-fn are_refused(alloc: Global, extended: bool, changes: &[Change]) -> bool {
+fn are_refused(rt: &HostRuntime, extended: bool, changes: &[Change]) -> bool {
     for form in FORMS.iter() {
-        if !are_refused_in(alloc, *form, extended, changes) {
+        if !within(rt, form, are_refused_in(rt, *form, extended, changes)) {
             return false;
         }
     }
@@ -114,8 +115,8 @@ fn are_refused(alloc: Global, extended: bool, changes: &[Change]) -> bool {
 
 #[test]
 fn a_damaged_field_is_refused(rt: HostRuntime) {
-    assert!(rt; are_refused(rt.alloc(), false, &CHANGES));
-    assert!(rt; are_refused(rt.alloc(), true, &EXTENDED_CHANGES));
+    assert!(rt; are_refused(&rt, false, &CHANGES));
+    assert!(rt; are_refused(&rt, true, &EXTENDED_CHANGES));
 }
 
 /// Faults in the order of their refusals, but for those of the length.
@@ -143,15 +144,19 @@ fn refusal_with_all(
 
 /// Whether an image that has these faults, of which a source has a length, is refused so.
 fn is_refused_by(
-    alloc: Global,
+    rt: &HostRuntime,
     form: Form,
     faults: &[Change],
     len: u64,
     refusal: Option<ElfError>,
 ) -> bool {
-    match image_of(alloc, form, true) {
-        Ok(image) => refusal_with_all(alloc, image, faults, len) == refusal,
-        Err(_) => false,
+    match image_of(rt.alloc(), form, true) {
+        Ok(image) => same(
+            rt,
+            &refusal_with_all(rt.alloc(), image, faults, len),
+            &refusal,
+        ),
+        Err(e) => failed(rt, e),
     }
 }
 
@@ -161,32 +166,36 @@ fn from(faults: &[Change], first: usize) -> &[Change] {
 }
 
 /// Whether each fault is refused before those behind it, and an image without faults is read.
-fn faults_come_in_order(alloc: Global, form: Form, faults: &[Change]) -> bool {
+fn faults_come_in_order(rt: &HostRuntime, form: Form, faults: &[Change]) -> bool {
     for (i, fault) in faults.iter().enumerate() {
-        if !is_refused_by(alloc, form, from(faults, i), MAX_IMAGE, Some(fault.2)) {
+        if !in_row(
+            rt,
+            i,
+            is_refused_by(rt, form, from(faults, i), MAX_IMAGE, Some(fault.2)),
+        ) {
             return false;
         }
     }
-    is_refused_by(alloc, form, &[], MAX_IMAGE, None)
+    is_refused_by(rt, form, &[], MAX_IMAGE, None)
 }
 
 /// Whether the length is looked at before the identification, before `e_version`, and behind it.
-fn lengths_come_in_order(alloc: Global, form: Form, faults: &[Change]) -> bool {
+fn lengths_come_in_order(rt: &HostRuntime, form: Form, faults: &[Change]) -> bool {
     let cut = ehdr_size(form.0) as u64 - 1;
     let (version, after) = (from(faults, 4), from(faults, 5));
-    is_refused_by(alloc, form, faults, 15, Some(ElfError::Short))
-        && is_refused_by(alloc, form, from(faults, 3), cut, Some(ElfError::Version))
-        && is_refused_by(alloc, form, version, cut, Some(ElfError::Short))
-        && is_refused_by(alloc, form, version, MAX_IMAGE + 1, Some(ElfError::Version))
-        && is_refused_by(alloc, form, after, MAX_IMAGE + 1, Some(ElfError::TooLarge))
+    is_refused_by(rt, form, faults, 15, Some(ElfError::Short))
+        && is_refused_by(rt, form, from(faults, 3), cut, Some(ElfError::Version))
+        && is_refused_by(rt, form, version, cut, Some(ElfError::Short))
+        && is_refused_by(rt, form, version, MAX_IMAGE + 1, Some(ElfError::Version))
+        && is_refused_by(rt, form, after, MAX_IMAGE + 1, Some(ElfError::TooLarge))
 }
 
 /// Whether all come in order in all forms.
-fn all_come_in_order(alloc: Global, faults: &[Change]) -> bool {
+fn all_come_in_order(rt: &HostRuntime, faults: &[Change]) -> bool {
     for form in FORMS.iter() {
-        if !faults_come_in_order(alloc, *form, faults)
-            || !lengths_come_in_order(alloc, *form, faults)
-        {
+        let so = faults_come_in_order(rt, *form, faults)
+            && lengths_come_in_order(rt, *form, faults);
+        if !within(rt, form, so) {
             return false;
         }
     }
@@ -195,25 +204,35 @@ fn all_come_in_order(alloc: Global, faults: &[Change]) -> bool {
 
 #[test]
 fn the_first_refusal_is_the_answer(rt: HostRuntime) {
-    assert!(rt; all_come_in_order(rt.alloc(), &FAULTS));
+    assert!(rt; all_come_in_order(&rt, &FAULTS));
 }
 
 /// Whether an image with too many entries in a field of section 0, of which a source has a length,
 /// is refused so.
-fn is_refused_with(alloc: Global, form: Form, count: Field, len: u64, refusal: ElfError) -> bool {
-    match image_of(alloc, form, true) {
+fn is_refused_with(
+    rt: &HostRuntime,
+    form: Form,
+    count: Field,
+    len: u64,
+    refusal: ElfError,
+) -> bool {
+    match image_of(rt.alloc(), form, true) {
         Ok(image) => {
             let many = [(count, MAX_SECTIONS + 1, refusal)];
-            refusal_with_all(alloc, image, &many, len) == Some(refusal)
+            same(
+                rt,
+                &refusal_with_all(rt.alloc(), image, &many, len),
+                &Some(refusal),
+            )
         }
-        Err(_) => false,
+        Err(e) => failed(rt, e),
     }
 }
 
 /// Whether a table of too many entries of a size, from a place on, is refused as such only where it
 /// lies in the image.
 fn lies_first(
-    alloc: Global,
+    rt: &HostRuntime,
     form: Form,
     count: Field,
     at: u64,
@@ -222,17 +241,17 @@ fn lies_first(
 ) -> bool {
     let many = MAX_SECTIONS + 1;
     let end = at.saturating_add(many.saturating_mul(size as u64));
-    is_refused_with(alloc, form, count, end.saturating_sub(1), past)
-        && is_refused_with(alloc, form, count, end, ElfError::TooMany)
+    is_refused_with(rt, form, count, end.saturating_sub(1), past)
+        && is_refused_with(rt, form, count, end, ElfError::TooMany)
 }
 
 /// Whether both tables are, in all forms.
-fn tables_lie_first(alloc: Global) -> bool {
+fn tables_lie_first(rt: &HostRuntime) -> bool {
     for form in FORMS.iter() {
         let (segment, section) = (phdr_size(form.0), shdr_size(form.0));
-        if !lies_first(alloc, *form, FIRST_INFO, 64, segment, ElfError::PhTable)
-            || !lies_first(alloc, *form, FIRST_SIZE, 192, section, ElfError::ShTable)
-        {
+        let so = lies_first(rt, *form, FIRST_INFO, 64, segment, ElfError::PhTable)
+            && lies_first(rt, *form, FIRST_SIZE, 192, section, ElfError::ShTable);
+        if !within(rt, form, so) {
             return false;
         }
     }
@@ -241,5 +260,5 @@ fn tables_lie_first(alloc: Global) -> bool {
 
 #[test]
 fn a_table_of_too_many_entries_lies_in_the_image(rt: HostRuntime) {
-    assert!(rt; tables_lie_first(rt.alloc()));
+    assert!(rt; tables_lie_first(&rt));
 }

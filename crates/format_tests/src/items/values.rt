@@ -8,6 +8,7 @@ use elf_xlate::{
     Items, get_addr, get_dyn, get_half, get_rel, get_rela, get_sym, get_word, item_size,
 };
 use std::alloc::Global;
+use test_rows::{other, same};
 
 /// A class and a byte order.
 pub type Form = (Class, Order);
@@ -45,16 +46,16 @@ pub fn kind(value: Value) -> Kind {
 }
 
 /// Whether the first of some items is that one.
-pub fn is_first(items: &Items, value: Value) -> bool {
+pub fn is_first(rt: &HostRuntime, items: &Items, value: Value) -> bool {
     match (items, value) {
-        (Items::Half(l), Value::Half(v)) => l.get(0) == Some(v),
-        (Items::Word(l), Value::Word(v)) => l.get(0) == Some(v),
-        (Items::Addr(l), Value::Addr(v)) => l.get(0) == Some(v),
-        (Items::Sym(l), Value::Sym(v)) => l.get(0) == Some(v),
-        (Items::Rel(l), Value::Rel(v)) => l.get(0) == Some(v),
-        (Items::Rela(l), Value::Rela(v)) => l.get(0) == Some(v),
-        (Items::Dyn(l), Value::Dyn(v)) => l.get(0) == Some(v),
-        _ => false,
+        (Items::Half(l), Value::Half(v)) => same(rt, &l.get(0), &Some(v)),
+        (Items::Word(l), Value::Word(v)) => same(rt, &l.get(0), &Some(v)),
+        (Items::Addr(l), Value::Addr(v)) => same(rt, &l.get(0), &Some(v)),
+        (Items::Sym(l), Value::Sym(v)) => same(rt, &l.get(0), &Some(v)),
+        (Items::Rel(l), Value::Rel(v)) => same(rt, &l.get(0), &Some(v)),
+        (Items::Rela(l), Value::Rela(v)) => same(rt, &l.get(0), &Some(v)),
+        (Items::Dyn(l), Value::Dyn(v)) => same(rt, &l.get(0), &Some(v)),
+        _ => other(rt, &items.kind(), "the kind of the value"),
     }
 }
 
@@ -66,16 +67,23 @@ fn is_whole(kind: Kind, form: Form, bytes: &[u8]) -> bool
 }
 
 /// Whether bytes are that item alone.
-pub fn is_single(form: Form, bytes: &[u8], value: Value) -> bool {
+pub fn is_single(rt: &HostRuntime, form: Form, bytes: &[u8], value: Value) -> bool {
     let (class, order) = form;
     match value {
-        Value::Half(v) => is_whole(Kind::Half, form, bytes) && get_half(class, order, bytes) == v,
-        Value::Word(v) => is_whole(Kind::Word, form, bytes) && get_word(class, order, bytes) == v,
-        Value::Addr(v) => is_whole(Kind::Addr, form, bytes) && get_addr(class, order, bytes) == v,
-        Value::Sym(v) => is_whole(Kind::Sym, form, bytes) && get_sym(class, order, bytes) == v,
-        Value::Rel(v) => is_whole(Kind::Rel, form, bytes) && get_rel(class, order, bytes) == v,
-        Value::Rela(v) => is_whole(Kind::Rela, form, bytes) && get_rela(class, order, bytes) == v,
-        Value::Dyn(v) => is_whole(Kind::Dyn, form, bytes) && get_dyn(class, order, bytes) == v,
+        Value::Half(v) => is_whole(Kind::Half, form, bytes)
+            && same(rt, &get_half(class, order, bytes), &v),
+        Value::Word(v) => is_whole(Kind::Word, form, bytes)
+            && same(rt, &get_word(class, order, bytes), &v),
+        Value::Addr(v) => is_whole(Kind::Addr, form, bytes)
+            && same(rt, &get_addr(class, order, bytes), &v),
+        Value::Sym(v) => is_whole(Kind::Sym, form, bytes)
+            && same(rt, &get_sym(class, order, bytes), &v),
+        Value::Rel(v) => is_whole(Kind::Rel, form, bytes)
+            && same(rt, &get_rel(class, order, bytes), &v),
+        Value::Rela(v) => is_whole(Kind::Rela, form, bytes)
+            && same(rt, &get_rela(class, order, bytes), &v),
+        Value::Dyn(v) => is_whole(Kind::Dyn, form, bytes)
+            && same(rt, &get_dyn(class, order, bytes), &v),
     }
 }
 

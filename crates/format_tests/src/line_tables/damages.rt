@@ -4,6 +4,7 @@ use super::{SMALL_UNIT, UNIT_OF_EVERY_OPCODE, WIDE, next_of};
 use elf_types::{Class, ElfError, Octets, Order};
 use line_table::{LineFault, LineWhy, unit_at};
 use std::alloc::Global;
+use test_rows::{failed, in_row, same};
 
 /// Bytes that are changed.
 type Changes = &'static [(usize, u8)];
@@ -61,17 +62,27 @@ fn damaged(alloc: Global, unit: &[u8], changes: &[(usize, u8)]) -> Result<Octets
 }
 
 /// Whether a unit with some bytes changed is refused so.
-fn is_refused(alloc: Global, unit: &[u8], changes: &[(usize, u8)], at: u64, why: LineWhy) -> bool {
-    match damaged(alloc, unit, changes) {
-        Ok(bytes) => next_of(alloc, bytes.as_slice(), 0) == Err(LineFault::Bad { at, why }),
-        Err(_) => false,
+fn is_refused(
+    rt: &HostRuntime,
+    unit: &[u8],
+    changes: &[(usize, u8)],
+    at: u64,
+    why: LineWhy,
+) -> bool {
+    match damaged(rt.alloc(), unit, changes) {
+        Ok(bytes) => same(
+            rt,
+            &next_of(rt.alloc(), bytes.as_slice(), 0),
+            &Err(LineFault::Bad { at, why }),
+        ),
+        Err(e) => failed(rt, e),
     }
 }
 
 /// Whether the damages of a unit are.
-fn damages_are_refused(alloc: Global, unit: &[u8], damages: &[Damage]) -> bool {
-    for (changes, at, why) in damages {
-        if !is_refused(alloc, unit, changes, *at, *why) {
+fn damages_are_refused(rt: &HostRuntime, unit: &[u8], damages: &[Damage]) -> bool {
+    for (n, (changes, at, why)) in damages.iter().enumerate() {
+        if !in_row(rt, n, is_refused(rt, unit, changes, *at, *why)) {
             return false;
         }
     }
@@ -80,7 +91,7 @@ fn damages_are_refused(alloc: Global, unit: &[u8], damages: &[Damage]) -> bool {
 
 #[test]
 fn names_the_first_fault(rt: HostRuntime) {
-    assert!(rt; damages_are_refused(rt.alloc(), SMALL_UNIT, &DAMAGES));
+    assert!(rt; damages_are_refused(&rt, SMALL_UNIT, &DAMAGES));
 }
 
 /// Opcode 13 of the unit of every opcode, which stands at 84, is to have 255 operands.
@@ -88,7 +99,7 @@ static OPERANDS: [Damage; 1] = [(&[(28, 255)], 84, LineWhy::Cut)];
 
 #[test]
 fn operands_that_pass_the_unit_are_a_fault(rt: HostRuntime) {
-    assert!(rt; damages_are_refused(rt.alloc(), UNIT_OF_EVERY_OPCODE, &OPERANDS));
+    assert!(rt; damages_are_refused(&rt, UNIT_OF_EVERY_OPCODE, &OPERANDS));
 }
 
 #[test]
@@ -158,9 +169,13 @@ static PLACES: [(usize, Result<u64, LineFault>); 3] = [
 ];
 
 /// Whether the units are told so.
-fn are_placed(alloc: Global, section: &[u8], places: &[(usize, Result<u64, LineFault>)]) -> bool {
-    for (place, told) in places {
-        if next_of(alloc, section, *place) != *told {
+fn are_placed(
+    rt: &HostRuntime,
+    section: &[u8],
+    places: &[(usize, Result<u64, LineFault>)],
+) -> bool {
+    for (n, (place, told)) in places.iter().enumerate() {
+        if !in_row(rt, n, same(rt, &next_of(rt.alloc(), section, *place), told)) {
             return false;
         }
     }
@@ -168,14 +183,15 @@ fn are_placed(alloc: Global, section: &[u8], places: &[(usize, Result<u64, LineF
 }
 
 /// Whether the three units are told so.
-fn three_are_placed(alloc: Global, places: &[(usize, Result<u64, LineFault>)]) -> bool {
-    let mut section = Octets::new(alloc);
-    put_three(alloc, &mut section).is_ok() && are_placed(alloc, section.as_slice(), places)
+fn three_are_placed(rt: &HostRuntime, places: &[(usize, Result<u64, LineFault>)]) -> bool {
+    let mut section = Octets::new(rt.alloc());
+    same(rt, &put_three(rt.alloc(), &mut section), &Ok(()))
+        && are_placed(rt, section.as_slice(), places)
 }
 
 #[test]
 fn places_are_those_in_the_section(rt: HostRuntime) {
-    assert!(rt; three_are_placed(rt.alloc(), &PLACES));
+    assert!(rt; three_are_placed(&rt, &PLACES));
 }
 
 /// The fault of a unit in a class.
@@ -196,13 +212,17 @@ const ADDRESS: LineFault = LineFault::Bad {
 };
 
 /// Whether a section that is too short is refused, and a class whose addresses are.
-fn too_small_is_refused(alloc: Global) -> bool {
+fn too_small_is_refused(rt: &HostRuntime) -> bool {
     let shorter = SMALL_UNIT.get(..49).unwrap_or(&[]);
-    let cut = fault_in(alloc, shorter, Class::C64) == Some(CUT);
-    cut && fault_in(alloc, SMALL_UNIT, Class::C32) == Some(ADDRESS)
+    let cut = same(rt, &fault_in(rt.alloc(), shorter, Class::C64), &Some(CUT));
+    cut && same(
+        rt,
+        &fault_in(rt.alloc(), SMALL_UNIT, Class::C32),
+        &Some(ADDRESS),
+    )
 }
 
 #[test]
 fn refuses_what_the_section_or_the_class_is_too_small_for(rt: HostRuntime) {
-    assert!(rt; too_small_is_refused(rt.alloc()));
+    assert!(rt; too_small_is_refused(&rt));
 }
