@@ -8,8 +8,7 @@ ghost use Rattle.tool_output.specs.Made.{written_outcome};
 ghost use Rattle.tool_output.specs.Outcomes.{Does};
 ghost use Rattle.tool_output.specs.Statuses.{refused_status};
 ghost use Rattle.strip_tool.specs.command_outcomes.Copy.{copy_outcome};
-ghost use Rattle.strip_tool.specs.object_output.Images.{file_object};
-ghost use Rattle.strip_tool.specs.object_writing.Writes.{image_done, named_done};
+ghost use Rattle.strip_tool.specs.object_writing.Writes.{named_done};
 ghost use Rattle.copy_changes.specs.Stated.{stated_changes, HasPlainNames};
 ghost use Rattle.copy_tool.specs.Writes.{copying_of, copied_done};
 
@@ -19,7 +18,7 @@ use copy_changes::{Changes, CopyChanges};
 use elf_outside::{Files, Sink, Source};
 use std::alloc::Global;
 use std::marker::Model;
-use strip_tool::prelude::{FileEdit, begin_image, edit_file, refuse_for};
+use strip_tool::prelude::{Elf, ImageCommand, edit_named};
 use tool_output::{Outputs, Stop};
 
 /// The changes that are made, and the name of the file that is made. No name in them that a section
@@ -54,34 +53,24 @@ impl<'a> CopyCommand<'a> {
 /// The image with the changes is written to the new file, while the old one is open: what is not
 /// changed is copied range by range. What is refused has the message that says why: then no file is
 /// made.
-impl FileEdit for CopyCommand<'_> {
-    ghost command = { λ _. codes "copy" };
+impl ImageCommand for CopyCommand<'_> {
+    ghost named = { λ _. codes "copy" };
 
-    ghost outcome = { λ t name bytes. written_outcome (codes "copy")
-        (image_done (λ file o. copied_done t.changes file t.out o) name (file_object bytes)) };
+    ghost done = { λ t file o. copied_done t.changes file t.out o };
 
-    fn command(&self) -> &'static str {
+    fn name(&self) -> &'static str {
         "copy"
     }
 
-    fn edit<S: Source, F: Files, O: Sink, E: Sink>(
+    fn write<S: Source, F: Files, O: Sink, E: Sink>(
         &self,
         alloc: Global,
-        src: S,
-        name: &[u8],
+        elf: Elf<S>,
+        file: &[u8],
         files: &mut F,
         outputs: &mut Outputs<'_, O, E>,
     ) -> (S, Result<bool, Stop>) {
-        match begin_image(alloc, src) {
-            Ok(elf) => {
-                let _sound = elf.dirty();
-                write_copied(alloc, elf, self.changes, name, self.out, files, outputs)
-            }
-            Err((src, e)) => {
-                let refused = refuse_for("copy", name, e, outputs);
-                (src, refused)
-            }
-        }
+        write_copied(alloc, elf, self.changes, file, self.out, files, outputs)
     }
 }
 
@@ -105,7 +94,7 @@ fn copy_named<F: Files, O: Sink, E: Sink>(
         result files.old files.new outputs.old outputs.new }
 {
     let command = CopyCommand::new(changes, out);
-    edit_file(alloc, &command, file, files, outputs)
+    edit_named(alloc, &command, file, files, outputs)
 }
 
 /// Reads the files of the changes, and then writes the image of a file with the changes to a new

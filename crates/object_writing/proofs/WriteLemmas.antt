@@ -134,6 +134,22 @@ module _ {F D O E : Type 0} (f : FilesGhosts F D) (o : SinkGhosts O) (e : SinkGh
   refused_leaves P T error.Write file before after r a s t rose causes h = absurd rose
   refused_leaves P T c file before after r a s t rose causes h = outputs_leave P r a s t h.leaves
 
+-- ---- The source is handed back
+
+-- what a step did with a descriptor, told of its source alone
+pub handed_back : {S F D O E : Type 0} (g : SourceGhosts S) (f : FilesGhosts F D)
+    (o : SinkGhosts O) (e : SinkGhosts E) (stated : Outcome) (r : Result Bool Stop)
+    (old new : State S) (a b : F) (s t : Outputs O E)
+    → WritesFile g f o e stated r old new a b s t
+    → WritesFile g f o e stated r old (record old { source = new.source }) a b s t
+handed_back g f o e stated r old new a b s t h = record {
+  does = h.does;
+  source = h.source;
+  later = h.later;
+  live = h.live;
+  leaves = h.leaves;
+}
+
 -- ---- The update
 
 pub update_refusal : (p : Object) (d : ElfError) → calls.update_null.answer p ≡ Err d

@@ -9,6 +9,8 @@ use Rattle.elf_outside.specs.declared.sinks.Sink.{Ghosts as SinkGhosts}
 use Rattle.elf_outside.specs.declared.file_sets.Files.{Ghosts as FilesGhosts}
 use Rattle.command_outcomes.specs.elf_object.Object.{Object}
 use Rattle.update_plan.specs.elf_descriptor.State.{State}
+use Rattle.update_plan.specs.elf_descriptor.Begun.{IsBegun}
+use Rattle.update_plan.specs.elf_descriptor.Sound.{IsSound}
 use Rattle.command_outcomes.specs.command_objects.Files.{file_of}
 use Rattle.command_outcomes.specs.Files.{object_named}
 use Rattle.object_files.specs.tool_output.declared.stops.Stop.{Stop}
@@ -32,6 +34,12 @@ image_done done file r = of_file file r >>= λ o. done file o
 abbrev pub named_done : (List ℕ → Object → Result Done Complaint) → Map → List ℕ
     → Result Done Complaint
 named_done done named file = object_named named file >>= λ o. done file o
+
+-- a descriptor that has begun over a file, and on which nothing was called since
+pub record HasBegun {S : Type 0} (s : SourceGhosts S) (e : State S) : Type 0 where
+  pub source : S
+  pub begun : IsBegun s source e
+  pub sound : IsSound (s.holds e.source) e.o
 
 -- A step does what is stated, where the source tells its bytes. The source of the object holds what
 -- it held, the file that is made is closed again and nothing is asked of it, and the step stops by

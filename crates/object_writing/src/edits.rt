@@ -1,10 +1,10 @@
 //! The image of an open file, and the new file that a command makes of it.
 
-ghost use Rattle.std.specs.Prelude.{◌≡◌, ℕ, List, Result, false};
-ghost use Rattle.command_outcomes.specs.elf_object.Object.{Object, is_dirty};
+ghost use Rattle.std.specs.Prelude.{◌≡◌, ℕ, List, Result};
+ghost use Rattle.command_outcomes.specs.elf_object.Object.{Object};
 ghost use Rattle.command_outcomes.specs.object_output.Images.{file_object};
 ghost use Rattle.object_files.specs.tool_output.Made.{Done, Complaint, written_outcome};
-ghost use Rattle.object_writing.specs.Writes.{WritesFile, image_done};
+ghost use Rattle.object_writing.specs.Writes.{HasBegun, WritesFile, image_done};
 
 use crate::refusing::refuse_for;
 use command_outcomes::prelude::begin_image;
@@ -27,20 +27,21 @@ pub trait ImageCommand {
     fn name(&self) -> &'static str
         ensures { result.now ≡ named self.now };
 
-    /// Does what is stated with the object of the file `file`, of which nothing is dirty. It stops
-    /// by `Read` only where a read of the object's source failed.
+    /// Does what is stated with the object of the file `file`, over which a descriptor has begun,
+    /// and hands the source back. It stops by `Read` only where a read of the source failed.
     fn write<S: Source, F: Files, O: Sink, E: Sink>(
         &self,
         alloc: Global,
-        elf: &mut Elf<S>,
+        elf: Elf<S>,
         file: &[u8],
         files: &mut F,
         outputs: &mut Outputs<'_, O, E>,
-    ) -> Result<bool, Stop>
-        requires { is_dirty elf.old.o ≡ false }
+    ) -> (S, Result<bool, Stop>)
+        requires { HasBegun S.Source elf }
         ensures { WritesFile S.Source F.Files O.Sink E.Sink
-            (written_outcome (named self.now) (done self.now file.now elf.old.o))
-            result elf.old elf.new files.old files.new outputs.old outputs.new };
+            (written_outcome (named self.now) (done self.now file.now elf.o))
+            result.1 elf (record elf { source = result.0 }) files.old files.new
+            outputs.old outputs.new };
 }
 
 /// What such a command does with the file that it is given.
@@ -71,9 +72,10 @@ impl<T: ImageCommand> FileEdit for ImageEdit<'_, T> {
         outputs: &mut Outputs<'_, O, E>,
     ) -> (S, Result<bool, Stop>) {
         match begin_image(alloc, src) {
-            Ok(mut elf) => {
-                let written = self.command.write(alloc, &mut elf, name, files, outputs);
-                (elf.end(), written)
+            Ok(elf) => {
+                // What a descriptor always is, a call on it tells.
+                let _sound = elf.dirty();
+                self.command.write(alloc, elf, name, files, outputs)
             }
             Err((src, e)) => {
                 let refused = refuse_for(self.command.name(), name, e, outputs);

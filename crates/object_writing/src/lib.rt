@@ -1,6 +1,7 @@
 //! A command that makes an object of the image of an open file, and writes it to a new file, or says
-//! why it writes none. `write_object` does so with a descriptor; an `ImageCommand` is a command of
-//! that form, and `ImageEdit` is its `FileEdit`.
+//! why it writes none. `write_object` does so with a descriptor. An `ImageCommand` is a command of
+//! that form; `edit_named` opens the file for it, begins the image and closes the file, and says why
+//! it does not.
 #![tactic(auto)]
 
 pub mod edits;

@@ -1,4 +1,4 @@
 //! What `object_writing` passes on of the crates below it.
 
-pub use object_files::{FileEdit, edit_file, make_file};
+pub use object_files::make_file;
 pub use update_plan::prelude::Elf;

@@ -32,11 +32,13 @@ impl ImageCommand for RehashCommand<'_> {
     fn write<S: Source, F: Files, O: Sink, E: Sink>(
         &self,
         alloc: Global,
-        elf: &mut Elf<S>,
+        elf: Elf<S>,
         file: &[u8],
         files: &mut F,
         outputs: &mut Outputs<'_, O, E>,
-    ) -> Result<bool, Stop> {
-        write_rehashed(alloc, elf, file, self.out, files, outputs)
+    ) -> (S, Result<bool, Stop>) {
+        let mut elf = elf;
+        let written = write_rehashed(alloc, &mut elf, file, self.out, files, outputs);
+        (elf.end(), written)
     }
 }

@@ -11,7 +11,7 @@ ghost use Rattle.strip_tool.specs.Writes.{object_done};
 
 use crate::commands::StripCommand;
 use elf_outside::{Files, Sink};
-use object_writing::prelude::edit_file;
+use object_writing::edit_named;
 use std::alloc::Global;
 use tool_output::{Outputs, Stop};
 
@@ -36,5 +36,5 @@ pub fn strip_named<F: Files, O: Sink, E: Sink>(
     ensures leaves { LeavesFiles F.Files O.Sink E.Sink
         result files.old files.new outputs.old outputs.new }
 {
-    edit_file(alloc, command, file, files, outputs)
+    edit_named(alloc, command, file, files, outputs)
 }

@@ -12,7 +12,7 @@ ghost use Rattle.unstrip_tool.specs.Writes.{object_split};
 use crate::commands::SplitCommand;
 use elf_outside::{Files, Sink};
 use std::alloc::Global;
-use strip_tool::prelude::edit_file;
+use strip_tool::prelude::edit_named;
 use tool_output::{Outputs, Stop};
 
 /// Opens a file, does the command with its image and closes it; a name that is not there, and what
@@ -36,5 +36,5 @@ pub fn split_named<F: Files, O: Sink, E: Sink>(
     ensures leaves { LeavesFiles F.Files O.Sink E.Sink
         result files.old files.new outputs.old outputs.new }
 {
-    edit_file(alloc, command, file, files, outputs)
+    edit_named(alloc, command, file, files, outputs)
 }

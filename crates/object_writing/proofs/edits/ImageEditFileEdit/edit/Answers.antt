@@ -1,17 +1,21 @@
-use Rattle.update_plan.proofs.elf_descriptor.BeginAnswers.{begun_clean}
 use Rattle.object_writing.proofs.WriteLemmas.{edits_written, edits_refused}
 use Rattle.object_writing.proofs.edits.ImageEditFileEdit.edit.Goals as goal
 
-pub write-written-requires : goal.write-written-requires
-write-written-requires g c = begun_clean g.S.Source c.args.src c.in-Ok.elf c.in-Ok.ensures.begun
+pub write-requires : goal.write-requires
+write-requires g c = record {
+  source = c.args.src;
+  begun = c.in-Ok.ensures.begun;
+  sound = c.dirty-sound.ensures.sound;
+}
 
 pub returns-in-Ok : goal.returns-in-Ok
 returns-in-Ok g c =
-    rw c.end.ensures (edits_written g.S.Source g.F.Files g.O.Sink g.E.Sink
+    edits_written g.S.Source g.F.Files g.O.Sink g.E.Sink
     (g.T.ImageCommand.named c.args.self.now.command.now)
     (g.T.ImageCommand.done c.args.self.now.command.now) c.args.name.now _
-    c.args.src c.args.files.now _ c.args.outputs.now _ c.in-Ok.elf _ _
-    c.in-Ok.ensures.asks c.in-Ok.ensures.answer c.in-Ok.ensures.told c.write-written.ensures)
+    c.args.src c.args.files.now _ c.args.outputs.now _ c.in-Ok.elf
+    (record c.in-Ok.elf { source = c.write.result.0 }) _
+    c.in-Ok.ensures.asks c.in-Ok.ensures.answer c.in-Ok.ensures.told c.write.ensures
 
 pub returns-in-Err : goal.returns-in-Err
 returns-in-Err g c =
