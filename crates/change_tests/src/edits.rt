@@ -1,9 +1,9 @@
 //! Scripts whose image is written into the file.
 
 use crate::images::{ADDED, CUT, NARROW_ADDED, NARROW_FIVE, NARROW_GROWN, NARROW_OBJECT};
-use std::alloc::Global;
 use test_cases::{Bad, Case, FIVE, Found, GOOD, GROWN, Held, RUN, Stored, are_so, is_so};
 use test_images::{OBJECT, Put};
+use test_rows::in_row;
 use test_runs::{DONE, Ending, REFUSED};
 
 /// A file O.
@@ -143,9 +143,9 @@ pub fn written_rows() -> &'static [Row] {
 }
 
 /// Whether each run writes the image after it into the file.
-fn are_written(alloc: Global, rows: &[Row]) -> bool {
-    for row in rows {
-        if !is_so(alloc, &OTHER, &row.case) {
+fn are_written(rt: &HostRuntime, rows: &[Row]) -> bool {
+    for (n, row) in rows.iter().enumerate() {
+        if !in_row(rt, n, is_so(rt, &OTHER, &row.case)) {
             return false;
         }
     }
@@ -154,7 +154,7 @@ fn are_written(alloc: Global, rows: &[Row]) -> bool {
 
 #[test]
 fn the_image_that_the_calls_leave_stands_in_the_file(rt: HostRuntime) {
-    assert!(rt; are_written(rt.alloc(), written_rows()));
+    assert!(rt; are_written(&rt, written_rows()));
 }
 
 /// The script and the file O stay.
@@ -168,7 +168,7 @@ static BESIDE: Case = Case {
 
 #[test]
 fn no_other_file_changes(rt: HostRuntime) {
-    assert!(rt; is_so(rt.alloc(), &OTHER, &BESIDE));
+    assert!(rt; is_so(&rt, &OTHER, &BESIDE));
 }
 
 /// A run that leaves a file of which the first write would fail.
@@ -213,5 +213,5 @@ static UNCHANGED: [Case; 3] = [
 
 #[test]
 fn where_nothing_is_changed_nothing_is_written(rt: HostRuntime) {
-    assert!(rt; are_so(rt.alloc(), &OTHER, &UNCHANGED));
+    assert!(rt; are_so(&rt, &OTHER, &UNCHANGED));
 }

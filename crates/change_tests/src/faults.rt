@@ -1,8 +1,8 @@
 //! Calls of the outside that fail, one after the other.
 
 use crate::edits::{APPENDED, OTHER, Row, written_rows};
-use std::alloc::Global;
 use test_cases::{Bad, Call, Case, GOOD, Held, Outcome, State, are_so, fail_so, is_so};
+use test_rows::in_row;
 use test_runs::{DONE, Ending, Failing, NOTHING};
 use tool_output::Status;
 
@@ -19,10 +19,11 @@ fn torn(times: u64) -> Outcome {
 }
 
 /// Whether of the first sixteen writes of each row those fail so that it takes.
-fn tear(alloc: Global, rows: &[Row]) -> bool {
-    for row in rows {
+fn tear(rt: &HostRuntime, rows: &[Row]) -> bool {
+    for (n, row) in rows.iter().enumerate() {
         let outcomes = [torn(row.writes)];
-        if !fail_so(alloc, &OTHER, &row.case, &Call::Write("F"), 16, &outcomes) {
+        let so = fail_so(rt, &OTHER, &row.case, &Call::Write("F"), 16, &outcomes);
+        if !in_row(rt, n, so) {
             return false;
         }
     }
@@ -31,7 +32,7 @@ fn tear(alloc: Global, rows: &[Row]) -> bool {
 
 #[test]
 fn a_write_that_fails_leaves_each_byte_old_or_new(rt: HostRuntime) {
-    assert!(rt; tear(rt.alloc(), written_rows()));
+    assert!(rt; tear(&rt, written_rows()));
 }
 
 /// How many reads the front of an image takes: of the first eight bytes, of the ELF header, and of
@@ -51,10 +52,11 @@ fn unread(times: u64) -> Outcome {
 }
 
 /// Whether of the first sixteen reads of each row those fail so of the front and of the homes.
-fn leave_unread(alloc: Global, rows: &[Row]) -> bool {
-    for row in rows {
+fn leave_unread(rt: &HostRuntime, rows: &[Row]) -> bool {
+    for (n, row) in rows.iter().enumerate() {
         let outcomes = [unread(row.homes)];
-        if !fail_so(alloc, &OTHER, &row.case, &Call::Read("F"), 16, &outcomes) {
+        let so = fail_so(rt, &OTHER, &row.case, &Call::Read("F"), 16, &outcomes);
+        if !in_row(rt, n, so) {
             return false;
         }
     }
@@ -63,7 +65,7 @@ fn leave_unread(alloc: Global, rows: &[Row]) -> bool {
 
 #[test]
 fn a_read_that_fails_leaves_the_file(rt: HostRuntime) {
-    assert!(rt; leave_unread(rt.alloc(), written_rows()));
+    assert!(rt; leave_unread(&rt, written_rows()));
 }
 
 /// A run of which a call fails, which leaves the file as it was.
@@ -108,7 +110,7 @@ static FAULTS: [Case; 4] = [
 
 #[test]
 fn a_file_that_is_not_handed_out_or_a_put_that_fails_stops_the_run(rt: HostRuntime) {
-    assert!(rt; are_so(rt.alloc(), &OTHER, &FAULTS));
+    assert!(rt; are_so(&rt, &OTHER, &FAULTS));
 }
 
 /// How a run ends where a piece is appended and the first write fails: all that was said before
@@ -133,5 +135,5 @@ static FIRST_WRITE: Case = Case {
 
 #[test]
 fn a_write_that_fails_costs_nothing_of_what_was_said(rt: HostRuntime) {
-    assert!(rt; is_so(rt.alloc(), &OTHER, &FIRST_WRITE));
+    assert!(rt; is_so(&rt, &OTHER, &FIRST_WRITE));
 }

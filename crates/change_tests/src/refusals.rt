@@ -51,7 +51,7 @@ static UNWRITTEN: [Case; 4] = [
 
 #[test]
 fn a_refused_update_writes_nothing(rt: HostRuntime) {
-    assert!(rt; are_so(rt.alloc(), &OTHER, &UNWRITTEN));
+    assert!(rt; are_so(&rt, &OTHER, &UNWRITTEN));
 }
 
 /// The script is not there, or a line of it is no call; the file is not there, is no image, or is
@@ -119,7 +119,7 @@ static COMPLAINTS: [Case; 6] = [
 
 #[test]
 fn without_calls_or_an_image_the_file_stays(rt: HostRuntime) {
-    assert!(rt; are_so(rt.alloc(), &OTHER, &COMPLAINTS));
+    assert!(rt; are_so(&rt, &OTHER, &COMPLAINTS));
 }
 
 /// A script without calls has its message where the file would not be handed out: it is not opened.
@@ -136,7 +136,7 @@ static UNOPENED: Case = Case {
 
 #[test]
 fn a_script_without_calls_opens_no_file(rt: HostRuntime) {
-    assert!(rt; is_so(rt.alloc(), &OTHER, &UNOPENED));
+    assert!(rt; is_so(&rt, &OTHER, &UNOPENED));
 }
 
 /// A file that is not there stays away.
@@ -154,5 +154,5 @@ static AWAY: Case = Case {
 
 #[test]
 fn a_file_that_is_not_there_is_not_made(rt: HostRuntime) {
-    assert!(rt; is_so(rt.alloc(), &OTHER, &AWAY));
+    assert!(rt; is_so(&rt, &OTHER, &AWAY));
 }

@@ -11,6 +11,7 @@ use elf_outside::{Device, Source};
 use elf_types::{DIRTY, Ehdr, ElfError, LAYOUT, Part, ScnId, Shdr};
 use test_descriptors::{Work, are_done};
 use test_images::Image;
+use test_rows::same;
 use update_plan::{PlacedParts, place_parts};
 
 /// An edit of an object.
@@ -103,6 +104,7 @@ impl Work for Row {
 
     fn is_done<D: Device, F: Source>(
         &self,
+        rt: &HostRuntime,
         elf: &mut Elf<D>,
         _fresh: &mut Elf<F>,
         _image: &mut Image,
@@ -114,10 +116,10 @@ impl Work for Row {
         } else {
             (DIRTY, MOVED)
         };
-        let mut stated = elf.flag(Part::Object, true, bits) == Ok(bits);
-        stated &= differing(elf) == Ok(before);
-        stated &= make_edit(elf, self.edit) == Ok(());
-        stated && differing(elf) == Ok(self.differ)
+        let mut stated = same(rt, &elf.flag(Part::Object, true, bits), &Ok(bits));
+        stated &= same(rt, &differing(elf), &Ok(before));
+        stated &= same(rt, &make_edit(elf, self.edit), &Ok(()));
+        stated && same(rt, &differing(elf), &Ok(self.differ))
     }
 }
 
@@ -173,5 +175,5 @@ static ROWS: [Row; 9] = [
 
 #[test]
 fn parts_differ_by_what_was_edited(rt: HostRuntime) {
-    assert!(rt; are_done(rt.alloc(), &TWO_HOMES, &ROWS));
+    assert!(rt; are_done(&rt, &TWO_HOMES, &ROWS));
 }

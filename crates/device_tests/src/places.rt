@@ -9,6 +9,7 @@ use elf_types::{DIRTY, DataId, ElfError, LAYOUT, Part, ScnId};
 use elf_xlate::shdr_size;
 use test_descriptors::{Work, all_marks_agree, are_done};
 use test_images::Image;
+use test_rows::{same, same_bytes};
 use update_plan::place_parts;
 
 /// An object that is edited, and the places of its parts.
@@ -62,17 +63,17 @@ fn stored<S: Source>(elf: &Elf<S>) -> Result<Stored, ElfError> {
 }
 
 /// Whether the home of section 2 is held, and of section 1 what the row gave it.
-fn is_held<S: Source>(elf: &Elf<S>, row: &Row) -> bool {
+fn is_held<S: Source>(rt: &HostRuntime, elf: &Elf<S>, row: &Row) -> bool {
     let second = match elf.held(DataId {
         section: 2,
         piece: 0,
     }) {
-        Ok(Held::Raw(bytes)) => bytes == b"ijklmnop".as_slice(),
+        Ok(Held::Raw(bytes)) => same_bytes(rt, bytes, b"ijklmnop".as_slice()),
         _ => false,
     };
     match elf.held(FIRST) {
         Ok(Held::Unread) => second && row.len.is_none(),
-        Ok(Held::Edited(items)) => second && row.len == Some(items.count() as usize),
+        Ok(Held::Edited(items)) => second && same(rt, &row.len, &Some(items.count() as usize)),
         _ => false,
     }
 }
@@ -84,6 +85,7 @@ impl Work for Row {
 
     fn is_done<D: Device, F: Source>(
         &self,
+        rt: &HostRuntime,
         elf: &mut Elf<D>,
         fresh: &mut Elf<F>,
         _image: &mut Image,
@@ -94,12 +96,17 @@ impl Work for Row {
             3 * shdr_size(elf.ehdr().class) as u64,
             self.len.unwrap_or(8) as u64,
         );
-        let mut stated = edit(elf, self) == Ok(()) && edit(fresh, self) == Ok(());
-        stated &= store(elf) == Ok(self.at.2.saturating_add(table));
-        stated &= stored(elf) == Ok((self.at.0, self.at.1, self.at.2, size, 8));
-        stated &= stored(fresh) == Ok((64, 80, 96, 8, 8));
-        stated &= all_marks_agree(elf, fresh) && elf.base_len() == fresh.base_len();
-        stated && elf.home(ScnId(1)) == Ok((64, 8)) && is_held(elf, self)
+        let mut stated = same(rt, &edit(elf, self), &Ok(()))
+            && same(rt, &edit(fresh, self), &Ok(()));
+        stated &= same(rt, &store(elf), &Ok(self.at.2.saturating_add(table)));
+        stated &= same(
+            rt,
+            &stored(elf),
+            &Ok((self.at.0, self.at.1, self.at.2, size, 8)),
+        );
+        stated &= same(rt, &stored(fresh), &Ok((64, 80, 96, 8, 8)));
+        stated &= all_marks_agree(rt, elf, fresh) && same(rt, &elf.base_len(), &fresh.base_len());
+        stated && same(rt, &elf.home(ScnId(1)), &Ok((64, 8))) && is_held(rt, elf, self)
     }
 }
 
@@ -130,5 +137,5 @@ static ROWS: [Row; 4] = [
 
 #[test]
 fn places_are_stored_and_nothing_is_written(rt: HostRuntime) {
-    assert!(rt; are_done(rt.alloc(), &TWO_HOMES, &ROWS));
+    assert!(rt; are_done(&rt, &TWO_HOMES, &ROWS));
 }

@@ -10,6 +10,7 @@ use elf_outside::{Device, Source};
 use elf_types::{DIRTY, DataId, ElfError, Part, ScnId};
 use test_descriptors::{Bad, NONE, Work, all_agree, are_done};
 use test_images::Image;
+use test_rows::{holds, same};
 
 /// The bytes that are held of the home of section 1, if they are.
 fn is_held<S: Source>(elf: &Elf<S>) -> bool {
@@ -100,17 +101,19 @@ impl Work for Row {
 
     fn is_done<D: Device, F: Source>(
         &self,
+        rt: &HostRuntime,
         elf: &mut Elf<D>,
         fresh: &mut Elf<F>,
         _image: &mut Image,
     ) -> bool
         requires { length elf.old.room ≡ length elf.old.o.sections }
     {
-        let stated = read_by(elf, self.way) == self.end && is_held(elf) == (self.end == End::Read);
+        let stated = holds(rt, "the read ends so", read_by(elf, self.way) == self.end)
+            && same(rt, &is_held(elf), &(self.end == End::Read));
         if self.way == Way::Later && fresh.flag(Part::Object, true, DIRTY).is_err() {
             return false;
         }
-        stated && all_agree(elf, fresh)
+        stated && all_agree(rt, elf, fresh)
     }
 }
 
@@ -167,5 +170,5 @@ static ROWS: [Row; 6] = [
 
 #[test]
 fn a_home_is_read_into_the_memory_that_is_kept_aside(rt: HostRuntime) {
-    assert!(rt; are_done(rt.alloc(), &TWO_HOMES, &ROWS));
+    assert!(rt; are_done(&rt, &TWO_HOMES, &ROWS));
 }

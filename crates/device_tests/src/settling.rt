@@ -12,6 +12,7 @@ use elf_types::{DIRTY, DataId, Ehdr, ElfError, LAYOUT, Octets, Part, ScnId, Shdr
 use elf_xlate::Items;
 use test_descriptors::{Work, are_done, is_as_opened};
 use test_images::Image;
+use test_rows::{failed, same};
 
 /// An edit of an object whose homes are read and whose pieces are marked.
 #[derive(Clone, Copy)]
@@ -100,13 +101,13 @@ const SECOND: DataId = DataId {
 };
 
 /// Whether the bytes of section 2 are lent, and then they alone are marked.
-fn are_lent<S: Source>(elf: &mut Elf<S>) -> bool {
+fn are_lent<S: Source>(rt: &HostRuntime, elf: &mut Elf<S>) -> bool {
     let lent = match elf.bytes_mut(SECOND) {
-        Ok(bytes) => bytes.len() == 8 && bytes.push(7) == Ok(()),
-        Err(_) => false,
+        Ok(bytes) => same(rt, &bytes.len(), &8) && same(rt, &bytes.push(7), &Ok(())),
+        Err(e) => failed(rt, e),
     };
     let marks = (elf.flags(Part::Piece(2, 0)), elf.flags(Part::Piece(1, 0)));
-    lent && marks == (Ok(DIRTY), Ok(0)) && elf.flags(Part::Section(2)) == Ok(0)
+    lent && same(rt, &marks, &(Ok(DIRTY), Ok(0))) && same(rt, &elf.flags(Part::Section(2)), &Ok(0))
 }
 
 /// Edits of an object that is settled then.
@@ -118,19 +119,20 @@ impl Row {
     /// Whether a descriptor is settled over the image of another one, and answers as it should.
     fn is_settled<D: Device, F: Source>(
         &self,
+        rt: &HostRuntime,
         elf: &mut Elf<D>,
         fresh: &mut Elf<F>,
         image: &mut Image,
     ) -> bool {
         match tell_image(fresh, ROOM) {
             Ok(bytes) => {
-                let mut stated = settle_over(elf, bytes.as_slice()) == Ok(());
-                stated &= elf.base_len() == bytes.len();
-                stated &= is_as_opened(elf, bytes.as_slice()) && are_lent(elf);
+                let mut stated = same(rt, &settle_over(elf, bytes.as_slice()), &Ok(()));
+                stated &= same(rt, &elf.base_len(), &bytes.len());
+                stated &= is_as_opened(rt, elf, bytes.as_slice()) && are_lent(rt, elf);
                 image.bytes = bytes;
                 stated
             }
-            Err(_) => false,
+            Err(e) => failed(rt, e),
         }
     }
 }
@@ -138,14 +140,17 @@ impl Row {
 impl Work for Row {
     fn is_done<D: Device, F: Source>(
         &self,
+        rt: &HostRuntime,
         elf: &mut Elf<D>,
         fresh: &mut Elf<F>,
         image: &mut Image,
     ) -> bool
         requires { length elf.old.room ≡ length elf.old.o.sections }
     {
-        let edited = make_edits(elf, self.edits) == Ok(());
-        edited && make_edits(fresh, self.edits) == Ok(()) && self.is_settled(elf, fresh, image)
+        let edited = same(rt, &make_edits(elf, self.edits), &Ok(()));
+        edited
+            && same(rt, &make_edits(fresh, self.edits), &Ok(()))
+            && self.is_settled(rt, elf, fresh, image)
     }
 }
 
@@ -175,5 +180,5 @@ static ROWS: [Row; 7] = [
 
 #[test]
 fn a_settled_object_answers_as_one_that_is_opened_on_its_image(rt: HostRuntime) {
-    assert!(rt; are_done(rt.alloc(), &TWO_HOMES, &ROWS));
+    assert!(rt; are_done(&rt, &TWO_HOMES, &ROWS));
 }

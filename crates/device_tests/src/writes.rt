@@ -9,6 +9,7 @@ use elf_outside::{Device, Source};
 use elf_types::{DIRTY, DataId, ElfError, Part};
 use test_descriptors::{Bad, NONE, Work, all_but_bases_agree, are_done};
 use test_images::Image;
+use test_rows::same;
 
 /// A step over a device.
 #[derive(Clone, Copy)]
@@ -58,7 +59,7 @@ struct Row {
 }
 
 /// Whether each step is answered so, and the image has what those that ended have put.
-fn are_made<D: Device>(elf: &mut Elf<D>, image: &mut Image, row: &Row) -> bool {
+fn are_made<D: Device>(rt: &HostRuntime, elf: &mut Elf<D>, image: &mut Image, row: &Row) -> bool {
     for (step, told) in row.steps {
         if make(elf, *step) != *told {
             return false;
@@ -71,7 +72,7 @@ fn are_made<D: Device>(elf: &mut Elf<D>, image: &mut Image, row: &Row) -> bool {
 }
 
 /// Keeps those homes that the steps keep, of another descriptor.
-fn keep_alike<S: Source>(elf: &mut Elf<S>, row: &Row) -> bool {
+fn keep_alike<S: Source>(rt: &HostRuntime, elf: &mut Elf<S>, row: &Row) -> bool {
     for (step, _) in row.steps {
         if let Step::Keep(s) = step {
             if keep(elf, *s) != Ok(()) {
@@ -79,15 +80,20 @@ fn keep_alike<S: Source>(elf: &mut Elf<S>, row: &Row) -> bool {
             }
         }
     }
-    elf.flag(Part::Object, true, DIRTY) == Ok(DIRTY)
+    same(rt, &elf.flag(Part::Object, true, DIRTY), &Ok(DIRTY))
 }
 
 /// Whether two descriptors hold the same of a home.
-fn homes_agree<S: Source, F: Source>(a: &Elf<S>, b: &Elf<F>, section: u32) -> bool {
+fn homes_agree<S: Source, F: Source>(
+    rt: &HostRuntime,
+    a: &Elf<S>,
+    b: &Elf<F>,
+    section: u32,
+) -> bool {
     let d = DataId { section, piece: 0 };
     match (a.held(d), b.held(d)) {
         (Ok(Held::Unread), Ok(Held::Unread)) => true,
-        (Ok(Held::Raw(first)), Ok(Held::Raw(second))) => first == second,
+        (Ok(Held::Raw(first)), Ok(Held::Raw(second))) => same(rt, &first, &second),
         _ => false,
     }
 }
@@ -102,6 +108,7 @@ fn has_base<S: Source>(elf: &mut Elf<S>, bytes: &[u8]) -> Result<bool, ElfError>
 /// Whether a descriptor has these base bytes, so many, and else is as another one over the image
 /// that the device began with.
 fn is_left<S: Source, F: Source>(
+    rt: &HostRuntime,
     elf: &mut Elf<S>,
     fresh: &mut Elf<F>,
     image: &Image,
@@ -111,10 +118,10 @@ fn is_left<S: Source, F: Source>(
         Some(len) => len,
         None => fresh.base_len(),
     };
-    let mut stated = keep_alike(fresh, row) && all_but_bases_agree(elf, fresh);
-    stated &= homes_agree(elf, fresh, 1) && homes_agree(elf, fresh, 2);
-    stated &= elf.base_len() == base;
-    stated && has_base(elf, image.bytes.as_slice()) == Ok(true)
+    let mut stated = keep_alike(rt, fresh, row) && all_but_bases_agree(rt, elf, fresh);
+    stated &= homes_agree(rt, elf, fresh, 1) && homes_agree(rt, elf, fresh, 2);
+    stated &= same(rt, &elf.base_len(), &base);
+    stated && same(rt, &has_base(elf, image.bytes.as_slice()), &Ok(true))
 }
 
 impl Work for Row {
@@ -124,14 +131,15 @@ impl Work for Row {
 
     fn is_done<D: Device, F: Source>(
         &self,
+        rt: &HostRuntime,
         elf: &mut Elf<D>,
         fresh: &mut Elf<F>,
         image: &mut Image,
     ) -> bool
         requires { length elf.old.room ≡ length elf.old.o.sections }
     {
-        let marked = elf.flag(Part::Object, true, DIRTY) == Ok(DIRTY);
-        marked && are_made(elf, image, self) && is_left(elf, fresh, image, self)
+        let marked = same(rt, &elf.flag(Part::Object, true, DIRTY), &Ok(DIRTY));
+        marked && are_made(rt, elf, image, self) && is_left(rt, elf, fresh, image, self)
     }
 }
 
@@ -179,7 +187,7 @@ static WRITES: [Row; 3] = [
 
 #[test]
 fn bytes_are_written_at_their_place_and_nothing_else(rt: HostRuntime) {
-    assert!(rt; are_done(rt.alloc(), &TWO_HOMES, &WRITES));
+    assert!(rt; are_done(&rt, &TWO_HOMES, &WRITES));
 }
 
 /// Devices that get longer and shorter.
@@ -232,5 +240,5 @@ static LENGTHS: [Row; 5] = [
 
 #[test]
 fn a_device_gets_its_length(rt: HostRuntime) {
-    assert!(rt; are_done(rt.alloc(), &TWO_HOMES, &LENGTHS));
+    assert!(rt; are_done(&rt, &TWO_HOMES, &LENGTHS));
 }

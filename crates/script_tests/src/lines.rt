@@ -1,6 +1,6 @@
 //! What each line of a script says.
 
-use crate::rows::{first_changed, first_lost};
+use crate::rows::{are_changed, are_shown};
 use std::test::*;
 
 /// A line of each call but `set` and `flag`.
@@ -26,10 +26,8 @@ const CALLS: [&str; 18] = [
 ];
 
 #[test]
-fn each_kind_of_line_is_read(rt: HostRuntime) -> Result<(), Fail> {
-    let wrong = first_lost(rt.alloc(), &CALLS)?;
-    assert_eq!(rt; wrong, None);
-    Ok(())
+fn each_kind_of_line_is_read(rt: HostRuntime) {
+    assert!(rt; are_shown(&rt, &CALLS));
 }
 
 /// A line of `flag` for each part.
@@ -42,10 +40,8 @@ const FLAGS: [&str; 5] = [
 ];
 
 #[test]
-fn each_part_has_flags(rt: HostRuntime) -> Result<(), Fail> {
-    let wrong = first_lost(rt.alloc(), &FLAGS)?;
-    assert_eq!(rt; wrong, None);
-    Ok(())
+fn each_part_has_flags(rt: HostRuntime) {
+    assert!(rt; are_shown(&rt, &FLAGS));
 }
 
 /// Each field of the ELF header and of a program header.
@@ -70,10 +66,8 @@ const HEADER_FIELDS: [&str; 17] = [
 ];
 
 #[test]
-fn each_field_of_a_header_is_set(rt: HostRuntime) -> Result<(), Fail> {
-    let wrong = first_lost(rt.alloc(), &HEADER_FIELDS)?;
-    assert_eq!(rt; wrong, None);
-    Ok(())
+fn each_field_of_a_header_is_set(rt: HostRuntime) {
+    assert!(rt; are_shown(&rt, &HEADER_FIELDS));
 }
 
 /// Each field of a section header.
@@ -91,10 +85,8 @@ const SECTION_FIELDS: [&str; 10] = [
 ];
 
 #[test]
-fn each_field_of_a_section_header_is_set(rt: HostRuntime) -> Result<(), Fail> {
-    let wrong = first_lost(rt.alloc(), &SECTION_FIELDS)?;
-    assert_eq!(rt; wrong, None);
-    Ok(())
+fn each_field_of_a_section_header_is_set(rt: HostRuntime) {
+    assert!(rt; are_shown(&rt, &SECTION_FIELDS));
 }
 
 /// Each field of an item of each kind.
@@ -120,10 +112,8 @@ const ITEM_FIELDS: [&str; 18] = [
 ];
 
 #[test]
-fn each_field_of_an_item_is_set(rt: HostRuntime) -> Result<(), Fail> {
-    let wrong = first_lost(rt.alloc(), &ITEM_FIELDS)?;
-    assert_eq!(rt; wrong, None);
-    Ok(())
+fn each_field_of_an_item_is_set(rt: HostRuntime) {
+    assert!(rt; are_shown(&rt, &ITEM_FIELDS));
 }
 
 /// Numbers and bytes in several forms, and their calls.
@@ -146,10 +136,8 @@ const NUMBERS: [(&str, &str); 6] = [
 ];
 
 #[test]
-fn numbers_have_several_forms(rt: HostRuntime) -> Result<(), Fail> {
-    let wrong = first_changed(rt.alloc(), &NUMBERS)?;
-    assert_eq!(rt; wrong, None);
-    Ok(())
+fn numbers_have_several_forms(rt: HostRuntime) {
+    assert!(rt; are_changed(&rt, &NUMBERS));
 }
 
 /// Scripts with lines that are passed over, and with names, and their calls.
@@ -163,8 +151,6 @@ const LINES: [(&str, &str); 6] = [
 ];
 
 #[test]
-fn lines_end_at_newlines_and_names_at_lines(rt: HostRuntime) -> Result<(), Fail> {
-    let wrong = first_changed(rt.alloc(), &LINES)?;
-    assert_eq!(rt; wrong, None);
-    Ok(())
+fn lines_end_at_newlines_and_names_at_lines(rt: HostRuntime) {
+    assert!(rt; are_changed(&rt, &LINES));
 }

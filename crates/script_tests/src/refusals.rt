@@ -1,6 +1,6 @@
 //! Why lines of a script are refused, and which of several causes counts.
 
-use crate::rows::{calls_in_comment, fault_of, fault_of_comment, first_accepted, first_misread};
+use crate::rows::{are_refused, are_refused_at, calls_in_comment, fault_of, fault_of_comment};
 use calls_script::{MAX_SCRIPT, Why};
 use std::test::*;
 
@@ -11,12 +11,10 @@ const NO_CALLS: [&str; 13] = [
 ];
 
 #[test]
-fn first_words_that_are_no_call_are_refused(rt: HostRuntime) -> Result<(), Fail> {
-    let wrong = first_accepted(rt.alloc(), Why::BadCall, &NO_CALLS);
-    assert_eq!(rt; wrong, None);
+fn first_words_that_are_no_call_are_refused(rt: HostRuntime) {
+    assert!(rt; are_refused(&rt, Why::BadCall, &NO_CALLS));
     let found = fault_of(rt.alloc(), b"\xff\xfe 1");
     assert_eq!(rt; found, Some((1, Why::BadCall)));
-    Ok(())
 }
 
 /// Lines of each call with another number of words.
@@ -62,10 +60,8 @@ const OTHER_COUNTS: [&str; 38] = [
 ];
 
 #[test]
-fn other_numbers_of_words_are_refused(rt: HostRuntime) -> Result<(), Fail> {
-    let wrong = first_accepted(rt.alloc(), Why::BadWords, &OTHER_COUNTS);
-    assert_eq!(rt; wrong, None);
-    Ok(())
+fn other_numbers_of_words_are_refused(rt: HostRuntime) {
+    assert!(rt; are_refused(&rt, Why::BadWords, &OTHER_COUNTS));
 }
 
 /// Lines of `set` and `flag` with other words.
@@ -99,10 +95,8 @@ const OTHER_WORDS: [&str; 26] = [
 ];
 
 #[test]
-fn other_words_of_set_and_flag_are_refused(rt: HostRuntime) -> Result<(), Fail> {
-    let wrong = first_accepted(rt.alloc(), Why::BadWords, &OTHER_WORDS);
-    assert_eq!(rt; wrong, None);
-    Ok(())
+fn other_words_of_set_and_flag_are_refused(rt: HostRuntime) {
+    assert!(rt; are_refused(&rt, Why::BadWords, &OTHER_WORDS));
 }
 
 /// Lines with words that have not the form of a number or of bytes.
@@ -134,10 +128,8 @@ const OTHER_FORMS: [&str; 24] = [
 ];
 
 #[test]
-fn other_forms_of_numbers_are_refused(rt: HostRuntime) -> Result<(), Fail> {
-    let wrong = first_accepted(rt.alloc(), Why::BadWords, &OTHER_FORMS);
-    assert_eq!(rt; wrong, None);
-    Ok(())
+fn other_forms_of_numbers_are_refused(rt: HostRuntime) {
+    assert!(rt; are_refused(&rt, Why::BadWords, &OTHER_FORMS));
 }
 
 /// Lines of each call with a number past its range.
@@ -165,10 +157,8 @@ const PAST_RANGE: [&str; 20] = [
 ];
 
 #[test]
-fn numbers_past_their_range_are_refused(rt: HostRuntime) -> Result<(), Fail> {
-    let wrong = first_accepted(rt.alloc(), Why::BadNumber, &PAST_RANGE);
-    assert_eq!(rt; wrong, None);
-    Ok(())
+fn numbers_past_their_range_are_refused(rt: HostRuntime) {
+    assert!(rt; are_refused(&rt, Why::BadNumber, &PAST_RANGE));
 }
 
 /// Lines of `set` with a number that is too great for its field.
@@ -196,10 +186,8 @@ const PAST_FIELD: [&str; 20] = [
 ];
 
 #[test]
-fn numbers_too_great_for_their_field_are_refused(rt: HostRuntime) -> Result<(), Fail> {
-    let wrong = first_accepted(rt.alloc(), Why::BadNumber, &PAST_FIELD);
-    assert_eq!(rt; wrong, None);
-    Ok(())
+fn numbers_too_great_for_their_field_are_refused(rt: HostRuntime) {
+    assert!(rt; are_refused(&rt, Why::BadNumber, &PAST_FIELD));
 }
 
 /// Scripts with several faults, and the one that counts.
@@ -222,10 +210,8 @@ const FIRST_CAUSES: [(&str, u32, Why); 15] = [
 ];
 
 #[test]
-fn the_first_cause_of_the_first_bad_line_counts(rt: HostRuntime) -> Result<(), Fail> {
-    let wrong = first_misread(rt.alloc(), &FIRST_CAUSES);
-    assert_eq!(rt; wrong, None);
-    Ok(())
+fn the_first_cause_of_the_first_bad_line_counts(rt: HostRuntime) {
+    assert!(rt; are_refused_at(&rt, &FIRST_CAUSES));
 }
 
 #[test]

@@ -4,6 +4,7 @@ use crate::shown::put_call;
 use calls_script::{ScriptFault, Why, read_script};
 use elf_types::{ElfError, Octets};
 use std::alloc::Global;
+use test_rows::{failed, in_row, same, same_bytes, within};
 
 /// The line and the cause for which a script is refused.
 pub fn fault_of(alloc: Global, script: &[u8]) -> Option<(u32, Why)> {
@@ -25,52 +26,58 @@ fn shown(alloc: Global, script: &[u8]) -> Result<Octets, ElfError> {
 }
 
 /// Whether the calls of a script, as lines again, are these.
-fn is_shown(alloc: Global, script: &str, wanted: &str) -> Result<bool, ElfError> {
-    let text = shown(alloc, script.as_bytes())?;
-    Ok(text.as_slice() == wanted.as_bytes())
+fn is_shown(rt: &HostRuntime, script: &str, wanted: &str) -> bool {
+    let so = match shown(rt.alloc(), script.as_bytes()) {
+        Ok(text) => same_bytes(rt, text.as_slice(), wanted.as_bytes()),
+        Err(e) => failed(rt, e),
+    };
+    within(rt, &script, so)
 }
 
-/// The first script that is not shown as the second text of its row.
-pub fn first_changed(
-    alloc: Global,
-    rows: &[(&'static str, &'static str)],
-) -> Result<Option<&'static str>, ElfError> {
-    for (script, wanted) in rows {
-        if !is_shown(alloc, script, wanted)? {
-            return Ok(Some(*script));
+/// Whether each script is shown as the second text of its row.
+pub fn are_changed(rt: &HostRuntime, rows: &[(&'static str, &'static str)]) -> bool {
+    for (n, (script, wanted)) in rows.iter().enumerate() {
+        if !in_row(rt, n, is_shown(rt, script, wanted)) {
+            return false;
         }
     }
-    Ok(None)
+    true
 }
 
-/// The first line that is not shown as it stands.
-pub fn first_lost(alloc: Global, lines: &[&'static str]) -> Result<Option<&'static str>, ElfError> {
-    for line in lines {
-        if !is_shown(alloc, line, line)? {
-            return Ok(Some(*line));
+/// Whether each line is shown as it stands.
+pub fn are_shown(rt: &HostRuntime, lines: &[&'static str]) -> bool {
+    for (n, line) in lines.iter().enumerate() {
+        if !in_row(rt, n, is_shown(rt, line, line)) {
+            return false;
         }
     }
-    Ok(None)
+    true
 }
 
-/// The first of these lines that is not refused for one cause, as line 1.
-pub fn first_accepted(alloc: Global, why: Why, lines: &[&'static str]) -> Option<&'static str> {
-    for line in lines {
-        if fault_of(alloc, line.as_bytes()) != Some((1, why)) {
-            return Some(*line);
-        }
-    }
-    None
+/// Whether the first bad line of a script has this number and this cause.
+fn is_refused(rt: &HostRuntime, script: &str, line: u32, why: Why) -> bool {
+    let fault = fault_of(rt.alloc(), script.as_bytes());
+    within(rt, &script, same(rt, &fault, &Some((line, why))))
 }
 
-/// The first script whose first bad line has not that number and cause.
-pub fn first_misread(alloc: Global, rows: &[(&'static str, u32, Why)]) -> Option<&'static str> {
-    for (script, line, why) in rows {
-        if fault_of(alloc, script.as_bytes()) != Some((*line, *why)) {
-            return Some(*script);
+/// Whether each of these lines is refused for one cause, as line 1.
+pub fn are_refused(rt: &HostRuntime, why: Why, lines: &[&'static str]) -> bool {
+    for (n, line) in lines.iter().enumerate() {
+        if !in_row(rt, n, is_refused(rt, line, 1, why)) {
+            return false;
         }
     }
-    None
+    true
+}
+
+/// Whether the first bad line of each script has the number and the cause of its row.
+pub fn are_refused_at(rt: &HostRuntime, rows: &[(&'static str, u32, Why)]) -> bool {
+    for (n, (script, line, why)) in rows.iter().enumerate() {
+        if !in_row(rt, n, is_refused(rt, script, *line, *why)) {
+            return false;
+        }
+    }
+    true
 }
 
 /// A comment of so many bytes.

@@ -3,7 +3,7 @@
 use crate::cases::{Case, Held, is_as_before, is_held, is_so_over, setting_of};
 use crate::files::{Bad, Found, GOOD, Setting, Stored, bytes_of};
 use elf_types::Octets;
-use test_rows::{failed, in_row, other, within};
+use test_rows::{failed, other, within};
 use test_runs::run_leaving;
 use tool_output::Status;
 
@@ -264,7 +264,7 @@ pub fn fail_so<'x>(
         if count < outcome.least || count > outcome.most {
             let some = (outcome.status, outcome.least, outcome.most);
             let so = other(rt, &count, "as many runs as the outcome tells");
-            return in_row(rt, row, within(rt, &some, so));
+            return within(rt, &("outcome", row), within(rt, &some, so));
         }
     }
     are_told(rt, beside, case, call, calls, outcomes)

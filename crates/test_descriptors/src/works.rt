@@ -8,6 +8,7 @@ use elf_types::{Addrs, Class, Ehdr, ElfError, Octets};
 use elf_xlate::{ehdr_size, phdr_size, shdr_size};
 use std::alloc::Global;
 use test_images::{FORMS, Form, Image, Recipe, image_in};
+use test_rows::{failed, in_row, same, same_bytes, within};
 use test_sources::{Hidden, source};
 
 /// The calls of a device that fail, by their numbers from 1; none where there is a 0.
@@ -50,6 +51,7 @@ pub trait Work {
     /// device had. The image has these bytes, and becomes those that the device is to have.
     fn is_done<D: Device, F: Source>(
         &self,
+        rt: &HostRuntime,
         elf: &mut Elf<D>,
         fresh: &mut Elf<F>,
         image: &mut Image,
@@ -58,8 +60,8 @@ pub trait Work {
 
     /// Whether the device may hold these bytes afterwards, where it had the old ones and is to have
     /// the new ones: it holds the new ones, where nothing else is said.
-    fn may_leave(&self, held: &[u8], _old: &[u8], new: &[u8]) -> bool {
-        held == new
+    fn may_leave(&self, rt: &HostRuntime, held: &[u8], _old: &[u8], new: &[u8]) -> bool {
+        same_bytes(rt, held, new)
     }
 }
 
@@ -94,116 +96,126 @@ fn device(alloc: Global, bytes: &[u8], room: u64, bad: Bad) -> Result<MemDevice,
 /// back.
 #[tactic(auto, using(crate::proofs::Begun::begun_rooms))]
 fn done_beside<W: Work, D: Device, F: Source>(
-    alloc: Global,
+    rt: &HostRuntime,
     work: &W,
     device: D,
     fresh: &mut Elf<F>,
     image: &mut Image,
 ) -> (D, bool) {
-    match Elf::begin(alloc, device) {
+    match Elf::begin(rt.alloc(), device) {
         Ok(mut elf) => {
-            let done = work.is_done(&mut elf, fresh, image);
+            let done = work.is_done(rt, &mut elf, fresh, image);
             (elf.end(), done)
         }
-        Err((device, _)) => (device, false),
+        Err((device, e)) => (device, failed(rt, e)),
     }
 }
 
 /// A source of the bytes of an image.
-fn source_of(alloc: Global, image: &Image) -> Option<MemSource> {
-    let Ok(bytes) = Octets::from_slice(alloc, image.bytes.as_slice()) else {
-        return None;
-    };
-    match source(alloc, bytes, 0) {
-        Ok(src) => Some(src),
-        Err(_) => None,
+fn source_of(alloc: Global, image: &Image) -> Result<MemSource, ElfError> {
+    match Octets::from_slice(alloc, image.bytes.as_slice()) {
+        Ok(bytes) => source(alloc, bytes, 0),
+        Err(e) => Err(e),
     }
 }
 
 /// Whether work is done over a device that has the bytes of an image, beside a descriptor over a
 /// source of them; the device comes back.
 pub fn done_over<W: Work, D: Device>(
-    alloc: Global,
+    rt: &HostRuntime,
     work: &W,
     device: D,
     image: &mut Image,
 ) -> (D, bool) {
-    let Some(other) = source_of(alloc, image) else {
-        return (device, false);
+    let other = match source_of(rt.alloc(), image) {
+        Ok(other) => other,
+        Err(e) => return (device, failed(rt, e)),
     };
-    match Elf::begin(alloc, other) {
-        Ok(mut fresh) => done_beside(alloc, work, device, &mut fresh, image),
-        Err(_) => (device, false),
+    match Elf::begin(rt.alloc(), other) {
+        Ok(mut fresh) => done_beside(rt, work, device, &mut fresh, image),
+        Err((_other, e)) => (device, failed(rt, e)),
     }
 }
 
 /// The same, over a device that tells its bytes or does not.
 fn done_with<W: Work>(
-    alloc: Global,
+    rt: &HostRuntime,
     work: &W,
     hidden: bool,
     device: MemDevice,
     image: &mut Image,
 ) -> (MemDevice, bool) {
     if hidden {
-        let (device, done) = done_over(alloc, work, Hidden::new(device), image);
+        let (device, done) = done_over(rt, work, Hidden::new(device), image);
         return (device.into_inner(), done);
     }
-    done_over(alloc, work, device, image)
+    done_over(rt, work, device, image)
 }
 
 /// Whether a device was asked for so many bytes as work says, and holds what it may leave.
-fn is_left<W: Work>(work: &W, device: MemDevice, old: &[u8], image: &Image) -> bool {
+fn is_left<W: Work>(
+    rt: &HostRuntime,
+    work: &W,
+    device: MemDevice,
+    old: &[u8],
+    image: &Image,
+) -> bool {
     let stated = match work.asked() {
-        Some(n) => device.asked() == front_of(&image.header).saturating_add(n),
+        Some(n) => same(
+            rt,
+            &device.asked(),
+            &front_of(&image.header).saturating_add(n),
+        ),
         None => true,
     };
     let held = device.into_bytes();
-    stated && work.may_leave(held.as_slice(), old, image.bytes.as_slice())
+    stated && work.may_leave(rt, held.as_slice(), old, image.bytes.as_slice())
 }
 
 /// Whether work is done over a device that has the bytes of an image, and leaves it what it may.
 fn is_done_over<W: Work>(
-    alloc: Global,
+    rt: &HostRuntime,
     work: &W,
     hidden: bool,
     device: MemDevice,
     image: &mut Image,
 ) -> bool {
-    let Ok(old) = Octets::from_slice(alloc, image.bytes.as_slice()) else {
-        return false;
+    let old = match Octets::from_slice(rt.alloc(), image.bytes.as_slice()) {
+        Ok(old) => old,
+        Err(e) => return failed(rt, e),
     };
-    let (device, done) = done_with(alloc, work, hidden, device, image);
-    let left = is_left(work, device, old.as_slice(), image);
+    let (device, done) = done_with(rt, work, hidden, device, image);
+    let left = is_left(rt, work, device, old.as_slice(), image);
     done && left
 }
 
 /// Whether work is done in a form, over a device that tells its bytes or does not.
 pub fn is_done_by<W: Work>(
-    alloc: Global,
+    rt: &HostRuntime,
     setting: &Setting,
     form: Form,
     work: &W,
     hidden: bool,
 ) -> bool {
-    let Ok(mut image) = image_in(alloc, form, &setting.recipe) else {
-        return false;
+    let mut image = match image_in(rt.alloc(), form, &setting.recipe) {
+        Ok(image) => image,
+        Err(e) => return failed(rt, e),
     };
-    match device(alloc, image.bytes.as_slice(), setting.room, work.bad()) {
-        Ok(device) => is_done_over(alloc, work, hidden, device, &mut image),
-        Err(_) => false,
+    match device(rt.alloc(), image.bytes.as_slice(), setting.room, work.bad()) {
+        Ok(device) => is_done_over(rt, work, hidden, device, &mut image),
+        Err(e) => failed(rt, e),
     }
 }
 
 /// Whether work is done in a form, over a device that tells its bytes and over one that does not.
-pub fn is_done_in<W: Work>(alloc: Global, setting: &Setting, form: Form, work: &W) -> bool {
-    is_done_by(alloc, setting, form, work, false) && is_done_by(alloc, setting, form, work, true)
+pub fn is_done_in<W: Work>(rt: &HostRuntime, setting: &Setting, form: Form, work: &W) -> bool {
+    is_done_by(rt, setting, form, work, false) && is_done_by(rt, setting, form, work, true)
 }
 
 /// Whether it is in all forms.
-pub fn is_done<W: Work>(alloc: Global, setting: &Setting, work: &W) -> bool {
+pub fn is_done<W: Work>(rt: &HostRuntime, setting: &Setting, work: &W) -> bool {
     for form in FORMS.iter() {
-        if !is_done_in(alloc, setting, *form, work) {
+        if !within(rt, form, is_done_in(rt, setting, *form, work)) {
             return false;
         }
     }
@@ -211,9 +223,9 @@ pub fn is_done<W: Work>(alloc: Global, setting: &Setting, work: &W) -> bool {
 }
 
 /// Whether each work is done in all forms.
-pub fn are_done<W: Work>(alloc: Global, setting: &Setting, works: &[W]) -> bool {
-    for work in works {
-        if !is_done(alloc, setting, work) {
+pub fn are_done<W: Work>(rt: &HostRuntime, setting: &Setting, works: &[W]) -> bool {
+    for (n, work) in works.iter().enumerate() {
+        if !in_row(rt, n, is_done(rt, setting, work)) {
             return false;
         }
     }

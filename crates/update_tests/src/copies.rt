@@ -8,6 +8,7 @@ use elf_types::{Class, DIRTY, DataId, ElfError, LAYOUT, Octets, Order, Part, Scn
 use elf_xlate::Items;
 use std::alloc::Global;
 use test_images::{FORMS, Form, Image, OBJECT, Recipe, Start, image_in};
+use test_rows::{failed, in_row, other, same, within};
 use test_sources::{Sparse, source};
 
 /// Five sections one behind the other.
@@ -61,30 +62,32 @@ fn is_made<S: Source>(elf: &mut Elf<S>, how: Edit) -> bool {
 }
 
 /// Whether an object that is edited is written twice as these bytes.
-fn is_written_by<S: Source + Drop>(alloc: Global, src: S, how: Edit, bytes: &[u8]) -> bool {
-    match Elf::begin(alloc, src) {
-        Ok(mut elf) => { is_made(&mut elf, how) && puts(&mut elf, bytes) && puts(&mut elf, bytes) }
-        Err(_) => false,
+fn is_written_by<S: Source + Drop>(rt: &HostRuntime, src: S, how: Edit, bytes: &[u8]) -> bool {
+    match Elf::begin(rt.alloc(), src) {
+        Ok(mut elf) => {
+            is_made(&mut elf, how) && puts(rt, &mut elf, bytes) && puts(rt, &mut elf, bytes)
+        }
+        Err((_src, e)) => failed(rt, e),
     }
 }
 
 /// Whether an object of these bytes is, over a source that tells them and over one that does not.
-fn is_written_of(alloc: Global, bytes: Octets, how: Edit, expected: &[u8]) -> bool {
-    match Octets::from_slice(alloc, bytes.as_slice()) {
+fn is_written_of(rt: &HostRuntime, bytes: Octets, how: Edit, expected: &[u8]) -> bool {
+    match Octets::from_slice(rt.alloc(), bytes.as_slice()) {
         Ok(copy) => {
             let len = copy.len();
-            is_written_told(alloc, bytes, how, expected)
-                && is_written_by(alloc, Sparse::new(copy, len), how, expected)
+            is_written_told(rt, bytes, how, expected)
+                && is_written_by(rt, Sparse::new(copy, len), how, expected)
         }
-        Err(_) => false,
+        Err(e) => failed(rt, e),
     }
 }
 
 /// Whether it is over one that tells them.
-fn is_written_told(alloc: Global, bytes: Octets, how: Edit, expected: &[u8]) -> bool {
-    match source(alloc, bytes, 0) {
-        Ok(src) => is_written_by(alloc, src, how, expected),
-        Err(_) => false,
+fn is_written_told(rt: &HostRuntime, bytes: Octets, how: Edit, expected: &[u8]) -> bool {
+    match source(rt.alloc(), bytes, 0) {
+        Ok(src) => is_written_by(rt, src, how, expected),
+        Err(e) => failed(rt, e),
     }
 }
 
@@ -102,25 +105,25 @@ fn expect(image: &mut Image, how: Edit) -> Result<(), ElfError> {
 
 /// Whether an object of these bytes is written as the image that it is of, once that has what the
 /// edit leaves.
-fn is_written_as(alloc: Global, bytes: Octets, how: Edit, image: &mut Image) -> bool {
-    expect(image, how).is_ok() && is_written_of(alloc, bytes, how, image.bytes.as_slice())
+fn is_written_as(rt: &HostRuntime, bytes: Octets, how: Edit, image: &mut Image) -> bool {
+    same(rt, &expect(image, how), &Ok(())) && is_written_of(rt, bytes, how, image.bytes.as_slice())
 }
 
 /// Whether an image is written so in a form, over sources that tell their bytes and that do not.
-fn is_written_in(alloc: Global, form: Form, recipe: &Recipe, how: Edit) -> bool {
-    match image_in(alloc, form, recipe) {
-        Ok(mut image) => match Octets::from_slice(alloc, image.bytes.as_slice()) {
-            Ok(bytes) => is_written_as(alloc, bytes, how, &mut image),
-            Err(_) => false,
+fn is_written_in(rt: &HostRuntime, form: Form, recipe: &Recipe, how: Edit) -> bool {
+    match image_in(rt.alloc(), form, recipe) {
+        Ok(mut image) => match Octets::from_slice(rt.alloc(), image.bytes.as_slice()) {
+            Ok(bytes) => is_written_as(rt, bytes, how, &mut image),
+            Err(e) => failed(rt, e),
         },
-        Err(_) => false,
+        Err(e) => failed(rt, e),
     }
 }
 
 /// Whether it is in all forms.
-fn is_written(alloc: Global, recipe: &Recipe, how: Edit) -> bool {
+fn is_written(rt: &HostRuntime, recipe: &Recipe, how: Edit) -> bool {
     for form in FORMS.iter() {
-        if !is_written_in(alloc, *form, recipe, how) {
+        if !within(rt, form, is_written_in(rt, *form, recipe, how)) {
             return false;
         }
     }
@@ -128,9 +131,9 @@ fn is_written(alloc: Global, recipe: &Recipe, how: Edit) -> bool {
 }
 
 /// Whether images are written so.
-fn are_written(alloc: Global, rows: &[(Recipe, Edit)]) -> bool {
-    for (recipe, how) in rows {
-        if !is_written(alloc, recipe, *how) {
+fn are_written(rt: &HostRuntime, rows: &[(Recipe, Edit)]) -> bool {
+    for (n, (recipe, how)) in rows.iter().enumerate() {
+        if !in_row(rt, n, is_written(rt, recipe, *how)) {
             return false;
         }
     }
@@ -142,7 +145,7 @@ static COPIED: [(Recipe, Edit); 2] = [(OBJECT, Edit::Nothing), (FIVE, Edit::Noth
 
 #[test]
 fn an_object_that_is_not_edited_is_copied(rt: HostRuntime) {
-    assert!(rt; are_written(rt.alloc(), &COPIED));
+    assert!(rt; are_written(&rt, &COPIED));
 }
 
 /// Objects that are marked.
@@ -155,7 +158,7 @@ static MARKED: [(Recipe, Edit); 4] = [
 
 #[test]
 fn a_marked_object_is_written_again(rt: HostRuntime) {
-    assert!(rt; are_written(rt.alloc(), &MARKED));
+    assert!(rt; are_written(&rt, &MARKED));
 }
 
 /// One that is edited.
@@ -163,7 +166,7 @@ static EDITED: [(Recipe, Edit); 1] = [(FIVE, Edit::Replace)];
 
 #[test]
 fn an_edit_stands_in_the_image(rt: HostRuntime) {
-    assert!(rt; are_written(rt.alloc(), &EDITED));
+    assert!(rt; are_written(&rt, &EDITED));
 }
 
 /// A source of the same bytes.
@@ -175,22 +178,22 @@ fn source_of(alloc: Global, image: &Octets) -> Result<MemSource, ElfError> {
 }
 
 /// Whether an image, opened and marked, is written as it was.
-fn is_written_again(alloc: Global, image: &Octets) -> bool {
-    match source_of(alloc, image) {
-        Ok(src) => is_written_by(alloc, src, Edit::Mark, image.as_slice()),
-        Err(_) => false,
+fn is_written_again(rt: &HostRuntime, image: &Octets) -> bool {
+    match source_of(rt.alloc(), image) {
+        Ok(src) => is_written_by(rt, src, Edit::Mark, image.as_slice()),
+        Err(e) => failed(rt, e),
     }
 }
 
 /// Whether that of many sections is.
-fn are_written_again(alloc: Global) -> bool {
-    match image_of_made(alloc, Made::ManySections) {
-        Some(image) => is_written_again(alloc, &image),
-        None => false,
+fn are_written_again(rt: &HostRuntime) -> bool {
+    match image_of_made(rt.alloc(), Made::ManySections) {
+        Some(image) => is_written_again(rt, &image),
+        None => other(rt, &"no image", "one of many sections"),
     }
 }
 
 #[test]
 fn more_sections_than_a_header_counts_are_opened_and_written_again(rt: HostRuntime) {
-    assert!(rt; are_written_again(rt.alloc()));
+    assert!(rt; are_written_again(&rt));
 }

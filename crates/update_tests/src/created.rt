@@ -9,6 +9,7 @@ use elf_types::{Class, Ehdr, ElfError, LAYOUT, NULL_SECTION, Octets, Order, Part
 use elf_update::update_null;
 use elf_xlate::Items;
 use std::alloc::Global;
+use test_rows::{failed, other, same};
 
 /// An object that is made.
 #[derive(Clone, Copy)]
@@ -128,10 +129,10 @@ pub enum Asked {
 }
 
 /// Whether an image has these two sections.
-fn has_two_sections(image: &Octets) -> bool {
-    image.len() == 192
-        && stands(image, 52, &[170; 12])
-        && stands(image, 64, &[1, 2, 3, 170, 4, 170, 170, 170, 0])
+fn has_two_sections(rt: &HostRuntime, image: &Octets) -> bool {
+    same(rt, &image.len(), &192)
+        && stands(rt, image, 52, &[170; 12])
+        && stands(rt, image, 64, &[1, 2, 3, 170, 4, 170, 170, 170, 0])
 }
 
 /// The place of a section, if it is there.
@@ -143,72 +144,75 @@ fn place_of(elf: &Elf<NoSource>, s: u32) -> Option<u64> {
 }
 
 /// Whether an update that writes nothing stores their places, and keeps the marks.
-fn are_placed(elf: &mut Elf<NoSource>) -> bool {
-    update_null(elf) == Ok(192)
-        && place_of(elf, 1) == Some(64)
-        && place_of(elf, 2) == Some(68)
-        && elf.ehdr().shoff == 72
+fn are_placed(rt: &HostRuntime, elf: &mut Elf<NoSource>) -> bool {
+    same(rt, &update_null(elf), &Ok(192))
+        && same(rt, &place_of(elf, 1), &Some(64))
+        && same(rt, &place_of(elf, 2), &Some(68))
+        && same(rt, &elf.ehdr().shoff, &72)
         && elf.dirty()
 }
 
 /// Whether section 0 counts 65,300 sections in an image.
-fn has_counts(image: &Octets) -> bool {
-    image.len() == 52 + 65_300 * 40
-        && stands(image, 48, &[0, 0])
-        && stands(image, 72, &[20, 255, 0, 0])
+fn has_counts(rt: &HostRuntime, image: &Octets) -> bool {
+    same(rt, &image.len(), &(52 + 65_300 * 40))
+        && stands(rt, image, 48, &[0, 0])
+        && stands(rt, image, 72, &[20, 255, 0, 0])
 }
 
 /// Whether an image has a gap of bytes between its table and its section.
-fn has_gap(image: &Octets, fill: u8) -> bool {
-    image.len() == 800_003
-        && are_all(image, 192, 800_000, fill)
-        && stands(image, 800_000, &[1, 2, 3])
+fn has_gap(rt: &HostRuntime, image: &Octets, fill: u8) -> bool {
+    same(rt, &image.len(), &800_003)
+        && are_all(rt, image, 192, 800_000, fill)
+        && stands(rt, image, 800_000, &[1, 2, 3])
 }
 
 /// Whether the first update puts an image, and those that follow, where puts fail and none does.
-fn is_put_again(elf: &mut Elf<NoSource>, image: &[u8]) -> bool {
-    puts(elf, image) && stops(elf, 1, image) && stops(elf, 2, image) && stops(elf, 3, image)
+fn is_put_again(rt: &HostRuntime, elf: &mut Elf<NoSource>, image: &[u8]) -> bool {
+    puts(rt, elf, image)
+        && stops(rt, elf, 1, image)
+        && stops(rt, elf, 2, image)
+        && stops(rt, elf, 3, image)
 }
 
 /// Whether an image that an object puts is as it should be.
-fn is_as_asked(elf: &mut Elf<NoSource>, image: &Octets, asked: Asked) -> bool {
+fn is_as_asked(rt: &HostRuntime, elf: &mut Elf<NoSource>, image: &Octets, asked: Asked) -> bool {
     match asked {
-        Asked::Two => has_two_sections(image) && puts(elf, image.as_slice()),
-        Asked::Counts => has_counts(image),
-        Asked::Gap(fill) => has_gap(image, fill) && is_put_again(elf, image.as_slice()),
+        Asked::Two => has_two_sections(rt, image) && puts(rt, elf, image.as_slice()),
+        Asked::Counts => has_counts(rt, image),
+        Asked::Gap(fill) => has_gap(rt, image, fill) && is_put_again(rt, elf, image.as_slice()),
         _ => false,
     }
 }
 
 /// Whether an object puts such an image.
-fn is_written(elf: &mut Elf<NoSource>, asked: Asked) -> bool {
+fn is_written(rt: &HostRuntime, elf: &mut Elf<NoSource>, asked: Asked) -> bool {
     match image_put(elf) {
-        Some(image) => is_as_asked(elf, &image, asked),
-        None => false,
+        Some(image) => is_as_asked(rt, elf, &image, asked),
+        None => other(rt, &"no image", "an update that ends"),
     }
 }
 
 /// Whether an update is refused by an error, and puts nothing.
-pub fn is_refused<S: Source>(elf: &mut Elf<S>, e: ElfError) -> bool {
+pub fn is_refused<S: Source>(rt: &HostRuntime, elf: &mut Elf<S>, e: ElfError) -> bool {
     match put_by(elf, 0) {
-        Ok((answer, bytes)) => answer == Err(e) && bytes.is_empty(),
-        Err(_) => false,
+        Ok((answer, bytes)) => same(rt, &answer, &Err(e)) && same(rt, &bytes.len(), &0),
+        Err(e) => failed(rt, e),
     }
 }
 
 /// Whether an object answers so.
-fn answers(elf: &mut Elf<NoSource>, asked: Asked) -> bool {
+fn answers(rt: &HostRuntime, elf: &mut Elf<NoSource>, asked: Asked) -> bool {
     match asked {
-        Asked::Places => are_placed(elf),
-        Asked::Refused(e) => is_refused(elf, e),
-        _ => is_written(elf, asked),
+        Asked::Places => are_placed(rt, elf),
+        Asked::Refused(e) => is_refused(rt, elf, e),
+        _ => is_written(rt, elf, asked),
     }
 }
 
 /// Whether one that is made does.
-pub fn is_so(alloc: Global, made: Made, asked: Asked) -> bool {
-    let mut elf = empty(alloc, made);
-    is_filled(&mut elf, made) && answers(&mut elf, asked)
+pub fn is_so(rt: &HostRuntime, made: Made, asked: Asked) -> bool {
+    let mut elf = empty(rt.alloc(), made);
+    is_filled(&mut elf, made) && answers(rt, &mut elf, asked)
 }
 
 /// The image of one that is made.
@@ -222,23 +226,23 @@ pub fn image_of_made(alloc: Global, made: Made) -> Option<Octets> {
 
 #[test]
 fn sections_are_aligned(rt: HostRuntime) {
-    assert!(rt; is_so(rt.alloc(), Made::TwoSections, Asked::Two));
+    assert!(rt; is_so(&rt, Made::TwoSections, Asked::Two));
 }
 
 #[test]
 fn places_are_stored(rt: HostRuntime) {
-    assert!(rt; is_so(rt.alloc(), Made::TwoSections, Asked::Places));
+    assert!(rt; is_so(&rt, Made::TwoSections, Asked::Places));
 }
 
 #[test]
 fn more_sections_than_a_header_counts_are_written(rt: HostRuntime) {
-    assert!(rt; is_so(rt.alloc(), Made::ManySections, Asked::Counts));
+    assert!(rt; is_so(&rt, Made::ManySections, Asked::Counts));
 }
 
 #[test]
 fn a_gap_of_pages_is_written(rt: HostRuntime) {
-    assert!(rt; is_so(rt.alloc(), Made::FarSection(0), Asked::Gap(0)));
-    assert!(rt; is_so(rt.alloc(), Made::FarSection(9), Asked::Gap(9)));
+    assert!(rt; is_so(&rt, Made::FarSection(0), Asked::Gap(0)));
+    assert!(rt; is_so(&rt, Made::FarSection(9), Asked::Gap(9)));
 }
 
 /// Two sections share a place.
@@ -249,16 +253,10 @@ const PAIR: ElfError = ElfError::Overlap {
 
 #[test]
 fn sections_that_share_a_place_are_refused(rt: HostRuntime) {
-    assert!(rt; is_so(rt.alloc(), Made::SharedPlace, Asked::Refused(PAIR)));
+    assert!(rt; is_so(&rt, Made::SharedPlace, Asked::Refused(PAIR)));
 }
 
 #[test]
 fn an_image_past_the_range_of_its_class_is_refused(rt: HostRuntime) {
-    assert!(rt;
-        is_so(
-            rt.alloc(),
-            Made::LongSection,
-            Asked::Refused(ElfError::TooLarge)
-        )
-    );
+    assert!(rt; is_so(&rt, Made::LongSection, Asked::Refused(ElfError::TooLarge)));
 }

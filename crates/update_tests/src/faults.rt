@@ -6,6 +6,7 @@ use elf_outside::MemSource;
 use elf_types::{DIRTY, ElfError, Octets, Part};
 use std::alloc::Global;
 use test_images::{OBJECT, image_of};
+use test_rows::{other, same};
 use test_sources::source;
 
 /// What came of an update over a source of which a read fails.
@@ -23,6 +24,7 @@ enum Outcome {
 
 /// What comes of an update that answered so and put a front of the image.
 fn outcome_by(
+    rt: &HostRuntime,
     elf: &mut Elf<MemSource>,
     answer: Result<u64, ElfError>,
     front: &[u8],
@@ -32,32 +34,32 @@ fn outcome_by(
         return Outcome::Ended;
     }
     let stopped = answer == Err(ElfError::Read) && bytes.starts_with(front);
-    if stopped && puts(elf, bytes) {
+    if stopped && puts(rt, elf, bytes) {
         return Outcome::Failed;
     }
     Outcome::Other
 }
 
 /// What comes of an update of an object.
-fn outcome_of(elf: &mut Elf<MemSource>, bytes: &[u8]) -> Outcome {
+fn outcome_of(rt: &HostRuntime, elf: &mut Elf<MemSource>, bytes: &[u8]) -> Outcome {
     match put_by(elf, 0) {
-        Ok((answer, front)) => outcome_by(elf, answer, front.as_slice(), bytes),
+        Ok((answer, front)) => outcome_by(rt, elf, answer, front.as_slice(), bytes),
         Err(_) => Outcome::Other,
     }
 }
 
 /// Marks an object, and says what comes of its update.
-fn marked_outcome(elf: &mut Elf<MemSource>, bytes: &[u8], mark: bool) -> Outcome {
+fn marked_outcome(rt: &HostRuntime, elf: &mut Elf<MemSource>, bytes: &[u8], mark: bool) -> Outcome {
     if mark && elf.flag(Part::Object, true, DIRTY).is_err() {
         return Outcome::Other;
     }
-    outcome_of(elf, bytes)
+    outcome_of(rt, elf, bytes)
 }
 
 /// The same of an object over a source.
-fn source_outcome(alloc: Global, src: MemSource, bytes: &[u8], mark: bool) -> Outcome {
-    match Elf::begin(alloc, src) {
-        Ok(mut elf) => marked_outcome(&mut elf, bytes, mark),
+fn source_outcome(rt: &HostRuntime, src: MemSource, bytes: &[u8], mark: bool) -> Outcome {
+    match Elf::begin(rt.alloc(), src) {
+        Ok(mut elf) => marked_outcome(rt, &mut elf, bytes, mark),
         Err(_) => Outcome::NotOpened,
     }
 }
@@ -71,29 +73,32 @@ fn source_of(alloc: Global, bytes: &[u8], bad_read: u64) -> Option<MemSource> {
 }
 
 /// What comes of an update over one.
-fn bytes_outcome(alloc: Global, bytes: &[u8], bad_read: u64, mark: bool) -> Outcome {
-    match source_of(alloc, bytes, bad_read) {
-        Some(src) => source_outcome(alloc, src, bytes, mark),
+fn bytes_outcome(rt: &HostRuntime, bytes: &[u8], bad_read: u64, mark: bool) -> Outcome {
+    match source_of(rt.alloc(), bytes, bad_read) {
+        Some(src) => source_outcome(rt, src, bytes, mark),
         None => Outcome::Other,
     }
 }
 
 /// The same of the image.
-fn image_outcome(alloc: Global, bad_read: u64, mark: bool) -> Outcome {
-    match image_of(alloc, &OBJECT) {
-        Ok(image) => bytes_outcome(alloc, image.bytes.as_slice(), bad_read, mark),
+fn image_outcome(rt: &HostRuntime, bad_read: u64, mark: bool) -> Outcome {
+    match image_of(rt.alloc(), &OBJECT) {
+        Ok(image) => bytes_outcome(rt, image.bytes.as_slice(), bad_read, mark),
         Err(_) => Outcome::Other,
     }
 }
 
 /// How many reads of the first twenty fail in an update; none where one does anything else.
-fn failures(alloc: Global, mark: bool) -> u32 {
+fn failures(rt: &HostRuntime, mark: bool) -> u32 {
     let mut failed = 0u32;
     for bad_read in 1..21 {
-        match image_outcome(alloc, bad_read, mark) {
+        match image_outcome(rt, bad_read, mark) {
             Outcome::Failed => failed = failed.saturating_add(1),
             Outcome::NotOpened | Outcome::Ended => {}
-            Outcome::Other => return 0,
+            Outcome::Other => {
+                let _said = other(rt, &bad_read, "a read that fails and is named");
+                return 0;
+            }
         }
     }
     failed
@@ -101,6 +106,6 @@ fn failures(alloc: Global, mark: bool) -> u32 {
 
 #[test]
 fn an_update_stops_at_a_read_that_fails(rt: HostRuntime) {
-    assert!(rt; failures(rt.alloc(), false) == 1);
-    assert!(rt; failures(rt.alloc(), true) == 2);
+    assert!(rt; same(&rt, &failures(&rt, false), &1));
+    assert!(rt; same(&rt, &failures(&rt, true), &2));
 }

@@ -5,6 +5,7 @@ use elf_outside::{MemSink, Source};
 use elf_types::{Addrs, ElfError, Octets};
 use elf_update::update_to;
 use std::alloc::Global;
+use test_rows::{failed, holds, other, same, same_bytes, within};
 
 /// Room for each image of these tests.
 const ROOM: u64 = 5_000_000;
@@ -39,30 +40,35 @@ pub fn image_put<S: Source>(elf: &mut Elf<S>) -> Option<Octets> {
 }
 
 /// Whether an update ends and puts these bytes.
-pub fn puts<S: Source>(elf: &mut Elf<S>, bytes: &[u8]) -> bool {
+pub fn puts<S: Source>(rt: &HostRuntime, elf: &mut Elf<S>, bytes: &[u8]) -> bool {
     match image_put(elf) {
-        Some(image) => image.as_slice() == bytes,
-        None => false,
+        Some(image) => same_bytes(rt, image.as_slice(), bytes),
+        None => other(rt, &"no image", "an update that ends"),
     }
 }
 
 /// Whether the put of a number fails in an update, which then has put a front of these bytes, and
 /// the next update puts them all.
-pub fn stops<S: Source>(elf: &mut Elf<S>, bad_put: u64, bytes: &[u8]) -> bool {
+pub fn stops<S: Source>(rt: &HostRuntime, elf: &mut Elf<S>, bad_put: u64, bytes: &[u8]) -> bool {
     match put_by(elf, bad_put) {
         Ok((answer, front)) => {
-            answer == Err(ElfError::Write)
-                && bytes.starts_with(front.as_slice())
-                && puts(elf, bytes)
+            same(rt, &answer, &Err(ElfError::Write))
+                && holds(rt, "a prefix is put", bytes.starts_with(front.as_slice()))
+                && puts(rt, elf, bytes)
         }
-        Err(_) => false,
+        Err(e) => failed(rt, e),
     }
 }
 
 /// Whether these bytes stand in others at a place.
-pub fn stands(bytes: &Octets, at: u64, piece: &[u8]) -> bool {
+pub fn stands(rt: &HostRuntime, bytes: &Octets, at: u64, piece: &[u8]) -> bool {
     for (i, byte) in piece.iter().enumerate() {
-        if bytes.get(at.saturating_add(i as u64)) != Some(*byte) {
+        let place = at.saturating_add(i as u64);
+        if !within(
+            rt,
+            &("byte", place),
+            same(rt, &bytes.get(place), &Some(*byte)),
+        ) {
             return false;
         }
     }
@@ -70,10 +76,10 @@ pub fn stands(bytes: &Octets, at: u64, piece: &[u8]) -> bool {
 }
 
 /// Whether all bytes from one place to another are one.
-pub fn are_all(bytes: &Octets, from: u64, to: u64, byte: u8) -> bool {
+pub fn are_all(rt: &HostRuntime, bytes: &Octets, from: u64, to: u64, byte: u8) -> bool {
     for at in from..to {
         if bytes.get(at) != Some(byte) {
-            return false;
+            return within(rt, &("byte", at), same(rt, &bytes.get(at), &Some(byte)));
         }
     }
     true

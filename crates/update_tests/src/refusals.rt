@@ -8,6 +8,7 @@ use elf_types::constants::SHT_PROGBITS;
 use elf_types::{DIRTY, DataId, ElfError, Part};
 use std::alloc::Global;
 use test_images::{Field, NARROW, OBJECT, Put, Recipe, SectionField, Start, image_of};
+use test_rows::{failed, in_row, other};
 use test_sources::source;
 
 /// What is done to an object, so that its update is refused.
@@ -24,7 +25,7 @@ enum Spoil {
 }
 
 /// Raises the values of the symbols that are lent.
-fn raise_values<S: Source>(elf: &mut Elf<S>) -> bool {
+fn raise_values<S: Source>(rt: &HostRuntime, elf: &mut Elf<S>) -> bool {
     match elf.syms_mut(DataId {
         section: 2,
         piece: 0,
@@ -35,7 +36,7 @@ fn raise_values<S: Source>(elf: &mut Elf<S>) -> bool {
             }
             true
         }
-        Err(_) => false,
+        Err(e) => failed(rt, e),
     }
 }
 
@@ -51,10 +52,10 @@ fn raise_address<S: Source>(elf: &mut Elf<S>) -> bool {
 }
 
 /// Does so to an object.
-fn is_spoilt<S: Source>(elf: &mut Elf<S>, spoil: Spoil) -> bool {
+fn is_spoilt<S: Source>(rt: &HostRuntime, elf: &mut Elf<S>, spoil: Spoil) -> bool {
     match spoil {
         Spoil::Mark => elf.flag(Part::Object, true, DIRTY).is_ok(),
-        Spoil::Values => raise_values(elf),
+        Spoil::Values => raise_values(rt, elf),
         Spoil::Address => raise_address(elf),
         Spoil::Sections => add_sections(elf, 65_300),
     }
@@ -79,7 +80,7 @@ static OUT: [Row; 1] = [Row {
 
 #[test]
 fn a_section_out_of_the_file_is_refused(rt: HostRuntime) {
-    assert!(rt; are_rows(rt.alloc(), &OUT));
+    assert!(rt; are_rows(&rt, &OUT));
 }
 
 /// What does not fit class 32, and a section 0 that would have bytes where it counts the sections.
@@ -118,10 +119,10 @@ static ROWS: [Row; 3] = [
 ];
 
 /// Whether the update of a row's object over a source is refused.
-fn is_row_over(alloc: Global, row: &Row, src: MemSource) -> bool {
-    match Elf::begin(alloc, src) {
-        Ok(mut elf) => is_spoilt(&mut elf, row.spoil) && is_refused(&mut elf, row.by),
-        Err(_) => false,
+fn is_row_over(rt: &HostRuntime, row: &Row, src: MemSource) -> bool {
+    match Elf::begin(rt.alloc(), src) {
+        Ok(mut elf) => is_spoilt(rt, &mut elf, row.spoil) && is_refused(rt, &mut elf, row.by),
+        Err((_src, e)) => failed(rt, e),
     }
 }
 
@@ -134,17 +135,17 @@ fn source_of(alloc: Global, row: &Row) -> Option<MemSource> {
 }
 
 /// Whether that of a row is.
-fn is_row(alloc: Global, row: &Row) -> bool {
-    match source_of(alloc, row) {
-        Some(src) => is_row_over(alloc, row, src),
-        None => false,
+fn is_row(rt: &HostRuntime, row: &Row) -> bool {
+    match source_of(rt.alloc(), row) {
+        Some(src) => is_row_over(rt, row, src),
+        None => other(rt, &"no source", "one of the image"),
     }
 }
 
 /// Whether each is.
-fn are_rows(alloc: Global, rows: &[Row]) -> bool {
-    for row in rows {
-        if !is_row(alloc, row) {
+fn are_rows(rt: &HostRuntime, rows: &[Row]) -> bool {
+    for (n, row) in rows.iter().enumerate() {
+        if !in_row(rt, n, is_row(rt, row)) {
             return false;
         }
     }
@@ -153,5 +154,5 @@ fn are_rows(alloc: Global, rows: &[Row]) -> bool {
 
 #[test]
 fn what_does_not_fit_is_refused(rt: HostRuntime) {
-    assert!(rt; are_rows(rt.alloc(), &ROWS));
+    assert!(rt; are_rows(&rt, &ROWS));
 }
