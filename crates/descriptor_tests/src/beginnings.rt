@@ -11,6 +11,7 @@ use test_images::{
     FORMS, Field, Form, HeaderField, Image, OBJECT, Recipe, SectionField, Start, WIDE,
     numbers_in_section_0,
 };
+use test_rows::{failed, in_row, same, within};
 use test_sources::{Sparse, source};
 
 /// There are two program headers and three sections, and no mark.
@@ -54,7 +55,7 @@ static FRONTS: [Row; 2] = [
 
 #[test]
 fn the_front_is_read_and_nothing_else(rt: HostRuntime) {
-    assert!(rt; are_so(rt.alloc(), &FRONTS));
+    assert!(rt; are_so(&rt, &FRONTS));
 }
 
 /// The symbol table has its home and one piece.
@@ -69,7 +70,7 @@ static TABLE: [Row; 1] = [Row {
 
 #[test]
 fn each_section_has_its_home_and_one_piece(rt: HostRuntime) {
-    assert!(rt; are_so(rt.alloc(), &TABLE));
+    assert!(rt; are_so(&rt, &TABLE));
 }
 
 /// A field of an image, a number for it, the length of the source, and the refusal then.
@@ -118,31 +119,31 @@ fn refusal<S: Source>(alloc: Global, src: S) -> (S, Option<ElfError>) {
 }
 
 /// Whether a source is refused so, comes back with its length, and is refused again alike.
-fn is_refused_twice(alloc: Global, src: Sparse, e: ElfError) -> bool {
+fn is_refused_twice(rt: &HostRuntime, src: Sparse, e: ElfError) -> bool {
     let len = src.len();
-    let (src, first) = refusal(alloc, src);
-    let (src, second) = refusal(alloc, src);
-    first == Some(e) && second == Some(e) && src.len() == len
+    let (src, first) = refusal(rt.alloc(), src);
+    let (src, second) = refusal(rt.alloc(), src);
+    same(rt, &first, &Some(e)) && same(rt, &second, &Some(e)) && same(rt, &src.len(), &len)
 }
 
 /// Whether an image, in which a fault is put, is refused as stated.
-fn is_refused_with(alloc: Global, mut image: Image, fault: &Fault) -> bool {
+fn is_refused_with(rt: &HostRuntime, mut image: Image, fault: &Fault) -> bool {
     image.put_field(fault.0, fault.1);
-    is_refused_twice(alloc, Sparse::new(image.bytes, fault.2), fault.3)
+    is_refused_twice(rt, Sparse::new(image.bytes, fault.2), fault.3)
 }
 
 /// Whether a fault of an image is refused as stated.
-fn is_refused(alloc: Global, form: Form, fault: &Fault) -> bool {
-    match numbers_in_section_0(alloc, form.0, form.1) {
-        Ok(image) => is_refused_with(alloc, image, fault),
-        Err(_) => false,
+fn is_refused(rt: &HostRuntime, form: Form, fault: &Fault) -> bool {
+    match numbers_in_section_0(rt.alloc(), form.0, form.1) {
+        Ok(image) => is_refused_with(rt, image, fault),
+        Err(e) => failed(rt, e),
     }
 }
 
 /// Whether each fault is, in a form.
-fn are_refused_in(alloc: Global, form: Form, faults: &[Fault]) -> bool {
-    for fault in faults {
-        if !is_refused(alloc, form, fault) {
+fn are_refused_in(rt: &HostRuntime, form: Form, faults: &[Fault]) -> bool {
+    for (n, fault) in faults.iter().enumerate() {
+        if !in_row(rt, n, is_refused(rt, form, fault)) {
             return false;
         }
     }
@@ -150,9 +151,9 @@ fn are_refused_in(alloc: Global, form: Form, faults: &[Fault]) -> bool {
 }
 
 /// Whether each is in all forms.
-fn are_refused(alloc: Global, faults: &[Fault]) -> bool {
+fn are_refused(rt: &HostRuntime, faults: &[Fault]) -> bool {
     for form in FORMS.iter() {
-        if !are_refused_in(alloc, *form, faults) {
+        if !within(rt, form, are_refused_in(rt, *form, faults)) {
             return false;
         }
     }
@@ -161,8 +162,8 @@ fn are_refused(alloc: Global, faults: &[Fault]) -> bool {
 
 #[test]
 fn a_refused_source_comes_back(rt: HostRuntime) {
-    assert!(rt; are_refused(rt.alloc(), &FAULTS));
-    assert!(rt; is_refused(rt.alloc(), WIDE, &HUGE_COUNT));
+    assert!(rt; are_refused(&rt, &FAULTS));
+    assert!(rt; is_refused(&rt, WIDE, &HUGE_COUNT));
 }
 
 /// How a source is refused, and how it is when it came back.
@@ -202,9 +203,13 @@ const READS: [(u64, Twice); 6] = [
 ];
 
 /// Whether they are refused so.
-fn come_back(alloc: Global, reads: &[(u64, Twice)]) -> bool {
-    for (bad_read, twice) in reads {
-        if refused_by_read(alloc, *bad_read) != Ok(*twice) {
+fn come_back(rt: &HostRuntime, reads: &[(u64, Twice)]) -> bool {
+    for (n, (bad_read, twice)) in reads.iter().enumerate() {
+        if !in_row(
+            rt,
+            n,
+            same(rt, &refused_by_read(rt.alloc(), *bad_read), &Ok(*twice)),
+        ) {
             return false;
         }
     }
@@ -213,5 +218,5 @@ fn come_back(alloc: Global, reads: &[(u64, Twice)]) -> bool {
 
 #[test]
 fn a_source_whose_read_failed_comes_back(rt: HostRuntime) {
-    assert!(rt; come_back(rt.alloc(), &READS));
+    assert!(rt; come_back(&rt, &READS));
 }

@@ -15,8 +15,8 @@ use elf_types::constants::{
 use elf_types::{Class, ElfError, Kind, Octets, Order, Shdr};
 use rooms::{is_read_again, is_room_kept};
 use section_data::Cell;
-use std::alloc::Global;
 use test_images::{FORMS, Form, NARROW, NULL_SECTION, WIDE};
+use test_rows::{failed, in_row, same, within};
 use test_sources::source;
 
 /// What is asked of a cell of which nothing is read, and the answer.
@@ -49,7 +49,7 @@ struct Row {
 
 /// Whether a cell over its source answers as it should.
 fn answers(
-    alloc: Global,
+    rt: &HostRuntime,
     asked: &Asked,
     cell: &mut Cell,
     source: &mut MemSource,
@@ -60,44 +60,48 @@ fn answers(
     requires unread { cell_is_loaded cell.old ≡ false }
 {
     match asked {
-        Asked::Data(told) => data_told(cell, source, form.0, form.1) == *told,
-        Asked::ReadOnce => is_read_once(cell, source, form.0, form.1),
-        Asked::Changed(by, left) => change_left(alloc, cell, source, form, *by) == *left,
-        Asked::RoomKept => is_room_kept(cell, source),
-        Asked::ReadAgain => is_read_again(cell, source),
-        Asked::Half(i, told) => half_at(cell, source, form, *i) == *told,
+        Asked::Data(told) => same(rt, &data_told(cell, source, form.0, form.1), told),
+        Asked::ReadOnce => is_read_once(rt, cell, source, form.0, form.1),
+        Asked::Changed(by, left) => same(
+            rt,
+            &change_left(rt.alloc(), cell, source, form, *by),
+            left,
+        ),
+        Asked::RoomKept => is_room_kept(rt, cell, source),
+        Asked::ReadAgain => is_read_again(rt, cell, source),
+        Asked::Half(i, told) => same(rt, &half_at(cell, source, form, *i), told),
     }
 }
 
 /// Whether the cell of a row does in a form, over a source of so many bytes.
-fn is_so_over(alloc: Global, form: Form, row: &Row, source: &mut MemSource, len: u64) -> bool
+fn is_so_over(rt: &HostRuntime, form: Form, row: &Row, source: &mut MemSource, len: u64) -> bool
     requires { len ≡ length source.old.bytes }
 {
-    let mut cell = Cell::unread(alloc, 5, form.0, &row.header, len);
-    answers(alloc, &row.asked, &mut cell, source, form)
+    let mut cell = Cell::unread(rt.alloc(), 5, form.0, &row.header, len);
+    answers(rt, &row.asked, &mut cell, source, form)
 }
 
 /// Whether it does over these bytes.
-fn is_so_of(alloc: Global, form: Form, row: &Row, bytes: Octets) -> bool {
+fn is_so_of(rt: &HostRuntime, form: Form, row: &Row, bytes: Octets) -> bool {
     let len = bytes.len();
-    match source(alloc, bytes, row.bad_read) {
-        Ok(mut source) => is_so_over(alloc, form, row, &mut source, len),
-        Err(_) => false,
+    match source(rt.alloc(), bytes, row.bad_read) {
+        Ok(mut source) => is_so_over(rt, form, row, &mut source, len),
+        Err(e) => failed(rt, e),
     }
 }
 
 /// Whether it does in a form, in place of its own.
-fn is_so_in(alloc: Global, form: Form, row: &Row) -> bool {
-    match Octets::from_slice(alloc, row.bytes) {
-        Ok(bytes) => is_so_of(alloc, form, row, bytes),
-        Err(_) => false,
+fn is_so_in(rt: &HostRuntime, form: Form, row: &Row) -> bool {
+    match Octets::from_slice(rt.alloc(), row.bytes) {
+        Ok(bytes) => is_so_of(rt, form, row, bytes),
+        Err(e) => failed(rt, e),
     }
 }
 
 /// Whether the cell of each row answers as it should.
-fn are_so(alloc: Global, rows: &[Row]) -> bool {
-    for row in rows {
-        if !is_so_in(alloc, row.form, row) {
+fn are_so(rt: &HostRuntime, rows: &[Row]) -> bool {
+    for (n, row) in rows.iter().enumerate() {
+        if !in_row(rt, n, is_so_in(rt, row.form, row)) {
             return false;
         }
     }
@@ -105,9 +109,9 @@ fn are_so(alloc: Global, rows: &[Row]) -> bool {
 }
 
 /// Whether that of a row does in all forms.
-fn is_so(alloc: Global, row: &Row) -> bool {
+fn is_so(rt: &HostRuntime, row: &Row) -> bool {
     for form in FORMS.iter() {
-        if !is_so_in(alloc, *form, row) {
+        if !within(rt, form, is_so_in(rt, *form, row)) {
             return false;
         }
     }
@@ -115,9 +119,9 @@ fn is_so(alloc: Global, row: &Row) -> bool {
 }
 
 /// Whether that of each row does.
-fn are_so_in_all_forms(alloc: Global, rows: &[Row]) -> bool {
-    for row in rows {
-        if !is_so(alloc, row) {
+fn are_so_in_all_forms(rt: &HostRuntime, rows: &[Row]) -> bool {
+    for (n, row) in rows.iter().enumerate() {
+        if !in_row(rt, n, is_so(rt, row)) {
             return false;
         }
     }
@@ -244,19 +248,29 @@ fn data_told(
 
 #[test]
 fn sections_of_all_kinds_are_told_or_refused(rt: HostRuntime) {
-    assert!(rt; are_so_in_all_forms(rt.alloc(), &ROWS));
+    assert!(rt; are_so_in_all_forms(&rt, &ROWS));
 }
 
 /// Whether a home of 48 bytes is read once, after a read that failed.
-fn is_read_once(cell: &mut Cell, source: &mut MemSource, class: Class, order: Order) -> bool
+fn is_read_once(
+    rt: &HostRuntime,
+    cell: &mut Cell,
+    source: &mut MemSource,
+    class: Class,
+    order: Order,
+) -> bool
     requires lies { LiesIn cell.old (length source.old.bytes) }
     requires items { HeldIs class order cell.old }
 {
-    let failed = cell.prepare(source, 0, class, order) == Err(ElfError::Read);
+    let refused = same(
+        rt,
+        &cell.prepare(source, 0, class, order),
+        &Err(ElfError::Read),
+    );
     let unread = !cell.is_loaded();
-    let read = cell.prepare(source, 0, class, order) == Ok(());
-    let again = cell.prepare(source, 0, class, order) == Ok(());
-    failed && unread && read && again && source.asked() == 96
+    let read = same(rt, &cell.prepare(source, 0, class, order), &Ok(()));
+    let again = same(rt, &cell.prepare(source, 0, class, order), &Ok(()));
+    refused && unread && read && again && same(rt, &source.asked(), &96)
 }
 
 /// Two symbols, of which the first read fails.
@@ -273,7 +287,7 @@ const READ_ONCE: [Row; 1] = [Row {
 
 #[test]
 fn a_failed_read_is_repeated_and_a_home_is_read_once(rt: HostRuntime) {
-    assert!(rt; are_so(rt.alloc(), &READ_ONCE));
+    assert!(rt; are_so(&rt, &READ_ONCE));
 }
 
 /// Item `i` of a cell of halves.
@@ -314,5 +328,5 @@ const HALVES: [Row; 3] = [
 
 #[test]
 fn items_are_told_one_by_one(rt: HostRuntime) {
-    assert!(rt; are_so(rt.alloc(), &HALVES));
+    assert!(rt; are_so(&rt, &HALVES));
 }

@@ -71,7 +71,7 @@ static ITEMS: [Row; 3] = [
 
 #[test]
 fn items_are_stored_and_left(rt: HostRuntime) {
-    assert!(rt; are_so(rt.alloc(), &ITEMS));
+    assert!(rt; are_so(&rt, &ITEMS));
 }
 
 /// An object with two program headers.
@@ -113,7 +113,7 @@ static MARKS: [Row; 2] = [
 
 #[test]
 fn parts_are_flagged_and_marked(rt: HostRuntime) {
-    assert!(rt; are_so(rt.alloc(), &MARKS));
+    assert!(rt; are_so(&rt, &MARKS));
 }
 
 /// The home piece of section 0.
@@ -213,7 +213,7 @@ static PIECES: [Row; 4] = [
 
 #[test]
 fn pieces_are_added_and_replaced(rt: HostRuntime) {
-    assert!(rt; are_so(rt.alloc(), &PIECES));
+    assert!(rt; are_so(&rt, &PIECES));
 }
 
 /// The header of a section of bytes at a multiple of 4.
@@ -261,5 +261,5 @@ static SECTIONS: [Row; 2] = [
 
 #[test]
 fn headers_are_added_and_stored(rt: HostRuntime) {
-    assert!(rt; are_so(rt.alloc(), &SECTIONS));
+    assert!(rt; are_so(&rt, &SECTIONS));
 }

@@ -7,9 +7,9 @@ use crate::shapes::{
 };
 use crate::steps::Step;
 use elf_outside::{Files, RealFiles};
-use std::alloc::Global;
 use std::{env, fs, process};
 use test_images::{OBJECT, Recipe, image_of};
+use test_rows::{failed, failed_by, holds, in_row};
 
 /// An image, and the steps that a descriptor over a file of it answers.
 type Row = (Recipe, &'static [Step]);
@@ -34,14 +34,14 @@ fn path_of(rt: &HostRuntime) -> Option<String> {
 }
 
 /// Whether the steps are answered over the file of a name.
-fn are_answered<F: Files>(alloc: Global, files: &mut F, path: &str, steps: &[Step]) -> bool {
-    match files.open(alloc, path) {
+fn are_answered<F: Files>(rt: &HostRuntime, files: &mut F, path: &str, steps: &[Step]) -> bool {
+    match files.open(rt.alloc(), path) {
         Ok(file) => {
-            let (file, answered) = answered_over(alloc, steps, file);
+            let (file, answered) = answered_over(rt, steps, file);
             files.close(path, file);
             answered
         }
-        Err(_) => false,
+        Err(e) => failed_by(rt, &e),
     }
 }
 
@@ -49,18 +49,21 @@ fn are_answered<F: Files>(alloc: Global, files: &mut F, path: &str, steps: &[Ste
 fn is_row<F: Files>(rt: &HostRuntime, files: &mut F, path: &str, row: &Row) -> bool {
     match image_of(rt.alloc(), &row.0) {
         Ok(image) => {
-            fs::write(rt, path, image.bytes.as_slice()).is_ok()
-                && are_answered(rt.alloc(), files, path, row.1)
-                && fs::remove_file(rt, path).is_ok()
+            holds(
+                rt,
+                "the file is written",
+                fs::write(rt, path, image.bytes.as_slice()).is_ok(),
+            ) && are_answered(rt, files, path, row.1)
+                && holds(rt, "the file is removed", fs::remove_file(rt, path).is_ok())
         }
-        Err(_) => false,
+        Err(e) => failed(rt, e),
     }
 }
 
 /// Whether those of each row are.
 fn are_rows<F: Files>(rt: &HostRuntime, files: &mut F, path: &str, rows: &[Row]) -> bool {
-    for row in rows {
-        if !is_row(rt, files, path, row) {
+    for (n, row) in rows.iter().enumerate() {
+        if !in_row(rt, n, is_row(rt, files, path, row)) {
             return false;
         }
     }
@@ -71,7 +74,7 @@ fn are_rows<F: Files>(rt: &HostRuntime, files: &mut F, path: &str, rows: &[Row])
 fn are_rows_of(rt: &HostRuntime, path: &str, rows: &[Row]) -> bool {
     match rt.clone() {
         Ok(system) => are_rows(rt, &mut RealFiles::new(rt.alloc(), system), path, rows),
-        Err(_) => false,
+        Err(e) => failed_by(rt, &e),
     }
 }
 

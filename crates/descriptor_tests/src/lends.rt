@@ -68,7 +68,7 @@ static NUMBERS: [Row; 4] = [
 
 #[test]
 fn numbers_are_lent_and_stored(rt: HostRuntime) {
-    assert!(rt; are_so(rt.alloc(), &NUMBERS));
+    assert!(rt; are_so(&rt, &NUMBERS));
 }
 
 /// A symbol.
@@ -161,5 +161,5 @@ static RECORDS: [Row; 4] = [
 
 #[test]
 fn records_are_lent_and_stored(rt: HostRuntime) {
-    assert!(rt; are_so(rt.alloc(), &RECORDS));
+    assert!(rt; are_so(&rt, &RECORDS));
 }

@@ -4,11 +4,14 @@ use crate::steps::{Given, Step, answers_all};
 use elf_descriptor::Elf;
 use elf_types::constants::{MAX_PIECES, MAX_SECTIONS, PN_XNUM};
 use elf_types::{Class, DIRTY, ElfError, Order, Part, ScnId};
-use std::alloc::Global;
 
 /// Whether an object without sections and program headers answers steps.
-fn are_answered(alloc: Global, steps: &[Step]) -> bool {
-    answers_all(&mut Elf::create(alloc, Class::C32, Order::Least), steps)
+fn are_answered(rt: &HostRuntime, steps: &[Step]) -> bool {
+    answers_all(
+        rt,
+        &mut Elf::create(rt.alloc(), Class::C32, Order::Least),
+        steps,
+    )
 }
 
 /// As many program headers as the header can count, 2^20 sections with section 0, and 2^20 pieces
@@ -26,8 +29,8 @@ static MOST: [Step; 9] = [
 ];
 
 #[test]
-fn there_are_at_most_so_many(rt: HostRuntime) {
-    assert!(rt; are_answered(rt.alloc(), &MOST));
+fn program_headers_sections_and_pieces_end_at_their_greatest_number(rt: HostRuntime) {
+    assert!(rt; are_answered(&rt, &MOST));
 }
 
 /// The first two sections of an object have the numbers 1 and 2, behind section 0.
@@ -49,6 +52,6 @@ static MADE_ONCE: [Step; 5] = [
 
 #[test]
 fn section_0_comes_with_the_first_or_alone(rt: HostRuntime) {
-    assert!(rt; are_answered(rt.alloc(), &NUMBERED));
-    assert!(rt; are_answered(rt.alloc(), &MADE_ONCE));
+    assert!(rt; are_answered(&rt, &NUMBERED));
+    assert!(rt; are_answered(&rt, &MADE_ONCE));
 }

@@ -175,7 +175,7 @@ static KINDS: [Row; 9] = [
 
 #[test]
 fn sections_of_all_kinds_are_told_or_refused(rt: HostRuntime) {
-    assert!(rt; are_so(rt.alloc(), &KINDS));
+    assert!(rt; are_so(&rt, &KINDS));
 }
 
 /// A section whose first read fails is read again; the first three reads are those of the front.
@@ -192,7 +192,7 @@ static REPEATED: [Row; 1] = [Row {
 
 #[test]
 fn a_failed_read_is_repeated(rt: HostRuntime) {
-    assert!(rt; are_so(rt.alloc(), &REPEATED));
+    assert!(rt; are_so(&rt, &REPEATED));
 }
 
 /// The zero symbol.
@@ -248,5 +248,5 @@ static HELD: [Row; 3] = [
 
 #[test]
 fn what_is_read_is_told_and_held(rt: HostRuntime) {
-    assert!(rt; are_so(rt.alloc(), &HELD));
+    assert!(rt; are_so(&rt, &HELD));
 }

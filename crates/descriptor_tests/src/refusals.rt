@@ -7,6 +7,7 @@ use elf_types::{DIRTY, DataId, ElfError, LAYOUT, Part};
 use std::alloc::Global;
 use test_descriptors::all_agree;
 use test_images::{NARROW, OBJECT, Recipe, Start, image_of};
+use test_rows::{failed, holds, in_step};
 use test_sources::{Sparse, source};
 
 /// There is no section 3.
@@ -97,9 +98,15 @@ static REFUSALS: [Step; 20] = [
 ];
 
 /// Whether each refusal comes as stated and leaves what another descriptor answers.
-fn all_leave<S: Source, F: Source>(elf: &mut Elf<S>, fresh: &Elf<F>, steps: &[Step]) -> bool {
-    for step in steps {
-        if !answers(elf, step) || !all_agree(elf, fresh) {
+fn all_leave<S: Source, F: Source>(
+    rt: &HostRuntime,
+    elf: &mut Elf<S>,
+    fresh: &Elf<F>,
+    steps: &[Step],
+) -> bool {
+    for (n, step) in steps.iter().enumerate() {
+        let so = answers(rt, elf, step) && holds(rt, "nothing changes", all_agree(rt, elf, fresh));
+        if !in_step(rt, n, so) {
             return false;
         }
     }
@@ -107,13 +114,13 @@ fn all_leave<S: Source, F: Source>(elf: &mut Elf<S>, fresh: &Elf<F>, steps: &[St
 }
 
 /// Whether they do over a source, which is given back.
-fn all_leave_over<S: Source, F: Source>(alloc: Global, src: S, fresh: &Elf<F>) -> (S, bool) {
-    match Elf::begin(alloc, src) {
+fn all_leave_over<S: Source, F: Source>(rt: &HostRuntime, src: S, fresh: &Elf<F>) -> (S, bool) {
+    match Elf::begin(rt.alloc(), src) {
         Ok(mut elf) => {
-            let left = all_leave(&mut elf, fresh, &REFUSALS);
+            let left = all_leave(rt, &mut elf, fresh, &REFUSALS);
             (elf.end(), left)
         }
-        Err((src, _)) => (src, false),
+        Err((src, e)) => (src, failed(rt, e)),
     }
 }
 
@@ -144,27 +151,27 @@ fn untold(alloc: Global) -> Option<Sparse> {
 }
 
 /// Whether they do over a source, where there is one.
-fn all_leave_of<S: Source, F: Source>(alloc: Global, src: Option<S>, fresh: &Elf<F>) -> bool
+fn all_leave_of<S: Source, F: Source>(rt: &HostRuntime, src: Option<S>, fresh: &Elf<F>) -> bool
 where
     S: Drop,
 {
     match src {
-        Some(src) => all_leave_over(alloc, src, fresh).1,
+        Some(src) => all_leave_over(rt, src, fresh).1,
         None => false,
     }
 }
 
 /// Whether they do over either source, beside another descriptor over the image.
-fn all_leave_beside<F: Source>(alloc: Global, fresh: &Elf<F>) -> bool {
-    all_leave_of(alloc, told(alloc), fresh) && all_leave_of(alloc, untold(alloc), fresh)
+fn all_leave_beside<F: Source>(rt: &HostRuntime, fresh: &Elf<F>) -> bool {
+    all_leave_of(rt, told(rt.alloc()), fresh) && all_leave_of(rt, untold(rt.alloc()), fresh)
 }
 
 /// Whether they do beside one that begins over that image.
-fn refused_edits_leave(alloc: Global) -> bool {
-    match told(alloc) {
-        Some(src) => match Elf::begin(alloc, src) {
-            Ok(fresh) => all_leave_beside(alloc, &fresh),
-            Err(_) => false,
+fn refused_edits_leave(rt: &HostRuntime) -> bool {
+    match told(rt.alloc()) {
+        Some(src) => match Elf::begin(rt.alloc(), src) {
+            Ok(fresh) => all_leave_beside(rt, &fresh),
+            Err((_src, e)) => failed(rt, e),
         },
         None => false,
     }
@@ -172,5 +179,5 @@ fn refused_edits_leave(alloc: Global) -> bool {
 
 #[test]
 fn a_refused_edit_changes_nothing(rt: HostRuntime) {
-    assert!(rt; refused_edits_leave(rt.alloc()));
+    assert!(rt; refused_edits_leave(&rt));
 }

@@ -79,5 +79,5 @@ static ROWS: [Row; 4] = [
 
 #[test]
 fn a_home_is_read_once_until_it_is_let_go(rt: HostRuntime) {
-    assert!(rt; are_so(rt.alloc(), &ROWS));
+    assert!(rt; are_so(&rt, &ROWS));
 }

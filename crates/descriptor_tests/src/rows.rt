@@ -5,9 +5,9 @@ use crate::steps::{Step, answers_all};
 use elf_descriptor::Elf;
 use elf_outside::{MemSource, Source};
 use elf_types::{Class, Octets};
-use std::alloc::Global;
 use test_descriptors::front_size;
 use test_images::{FORMS, Form, OBJECT, Recipe, image_in};
+use test_rows::{failed, in_row, same, within};
 use test_sources::{Sparse, source};
 
 /// How many bytes are asked for.
@@ -45,77 +45,80 @@ pub const ROW: Row = Row {
 };
 
 /// Whether the steps are answered over a source, which is given back.
-pub fn answered_over<S: Source>(alloc: Global, steps: &[Step], src: S) -> (S, bool) {
-    match Elf::begin(alloc, src) {
+pub fn answered_over<S: Source>(rt: &HostRuntime, steps: &[Step], src: S) -> (S, bool) {
+    match Elf::begin(rt.alloc(), src) {
         Ok(mut elf) => {
-            let answered = answers_all(&mut elf, steps);
+            let answered = answers_all(rt, &mut elf, steps);
             (elf.end(), answered)
         }
-        Err((src, _)) => (src, false),
+        Err((src, e)) => (src, failed(rt, e)),
     }
 }
 
 /// Whether so many bytes are asked for as are due in a class.
-fn is_due(due: &Option<Due>, class: Class, asked: u64) -> bool {
+fn is_due(rt: &HostRuntime, due: &Option<Due>, class: Class, asked: u64) -> bool {
     match due {
         Some(due) => {
             let front = front_size(class, due.segments, due.sections);
-            asked == front.saturating_add(due.more)
+            same(rt, &asked, &front.saturating_add(due.more))
         }
         None => true,
     }
 }
 
 /// Whether the steps of a row are answered over a source in memory.
-fn is_so_of(alloc: Global, class: Class, row: &Row, src: MemSource) -> bool {
-    let (src, answered) = answered_over(alloc, row.steps, src);
-    answered && is_due(&row.due, class, src.asked())
+fn is_so_of(rt: &HostRuntime, class: Class, row: &Row, src: MemSource) -> bool {
+    let (src, answered) = answered_over(rt, row.steps, src);
+    answered && is_due(rt, &row.due, class, src.asked())
 }
 
 /// Whether they are over one of these bytes.
-fn is_so_told(alloc: Global, class: Class, row: &Row, bytes: Octets) -> bool {
-    match source(alloc, bytes, row.bad_read) {
-        Ok(src) => is_so_of(alloc, class, row, src),
-        Err(_) => false,
+fn is_so_told(rt: &HostRuntime, class: Class, row: &Row, bytes: Octets) -> bool {
+    match source(rt.alloc(), bytes, row.bad_read) {
+        Ok(src) => is_so_of(rt, class, row, src),
+        Err(e) => failed(rt, e),
     }
 }
 
 /// Whether they are over a source that begins with these bytes and does not tell them.
-fn is_so_untold(alloc: Global, row: &Row, bytes: Octets) -> bool {
+fn is_so_untold(rt: &HostRuntime, row: &Row, bytes: Octets) -> bool {
     let len = bytes.len();
-    answered_over(alloc, row.steps, Sparse::new(bytes, len)).1
+    answered_over(rt, row.steps, Sparse::new(bytes, len)).1
 }
 
 /// Whether they are over the image in a form, over a source that tells its bytes or does not.
-fn is_so_over(alloc: Global, form: Form, row: &Row, told: bool) -> bool {
-    match image_in(alloc, form, &row.recipe) {
+fn is_so_over(rt: &HostRuntime, form: Form, row: &Row, told: bool) -> bool {
+    match image_in(rt.alloc(), form, &row.recipe) {
         Ok(image) => {
             if told {
-                return is_so_told(alloc, form.0, row, image.bytes);
+                return is_so_told(rt, form.0, row, image.bytes);
             }
-            is_so_untold(alloc, row, image.bytes)
+            is_so_untold(rt, row, image.bytes)
         }
-        Err(_) => false,
+        Err(e) => failed(rt, e),
     }
 }
 
 /// Whether they are over either, in all forms of the row.
-fn is_so(alloc: Global, row: &Row) -> bool {
+fn is_so(rt: &HostRuntime, row: &Row) -> bool {
     for form in row.forms {
-        if !is_so_over(alloc, *form, row, true) {
+        if !within(rt, form, is_so_over(rt, *form, row, true)) {
             return false;
         }
-        if row.bad_read == 0 && !is_so_over(alloc, *form, row, false) {
-            return false;
+        if row.bad_read == 0 {
+            let so = is_so_over(rt, *form, row, false);
+            if !within(rt, &(form, "a source that does not tell its bytes"), so) {
+                return false;
+            }
         }
     }
     true
 }
 
 /// Whether those of each row are.
-pub fn are_so(alloc: Global, rows: &[Row]) -> bool {
-    for row in rows {
-        if !is_so(alloc, row) {
+pub fn are_so(rt: &HostRuntime, rows: &[Row]) -> bool {
+    for (n, row) in rows.iter().enumerate() {
+        if !in_row(rt, n, is_so(rt, row)) {
             return false;
         }
     }

@@ -98,5 +98,5 @@ static ROWS: [Row; 4] = [
 
 #[test]
 fn fields_decide_what_is_told(rt: HostRuntime) {
-    assert!(rt; are_so(rt.alloc(), &ROWS));
+    assert!(rt; are_so(&rt, &ROWS));
 }

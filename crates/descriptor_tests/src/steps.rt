@@ -8,6 +8,7 @@ mod told;
 use elf_descriptor::Elf;
 use elf_outside::Source;
 use elf_types::{DataId, Dyn, ElfError, Kind, Part, Rel, Rela, ScnId, Shdr, Sym};
+use test_rows::in_step;
 
 /// The piece of the strings in an object with two symbols.
 pub const STRINGS: DataId = DataId {
@@ -164,7 +165,7 @@ pub enum Step {
 }
 
 /// Whether a step is answered so.
-pub fn answers<S: Source>(elf: &mut Elf<S>, step: &Step) -> bool {
+pub fn answers<S: Source>(rt: &HostRuntime, elf: &mut Elf<S>, step: &Step) -> bool {
     match step {
         Step::Counts(..)
         | Step::Header(..)
@@ -174,7 +175,7 @@ pub fn answers<S: Source>(elf: &mut Elf<S>, step: &Step) -> bool {
         | Step::Flags(..)
         | Step::Offsets(..)
         | Step::Unread(..)
-        | Step::Held(..) => told::is_told(elf, step),
+        | Step::Held(..) => told::is_told(rt, elf, step),
         Step::Section(..)
         | Step::Has(..)
         | Step::Home(..)
@@ -182,7 +183,7 @@ pub fn answers<S: Source>(elf: &mut Elf<S>, step: &Step) -> bool {
         | Step::Kind(..)
         | Step::Align(..)
         | Step::Pieces(..)
-        | Step::Size(..) => told::is_told_of_section(elf, step),
+        | Step::Size(..) => told::is_told_of_section(rt, elf, step),
         Step::Data(..)
         | Step::Long(..)
         | Step::Raw(..)
@@ -192,22 +193,22 @@ pub fn answers<S: Source>(elf: &mut Elf<S>, step: &Step) -> bool {
         | Step::Base(_)
         | Step::Reserve
         | Step::ReserveHome(..)
-        | Step::Unload(..) => reads::is_read(elf, step),
+        | Step::Unload(..) => reads::is_read(rt, elf, step),
         Step::StoreSymbol(..)
         | Step::AddToValues(..)
         | Step::AddToBytes(_)
         | Step::Replace(..)
         | Step::Add(..)
         | Step::EmptyPieces(..)
-        | Step::Lent(_) => lends::is_changed(elf, step),
-        _ => edits::is_edited(elf, step),
+        | Step::Lent(_) => lends::is_changed(rt, elf, step),
+        _ => edits::is_edited(rt, elf, step),
     }
 }
 
 /// Whether the steps are answered so, one after another.
-pub fn answers_all<S: Source>(elf: &mut Elf<S>, steps: &[Step]) -> bool {
-    for step in steps {
-        if !answers(elf, step) {
+pub fn answers_all<S: Source>(rt: &HostRuntime, elf: &mut Elf<S>, steps: &[Step]) -> bool {
+    for (n, step) in steps.iter().enumerate() {
+        if !in_step(rt, n, answers(rt, elf, step)) {
             return false;
         }
     }

@@ -2,7 +2,7 @@
 
 use crate::image::executable;
 use elf_types::{ElfError, Octets};
-use std::alloc::Global;
+use test_rows::{failed, in_row, same, same_bytes};
 use test_runs::{NOTHING, run_line, shows};
 use tool_output::Status;
 
@@ -167,17 +167,17 @@ static PARTS: [(&str, &[u8]); 8] = [
 ];
 
 /// Whether a run over the executable shows this, and refuses nothing.
-fn is_shown(alloc: Global, line: &str, out: &'static [u8]) -> bool {
-    match executable(alloc) {
-        Ok(image) => shows(alloc, line, image, out) == Ok(true),
-        Err(_) => false,
+fn is_shown(rt: &HostRuntime, line: &str, out: &'static [u8]) -> bool {
+    match executable(rt.alloc()) {
+        Ok(image) => shows(rt, line, image, out),
+        Err(e) => failed(rt, e),
     }
 }
 
 /// Whether each line shows this.
-fn are_shown(alloc: Global, rows: &[(&str, &'static [u8])]) -> bool {
-    for (line, out) in rows {
-        if !is_shown(alloc, line, out) {
+fn are_shown(rt: &HostRuntime, rows: &[(&str, &'static [u8])]) -> bool {
+    for (n, (line, out)) in rows.iter().enumerate() {
+        if !in_row(rt, n, is_shown(rt, line, out)) {
             return false;
         }
     }
@@ -186,7 +186,7 @@ fn are_shown(alloc: Global, rows: &[(&str, &'static [u8])]) -> bool {
 
 #[test]
 fn readelf_shows_each_part_of_an_executable(rt: HostRuntime) {
-    assert!(rt; are_shown(rt.alloc(), &PARTS));
+    assert!(rt; are_shown(&rt, &PARTS));
 }
 
 /// Appends all parts.
@@ -198,28 +198,33 @@ fn put_parts(all: &mut Octets, parts: &[(&str, &[u8])]) -> Result<(), ElfError> 
 }
 
 /// Whether readelf with all letters shows this of the executable, and refuses nothing.
-fn shows_all(alloc: Global, all: &[u8]) -> bool {
-    let Ok(image) = executable(alloc) else {
-        return false;
+fn shows_all(rt: &HostRuntime, all: &[u8]) -> bool {
+    let image = match executable(rt.alloc()) {
+        Ok(image) => image,
+        Err(e) => return failed(rt, e),
     };
-    match run_line(alloc, "readelf -hlSsrdnV F", &image, NOTHING) {
-        Ok(ran) => { ran.status == Status::Done && ran.out.as_slice() == all && ran.err.len() == 0 }
-        Err(_) => false,
+    match run_line(rt.alloc(), "readelf -hlSsrdnV F", &image, NOTHING) {
+        Ok(ran) => {
+            same(rt, &ran.status, &Status::Done)
+                && same_bytes(rt, ran.out.as_slice(), all)
+                && same_bytes(rt, ran.err.as_slice(), b"")
+        }
+        Err(e) => failed(rt, e),
     }
 }
 
 /// Whether it shows the parts one behind the other.
-fn shows_in_order(alloc: Global, parts: &[(&str, &[u8])]) -> bool {
-    let mut all = Octets::new(alloc);
+fn shows_in_order(rt: &HostRuntime, parts: &[(&str, &[u8])]) -> bool {
+    let mut all = Octets::new(rt.alloc());
     match put_parts(&mut all, parts) {
-        Ok(()) => shows_all(alloc, all.as_slice()),
-        Err(_) => false,
+        Ok(()) => shows_all(rt, all.as_slice()),
+        Err(e) => failed(rt, e),
     }
 }
 
 #[test]
 fn readelf_shows_all_parts_in_one_order(rt: HostRuntime) {
-    assert!(rt; shows_in_order(rt.alloc(), &PARTS));
+    assert!(rt; shows_in_order(&rt, &PARTS));
 }
 
 /// The line of each other command, and what it shows: the function; the bytes of loaded sections,
@@ -238,5 +243,5 @@ static TOOLS: [(&str, &[u8]); 4] = [
 
 #[test]
 fn each_other_command_reads_an_executable(rt: HostRuntime) {
-    assert!(rt; are_shown(rt.alloc(), &TOOLS));
+    assert!(rt; are_shown(&rt, &TOOLS));
 }

@@ -6,6 +6,7 @@ use elf_outside::MemFiles;
 use elf_types::{Addrs, ElfError, Octets};
 use std::alloc::Global;
 use test_images::Image;
+use test_rows::{failed, in_row, other, same};
 use test_runs::{Failing, Given, Left, NOTHING, numbered, run_leaving};
 use tool_output::Status;
 
@@ -172,10 +173,13 @@ fn end_of(left: &Left, whole: &Left, status: Status) -> End {
 }
 
 /// How a run of a row ends of which the call with a number fails.
-fn end_at(alloc: Global, image: &Image, row: &Row, whole: &Left, number: u64) -> End {
-    match left_at(alloc, image, row, number) {
+fn end_at(rt: &HostRuntime, image: &Image, row: &Row, whole: &Left, number: u64) -> End {
+    match left_at(rt.alloc(), image, row, number) {
         Ok(left) => end_of(&left, whole, row.status),
-        Err(_) => End::Wrong,
+        Err(e) => {
+            let _said = failed(rt, e);
+            End::Wrong
+        }
     }
 }
 
@@ -187,13 +191,14 @@ const BEYOND: u64 = 4;
 
 /// How many runs stop: each of which one of the first calls fails, up to one that makes fewer
 /// calls, as those behind it do. None where a run ends otherwise.
-fn count_of(alloc: Global, image: &Image, row: &Row, whole: &Left) -> Option<u64> {
+fn count_of(rt: &HostRuntime, image: &Image, row: &Row, whole: &Left) -> Option<u64> {
     let mut count = 0u64;
     let mut beyond = 0u64;
     for before in 0..CALLS {
-        match end_at(alloc, image, row, whole, before.saturating_add(1)) {
+        match end_at(rt, image, row, whole, before.saturating_add(1)) {
             End::Stopped => {
                 if beyond > 0 {
+                    let _said = other(rt, &before, "no run more that stops, behind that call");
                     return None;
                 }
                 count = count.saturating_add(1);
@@ -204,42 +209,48 @@ fn count_of(alloc: Global, image: &Image, row: &Row, whole: &Left) -> Option<u64
                     return Some(count);
                 }
             }
-            End::Wrong => return None,
+            End::Wrong => {
+                let _said = other(rt, &before, "a run that stops, behind so many calls");
+                return None;
+            }
         }
     }
     None
 }
 
 /// Whether the runs of a row end so, and at least so many stop.
-fn is_so(alloc: Global, image: &Image, row: &Row) -> bool {
-    match left_at(alloc, image, row, 0) {
-        Ok(whole) => match count_of(alloc, image, row, &whole) {
-            Some(count) => whole.ran.status == Status::Done && count >= row.least,
+fn is_so(rt: &HostRuntime, image: &Image, row: &Row) -> bool {
+    match left_at(rt.alloc(), image, row, 0) {
+        Ok(whole) => match count_of(rt, image, row, &whole) {
+            Some(count) => {
+                same(rt, &whole.ran.status, &Status::Done)
+                    && (count >= row.least || other(rt, &count, "more runs that stop"))
+            }
             None => false,
         },
-        Err(_) => false,
+        Err(e) => failed(rt, e),
     }
 }
 
-/// The index of the first row that is not so of an image.
-fn first_wrong_of(alloc: Global, image: &Image, rows: &[Row]) -> Option<usize> {
-    for (i, row) in rows.iter().enumerate() {
-        if !is_so(alloc, image, row) {
-            return Some(i);
+/// Whether each row is so of an image.
+fn are_so_of(rt: &HostRuntime, image: &Image, rows: &[Row]) -> bool {
+    for (n, row) in rows.iter().enumerate() {
+        if !in_row(rt, n, is_so(rt, image, row)) {
+            return false;
         }
     }
-    None
+    true
 }
 
-/// The same of the executable; the number of rows where there is no memory for that.
-fn first_wrong(alloc: Global, rows: &[Row]) -> Option<usize> {
-    match executable(alloc) {
-        Ok(image) => first_wrong_of(alloc, &image, rows),
-        Err(_) => Some(rows.len()),
+/// Whether each is of the executable.
+fn are_so(rt: &HostRuntime, rows: &[Row]) -> bool {
+    match executable(rt.alloc()) {
+        Ok(image) => are_so_of(rt, &image, rows),
+        Err(e) => failed(rt, e),
     }
 }
 
 #[test]
 fn each_call_that_fails_leaves_a_front(rt: HostRuntime) {
-    assert_eq!(rt; first_wrong(rt.alloc(), &ROWS), None);
+    assert!(rt; are_so(&rt, &ROWS));
 }

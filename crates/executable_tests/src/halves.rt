@@ -6,7 +6,8 @@ use elf_outside::MemFiles;
 use elf_types::{ElfError, Octets};
 use std::alloc::Global;
 use test_images::Image;
-use test_runs::{DONE, Given, NOTHING, Ran, add_file, run_leaving, run_line};
+use test_rows::{failed, in_row, same, same_bytes, within};
+use test_runs::{DONE, Given, NOTHING, Ran, add_file, run_leaving, run_line, same_file};
 
 /// Two files, O and D.
 #[derive(Drop)]
@@ -23,52 +24,63 @@ impl Given for Halves {
 }
 
 /// What a run that refuses nothing leaves under a name, and nothing where it does not.
-pub fn made_by<G: Given>(alloc: Global, line: &str, given: &G, name: &str) -> Option<Octets> {
-    match run_leaving(alloc, line, given, NOTHING, name) {
-        Ok(left) => { if left.ran.is(&DONE) { left.held } else { None } }
-        Err(_) => None,
+pub fn made_by<G: Given>(rt: &HostRuntime, line: &str, given: &G, name: &str) -> Option<Octets> {
+    match run_leaving(rt.alloc(), line, given, NOTHING, name) {
+        Ok(left) => {
+            if within(rt, &line, left.ran.is(rt, &DONE)) {
+                left.held
+            } else {
+                None
+            }
+        }
+        Err(e) => {
+            let _said = failed(rt, e);
+            None
+        }
     }
 }
 
 /// The halves of an image.
-fn split<G: Given>(alloc: Global, given: &G) -> Option<Halves> {
-    let Some(stripped) = made_by(alloc, "strip -f D -o O F", given, "O") else {
+fn split<G: Given>(rt: &HostRuntime, given: &G) -> Option<Halves> {
+    let Some(stripped) = made_by(rt, "strip -f D -o O F", given, "O") else {
         return None;
     };
-    match made_by(alloc, "strip -f D -o O F", given, "D") {
+    match made_by(rt, "strip -f D -o O F", given, "D") {
         Some(debug) => Some(Halves { stripped, debug }),
         None => None,
     }
 }
 
 /// Whether two halves are the same.
-fn same_halves(a: &Halves, b: &Halves) -> bool {
-    a.stripped.as_slice() == b.stripped.as_slice() && a.debug.as_slice() == b.debug.as_slice()
+fn same_halves(rt: &HostRuntime, a: &Halves, b: &Halves) -> bool {
+    same_file(rt, a.stripped.as_slice(), b.stripped.as_slice())
+        && same_file(rt, a.debug.as_slice(), b.debug.as_slice())
 }
 
 /// Whether an image is split into these.
-fn is_split(alloc: Global, made: &Octets, halves: &Halves) -> bool {
-    match split(alloc, made) {
-        Some(again) => same_halves(&again, halves),
+fn is_split(rt: &HostRuntime, made: &Octets, halves: &Halves) -> bool {
+    match split(rt, made) {
+        Some(again) => same_halves(rt, &again, halves),
         None => false,
     }
 }
 
 /// Whether two runs are the same.
-fn same_runs(a: &Ran, b: &Ran) -> bool {
-    a.status == b.status
-        && a.out.as_slice() == b.out.as_slice()
-        && a.err.as_slice() == b.err.as_slice()
+fn same_runs(rt: &HostRuntime, a: &Ran, b: &Ran) -> bool {
+    same(rt, &a.status, &b.status)
+        && same_bytes(rt, a.out.as_slice(), b.out.as_slice())
+        && same_bytes(rt, a.err.as_slice(), b.err.as_slice())
 }
 
 /// Whether a command shows the same of both.
-fn shows_same(alloc: Global, line: &str, image: &Image, made: &Octets) -> bool {
-    let Ok(before) = run_line(alloc, line, image, NOTHING) else {
-        return false;
+fn shows_same(rt: &HostRuntime, line: &str, image: &Image, made: &Octets) -> bool {
+    let before = match run_line(rt.alloc(), line, image, NOTHING) {
+        Ok(before) => before,
+        Err(e) => return failed(rt, e),
     };
-    match run_line(alloc, line, made, NOTHING) {
-        Ok(after) => same_runs(&before, &after),
-        Err(_) => false,
+    match run_line(rt.alloc(), line, made, NOTHING) {
+        Ok(after) => same_runs(rt, &before, &after),
+        Err(e) => failed(rt, e),
     }
 }
 
@@ -83,9 +95,9 @@ static LINES: [&str; 6] = [
 ];
 
 /// Whether each of them shows the same of both.
-fn show_same(alloc: Global, image: &Image, made: &Octets) -> bool {
-    for line in &LINES {
-        if !shows_same(alloc, line, image, made) {
+fn show_same(rt: &HostRuntime, image: &Image, made: &Octets) -> bool {
+    for (n, line) in LINES.iter().enumerate() {
+        if !in_row(rt, n, shows_same(rt, line, image, made)) {
             return false;
         }
     }
@@ -93,25 +105,26 @@ fn show_same(alloc: Global, image: &Image, made: &Octets) -> bool {
 }
 
 /// Whether what the halves are joined to is shown as the image, and split into them.
-fn is_joined(alloc: Global, image: &Image, halves: &Halves) -> bool {
-    match made_by(alloc, "unstrip -o X O D", halves, "X") {
-        Some(made) => show_same(alloc, image, &made) && is_split(alloc, &made, halves),
+fn is_joined(rt: &HostRuntime, image: &Image, halves: &Halves) -> bool {
+    match made_by(rt, "unstrip -o X O D", halves, "X") {
+        Some(made) => show_same(rt, image, &made) && is_split(rt, &made, halves),
         None => false,
     }
 }
 
 /// Whether the executable is.
-fn is_whole(alloc: Global) -> bool {
-    let Ok(image) = executable(alloc) else {
-        return false;
+fn is_whole(rt: &HostRuntime) -> bool {
+    let image = match executable(rt.alloc()) {
+        Ok(image) => image,
+        Err(e) => return failed(rt, e),
     };
-    match split(alloc, &image) {
-        Some(halves) => is_joined(alloc, &image, &halves),
+    match split(rt, &image) {
+        Some(halves) => is_joined(rt, &image, &halves),
         None => false,
     }
 }
 
 #[test]
 fn halves_of_an_executable_are_joined(rt: HostRuntime) {
-    assert!(rt; is_whole(rt.alloc()));
+    assert!(rt; is_whole(&rt));
 }

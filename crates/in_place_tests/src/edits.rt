@@ -6,6 +6,7 @@ use elf_types::constants::SHT_PROGBITS;
 use elf_types::{DIRTY, DataId, Ehdr, ElfError, LAYOUT, Octets, Part, ScnId, Shdr};
 use elf_xlate::Items;
 use std::alloc::Global;
+use test_rows::{in_row, same};
 
 /// An edit.
 #[derive(Clone, Copy)]
@@ -132,9 +133,9 @@ fn make_edit<S: Source>(elf: &mut Elf<S>, edit: Edit) -> Result<(), ElfError> {
 }
 
 /// Whether edits are made, one after the other.
-pub fn are_made<S: Source>(elf: &mut Elf<S>, edits: &[Edit]) -> bool {
-    for edit in edits {
-        if make_edit(elf, *edit) != Ok(()) {
+pub fn are_made<S: Source>(rt: &HostRuntime, elf: &mut Elf<S>, edits: &[Edit]) -> bool {
+    for (n, edit) in edits.iter().enumerate() {
+        if !in_row(rt, n, same(rt, &make_edit(elf, *edit), &Ok(()))) {
             return false;
         }
     }

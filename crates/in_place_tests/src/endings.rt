@@ -7,15 +7,15 @@ use elf_descriptor::Elf;
 use elf_outside::{Device, Source};
 use elf_types::constants::SHT_PROGBITS;
 use elf_types::{Octets, Shdr};
-use std::alloc::Global;
 use test_descriptors::{Setting, is_as_opened, is_done, is_done_in};
 use test_images::{Image, NULL_SECTION, OBJECT, Put, Recipe, Start, WIDE, image_of as made_image};
+use test_rows::{failed, in_row, same};
 use test_sources::source;
 
 /// Whether each update ends, in class 64.
-fn are_ended(alloc: Global, setting: &Setting, rows: &[Row]) -> bool {
-    for row in rows {
-        if !is_done_in(alloc, setting, WIDE, &Task::Ends(*row)) {
+fn are_ended(rt: &HostRuntime, setting: &Setting, rows: &[Row]) -> bool {
+    for (n, row) in rows.iter().enumerate() {
+        if !in_row(rt, n, is_done_in(rt, setting, WIDE, &Task::Ends(*row))) {
             return false;
         }
     }
@@ -23,9 +23,9 @@ fn are_ended(alloc: Global, setting: &Setting, rows: &[Row]) -> bool {
 }
 
 /// Whether each does in all forms.
-fn are_ended_in_all_forms(alloc: Global, setting: &Setting, rows: &[Row]) -> bool {
-    for row in rows {
-        if !is_done(alloc, setting, &Task::Ends(*row)) {
+fn are_ended_in_all_forms(rt: &HostRuntime, setting: &Setting, rows: &[Row]) -> bool {
+    for (n, row) in rows.iter().enumerate() {
+        if !in_row(rt, n, is_done(rt, setting, &Task::Ends(*row))) {
             return false;
         }
     }
@@ -33,25 +33,30 @@ fn are_ended_in_all_forms(alloc: Global, setting: &Setting, rows: &[Row]) -> boo
 }
 
 /// Whether all do, those for any class in all forms.
-fn all_are_ended(alloc: Global) -> bool {
+fn all_are_ended(rt: &HostRuntime) -> bool {
     for which in ALL.iter() {
         let made = table(*which);
-        if !are_ended(alloc, &made.setting, made.rows) {
+        if !are_ended(rt, &made.setting, made.rows) {
             return false;
         }
     }
     let five = table(Which::Five);
-    are_ended_in_all_forms(alloc, &five.setting, five.rows)
+    are_ended_in_all_forms(rt, &five.setting, five.rows)
 }
 
 #[test]
 fn the_device_holds_the_image(rt: HostRuntime) {
-    assert!(rt; all_are_ended(rt.alloc()));
+    assert!(rt; all_are_ended(&rt));
 }
 
 /// Makes edits of an object that is opened on the image of another one, and takes its image for
 /// what the device is to hold.
-fn expect_next<S: Source>(elf: &Elf<S>, edits: &[Edit], image: &mut Image) -> bool {
+fn expect_next<S: Source>(
+    rt: &HostRuntime,
+    elf: &Elf<S>,
+    edits: &[Edit],
+    image: &mut Image,
+) -> bool {
     let Ok(bytes) = Octets::from_slice(elf.alloc(), image.bytes.as_slice()) else {
         return false;
     };
@@ -61,42 +66,47 @@ fn expect_next<S: Source>(elf: &Elf<S>, edits: &[Edit], image: &mut Image) -> bo
     match Elf::begin(elf.alloc(), src) {
         Ok(mut opened) => {
             opened.set_fill(elf.fill());
-            expect(&mut opened, edits, image)
+            expect(rt, &mut opened, edits, image)
         }
-        Err(_) => false,
+        Err((_src, e)) => failed(rt, e),
     }
 }
 
 /// Whether an update ends, and the object answers as one that is opened on its image.
-fn is_settled<D: Device>(elf: &mut Elf<D>, image: &Image) -> bool {
-    ends(elf, image) && is_as_opened(elf, image.bytes.as_slice())
+fn is_settled<D: Device>(rt: &HostRuntime, elf: &mut Elf<D>, image: &Image) -> bool {
+    ends(rt, elf, image) && is_as_opened(rt, elf, image.bytes.as_slice())
 }
 
 /// Whether an object is written after edits, and written again after others.
 pub fn is_written_twice<D: Device, F: Source>(
+    rt: &HostRuntime,
     elf: &mut Elf<D>,
     fresh: &mut Elf<F>,
     image: &mut Image,
     first: &[Edit],
     second: &[Edit],
 ) -> bool {
-    expect(fresh, first, image)
-        && are_made(elf, first)
-        && is_settled(elf, image)
-        && expect_next(elf, second, image)
-        && are_made(elf, second)
-        && is_settled(elf, image)
+    expect(rt, fresh, first, image)
+        && are_made(rt, elf, first)
+        && is_settled(rt, elf, image)
+        && expect_next(rt, elf, second, image)
+        && are_made(rt, elf, second)
+        && is_settled(rt, elf, image)
 }
 
 /// Whether an object that was written after these edits is edited and written again, by each row.
 fn is_written_again(
-    alloc: Global,
+    rt: &HostRuntime,
     setting: &Setting,
     first: &'static [Edit],
     rows: &[Row],
 ) -> bool {
-    for row in rows {
-        if !is_done_in(alloc, setting, WIDE, &Task::Twice(first, row.edits)) {
+    for (n, row) in rows.iter().enumerate() {
+        if !in_row(
+            rt,
+            n,
+            is_done_in(rt, setting, WIDE, &Task::Twice(first, row.edits)),
+        ) {
             return false;
         }
     }
@@ -104,9 +114,9 @@ fn is_written_again(
 }
 
 /// Whether one that was written after the edits of each row is.
-fn are_written_again(alloc: Global, setting: &Setting, rows: &[Row]) -> bool {
-    for row in rows {
-        if !is_written_again(alloc, setting, row.edits, rows) {
+fn are_written_again(rt: &HostRuntime, setting: &Setting, rows: &[Row]) -> bool {
+    for (n, row) in rows.iter().enumerate() {
+        if !in_row(rt, n, is_written_again(rt, setting, row.edits, rows)) {
             return false;
         }
     }
@@ -116,12 +126,12 @@ fn are_written_again(alloc: Global, setting: &Setting, rows: &[Row]) -> bool {
 #[test]
 fn an_object_that_was_written_is_edited_and_written_again(rt: HostRuntime) {
     let five = table(Which::Five);
-    assert!(rt; are_written_again(rt.alloc(), &five.setting, five.rows));
+    assert!(rt; are_written_again(&rt, &five.setting, five.rows));
 }
 
 #[test]
 fn an_object_that_is_not_edited_is_left(rt: HostRuntime) {
-    assert!(rt; is_done(rt.alloc(), &table(Which::Five).setting, &Task::Left));
+    assert!(rt; is_done(&rt, &table(Which::Five).setting, &Task::Left));
 }
 
 /// Eight bytes at a place.
@@ -171,17 +181,19 @@ static AFTER: Recipe = Recipe {
 };
 
 /// Whether a section gets a second piece, and those behind it move.
-pub fn grows<D: Device>(elf: &mut Elf<D>, image: &mut Image) -> bool {
+pub fn grows<D: Device>(rt: &HostRuntime, elf: &mut Elf<D>, image: &mut Image) -> bool {
     match made_image(elf.alloc(), &AFTER) {
         Ok(made) => {
             image.bytes = made.bytes;
-            are_made(elf, &[Edit::Piece(3)]) && image.bytes.len() == 496 && ends(elf, image)
+            are_made(rt, elf, &[Edit::Piece(3)])
+                && same(rt, &image.bytes.len(), &496)
+                && ends(rt, elf, image)
         }
-        Err(_) => false,
+        Err(e) => failed(rt, e),
     }
 }
 
 #[test]
 fn the_sections_behind_one_that_grows_are_moved(rt: HostRuntime) {
-    assert!(rt; is_done_in(rt.alloc(), &table(Which::Five).setting, WIDE, &Task::Grows));
+    assert!(rt; is_done_in(&rt, &table(Which::Five).setting, WIDE, &Task::Grows));
 }

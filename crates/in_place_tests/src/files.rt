@@ -3,11 +3,11 @@
 use crate::rows::{FAR, Row, SECTIONS, Which, table};
 use crate::tasks::Task;
 use elf_outside::{Files, RealFiles};
-use std::alloc::Global;
 use std::os::unix::fs::MetadataExt;
 use std::{env, fs, process};
 use test_descriptors::done_over;
 use test_images::{Image, image_of};
+use test_rows::{failed, failed_by, holds, in_row, same, same_bytes};
 
 /// A path in the system's folder for files that do not last.
 fn path_of(rt: &HostRuntime, name: &str) -> Option<String> {
@@ -32,25 +32,26 @@ enum Look {
 const FEW: u64 = 64;
 
 /// Whether a file holds the bytes of an image.
-fn holds(rt: &HostRuntime, path: &str, image: &Image) -> bool {
+fn has_bytes(rt: &HostRuntime, path: &str, image: &Image) -> bool {
     match fs::read(rt, path) {
-        Ok(held) => held.as_slice() == image.bytes.as_slice(),
-        Err(_) => false,
+        Ok(held) => same_bytes(rt, held.as_slice(), image.bytes.as_slice()),
+        Err(e) => failed_by(rt, &e),
     }
 }
 
 /// Whether it is as long as that, and takes few blocks.
 fn is_sparse(rt: &HostRuntime, path: &str, image: &Image) -> bool {
     match fs::metadata(rt, path) {
-        Ok(about) => about.len() == image.bytes.len() && about.blocks() <= FEW,
-        Err(_) => false,
+        Ok(about) => same(rt, &about.len(), &image.bytes.len())
+            && holds(rt, "it takes few blocks", about.blocks() <= FEW),
+        Err(e) => failed_by(rt, &e),
     }
 }
 
 /// Whether a file is as it should be.
 fn is_left(rt: &HostRuntime, path: &str, image: &Image, look: Look) -> bool {
     match look {
-        Look::Holds => holds(rt, path, image),
+        Look::Holds => has_bytes(rt, path, image),
         Look::Sparse => is_sparse(rt, path, image),
     }
 }
@@ -58,19 +59,19 @@ fn is_left(rt: &HostRuntime, path: &str, image: &Image, look: Look) -> bool {
 /// Whether a row's update of the file of a name ends, which has the bytes of an image; that gets
 /// the bytes that the file is to have.
 fn is_updated<F: Files>(
-    alloc: Global,
+    rt: &HostRuntime,
     files: &mut F,
     path: &str,
     row: &Row,
     image: &mut Image,
 ) -> bool {
-    match files.edit(alloc, path) {
+    match files.edit(rt.alloc(), path) {
         Ok(file) => {
-            let (file, updated) = done_over(alloc, &Task::Ends(*row), file, image);
+            let (file, updated) = done_over(rt, &Task::Ends(*row), file, image);
             files.close(path, file);
             updated
         }
-        Err(_) => false,
+        Err(e) => failed_by(rt, &e),
     }
 }
 
@@ -84,7 +85,7 @@ fn is_left_by<F: Files>(
     look: Look,
 ) -> bool {
     fs::write(rt, path, image.bytes.as_slice()).is_ok()
-        && is_updated(rt.alloc(), files, path, row, image)
+        && is_updated(rt, files, path, row, image)
         && is_left(rt, path, image, look)
         && fs::remove_file(rt, path).is_ok()
 }
@@ -93,7 +94,7 @@ fn is_left_by<F: Files>(
 fn is_row<F: Files>(rt: &HostRuntime, files: &mut F, path: &str, row: &Row, look: Look) -> bool {
     match image_of(rt.alloc(), &SECTIONS) {
         Ok(mut image) => is_left_by(rt, files, path, row, &mut image, look),
-        Err(_) => false,
+        Err(e) => failed(rt, e),
     }
 }
 
@@ -105,8 +106,8 @@ fn are_rows<F: Files>(
     rows: &[Row],
     look: Look,
 ) -> bool {
-    for row in rows {
-        if !is_row(rt, files, path, row, look) {
+    for (n, row) in rows.iter().enumerate() {
+        if !in_row(rt, n, is_row(rt, files, path, row, look)) {
             return false;
         }
     }
@@ -123,7 +124,7 @@ fn are_rows_at(rt: &HostRuntime, path: &str, rows: &[Row], look: Look) -> bool {
             rows,
             look,
         ),
-        Err(_) => false,
+        Err(e) => failed_by(rt, &e),
     }
 }
 

@@ -9,54 +9,61 @@ use elf_types::ElfError;
 use std::alloc::Global;
 use test_descriptors::{Setting, all_agree, is_done_in};
 use test_images::{Image, WIDE};
+use test_rows::{in_row, same, within};
 use update_in_place::update_in_place;
 
 /// Whether an update fails to read.
-fn fails<D: Device>(elf: &mut Elf<D>) -> bool {
-    update_in_place(elf) == Err(ElfError::Read)
+fn fails<D: Device>(rt: &HostRuntime, elf: &mut Elf<D>) -> bool {
+    same(rt, &update_in_place(elf), &Err(ElfError::Read))
 }
 
 /// Whether an update that fails leaves the object as another one whose places are stored, marks
 /// included, and the next one ends.
 fn is_repeated<D: Device, F: Source>(
+    rt: &HostRuntime,
     elf: &mut Elf<D>,
     fresh: &mut Elf<F>,
     image: &mut Image,
     edits: &[Edit],
 ) -> bool {
-    expect(fresh, edits, image) && fails(elf) && all_agree(elf, fresh) && ends(elf, image)
+    expect(rt, fresh, edits, image)
+        && fails(rt, elf)
+        && all_agree(rt, elf, fresh)
+        && ends(rt, elf, image)
 }
 
 /// Whether an update after edits fails to read, and can be done again where that is asked.
 pub fn fails_to_read<D: Device, F: Source>(
+    rt: &HostRuntime,
     elf: &mut Elf<D>,
     fresh: &mut Elf<F>,
     image: &mut Image,
     edits: &[Edit],
     again: bool,
 ) -> bool {
-    if !are_made(elf, edits) {
+    if !are_made(rt, elf, edits) {
         return false;
     }
     if again {
-        return is_repeated(elf, fresh, image, edits);
+        return is_repeated(rt, elf, fresh, image, edits);
     }
-    fails(elf)
+    fails(rt, elf)
 }
 
 /// Whether the update of a row fails by its read with this number, and is done again or not. Three
 /// reads are those of the front, and then come those of the edits.
-fn is_unread(alloc: Global, setting: &Setting, row: &Row, read: u64, again: bool) -> bool {
+fn is_unread(rt: &HostRuntime, setting: &Setting, row: &Row, read: u64, again: bool) -> bool {
     let bad = row.loads.saturating_add(read).saturating_add(3);
-    is_done_in(alloc, setting, WIDE, &Task::Unread(*row, bad, again))
+    is_done_in(rt, setting, WIDE, &Task::Unread(*row, bad, again))
 }
 
 /// Whether the update of each row does by each of its reads.
-fn are_unread(alloc: Global, setting: &Setting, rows: &[Row]) -> bool {
-    for row in rows {
+fn are_unread(rt: &HostRuntime, setting: &Setting, rows: &[Row]) -> bool {
+    for (n, row) in rows.iter().enumerate() {
         for read in 1..row.reads.saturating_add(1) {
-            let left = is_unread(alloc, setting, row, read, false);
-            if !left || !is_unread(alloc, setting, row, read, true) {
+            let left = is_unread(rt, setting, row, read, false)
+                && is_unread(rt, setting, row, read, true);
+            if !in_row(rt, n, within(rt, &read, left)) {
                 return false;
             }
         }
@@ -65,10 +72,10 @@ fn are_unread(alloc: Global, setting: &Setting, rows: &[Row]) -> bool {
 }
 
 /// Whether those of all objects do.
-fn all_are_unread(alloc: Global) -> bool {
+fn all_are_unread(rt: &HostRuntime) -> bool {
     for which in ALL.iter() {
         let made = table(*which);
-        if !are_unread(alloc, &made.setting, made.rows) {
+        if !are_unread(rt, &made.setting, made.rows) {
             return false;
         }
     }
@@ -77,5 +84,5 @@ fn all_are_unread(alloc: Global) -> bool {
 
 #[test]
 fn an_update_that_fails_to_read_leaves_the_device(rt: HostRuntime) {
-    assert!(rt; all_are_unread(rt.alloc()));
+    assert!(rt; all_are_unread(&rt));
 }

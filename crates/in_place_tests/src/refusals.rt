@@ -6,20 +6,21 @@ use crate::tasks::Task;
 use elf_descriptor::Elf;
 use elf_outside::{Device, Source};
 use elf_types::{ElfError, Part};
-use std::alloc::Global;
 use test_descriptors::{Setting, all_agree, is_done_in};
 use test_images::WIDE;
+use test_rows::{in_row, same};
 use update_in_place::update_in_place;
 
 /// Whether an update after edits is refused, and leaves the object as another one after them.
 pub fn is_refused<D: Device, F: Source>(
+    rt: &HostRuntime,
     elf: &mut Elf<D>,
     fresh: &mut Elf<F>,
     edits: &[Edit],
     by: ElfError,
 ) -> bool {
-    let stated = are_made(elf, edits) && are_made(fresh, edits);
-    stated && update_in_place(elf) == Err(by) && all_agree(elf, fresh)
+    let stated = are_made(rt, elf, edits) && are_made(rt, fresh, edits);
+    stated && same(rt, &update_in_place(elf), &Err(by)) && all_agree(rt, elf, fresh)
 }
 
 /// Sections that share a place with the header and with one another, and one that ends past the
@@ -43,9 +44,9 @@ static REFUSALS: [Task; 3] = [
 ];
 
 /// Whether each is refused.
-fn are_refused(alloc: Global, setting: &Setting, refusals: &[Task]) -> bool {
-    for refused in refusals {
-        if !is_done_in(alloc, setting, WIDE, refused) {
+fn are_refused(rt: &HostRuntime, setting: &Setting, refusals: &[Task]) -> bool {
+    for (n, refused) in refusals.iter().enumerate() {
+        if !in_row(rt, n, is_done_in(rt, setting, WIDE, refused)) {
             return false;
         }
     }
@@ -54,5 +55,5 @@ fn are_refused(alloc: Global, setting: &Setting, refusals: &[Task]) -> bool {
 
 #[test]
 fn a_refused_update_leaves_the_device(rt: HostRuntime) {
-    assert!(rt; are_refused(rt.alloc(), &table(Which::Five).setting, &REFUSALS));
+    assert!(rt; are_refused(&rt, &table(Which::Five).setting, &REFUSALS));
 }

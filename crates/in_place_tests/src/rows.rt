@@ -8,6 +8,7 @@ use elf_types::{Addrs, Octets};
 use elf_update::{update_null, update_to};
 use test_descriptors::Setting;
 use test_images::{Field, Image, OBJECT, Put, Recipe, SectionField, Start};
+use test_rows::{same, same_bytes};
 use update_in_place::update_in_place;
 
 /// Room for the images of small objects, and for those of long ones.
@@ -430,9 +431,9 @@ pub fn image_of<S: Source>(elf: &mut Elf<S>) -> Option<Octets> {
 }
 
 /// Whether an object has this image.
-pub fn has_image<S: Source>(elf: &mut Elf<S>, image: &Image) -> bool {
+pub fn has_image<S: Source>(rt: &HostRuntime, elf: &mut Elf<S>, image: &Image) -> bool {
     match image_of(elf) {
-        Some(bytes) => bytes.as_slice() == image.bytes.as_slice(),
+        Some(bytes) => same_bytes(rt, bytes.as_slice(), image.bytes.as_slice()),
         None => false,
     }
 }
@@ -449,11 +450,16 @@ pub fn expect_image<S: Source>(elf: &mut Elf<S>, image: &mut Image) -> bool {
 }
 
 /// Makes edits of a descriptor, and takes its image for what the device is to hold.
-pub fn expect<S: Source>(fresh: &mut Elf<S>, edits: &[Edit], image: &mut Image) -> bool {
-    are_made(fresh, edits) && expect_image(fresh, image)
+pub fn expect<S: Source>(
+    rt: &HostRuntime,
+    fresh: &mut Elf<S>,
+    edits: &[Edit],
+    image: &mut Image,
+) -> bool {
+    are_made(rt, fresh, edits) && expect_image(fresh, image)
 }
 
 /// Whether an update in place ends, answers the length of the image, and leaves nothing dirty.
-pub fn ends<D: Device>(elf: &mut Elf<D>, image: &Image) -> bool {
-    update_in_place(elf) == Ok(image.bytes.len()) && !elf.dirty()
+pub fn ends<D: Device>(rt: &HostRuntime, elf: &mut Elf<D>, image: &Image) -> bool {
+    same(rt, &update_in_place(elf), &Ok(image.bytes.len())) && !elf.dirty()
 }

@@ -13,6 +13,7 @@ use elf_outside::{Device, Source};
 use elf_types::ElfError;
 use test_descriptors::{Bad, NONE, Work};
 use test_images::Image;
+use test_rows::same_bytes;
 
 /// What is done.
 #[derive(Clone, Copy)]
@@ -42,12 +43,16 @@ fn with_bad_writes(writes: [u64; 3]) -> Bad {
 
 /// Whether an update ends, and then one that has nothing to do.
 fn ends_twice<D: Device, F: Source>(
+    rt: &HostRuntime,
     elf: &mut Elf<D>,
     fresh: &mut Elf<F>,
     image: &mut Image,
     edits: &[Edit],
 ) -> bool {
-    expect(fresh, edits, image) && are_made(elf, edits) && ends(elf, image) && ends(elf, image)
+    expect(rt, fresh, edits, image)
+        && are_made(rt, elf, edits)
+        && ends(rt, elf, image)
+        && ends(rt, elf, image)
 }
 
 impl Work for Task {
@@ -79,6 +84,7 @@ impl Work for Task {
 
     fn is_done<D: Device, F: Source>(
         &self,
+        rt: &HostRuntime,
         elf: &mut Elf<D>,
         fresh: &mut Elf<F>,
         image: &mut Image,
@@ -86,21 +92,21 @@ impl Work for Task {
         requires { length elf.old.room ≡ length elf.old.o.sections }
     {
         match *self {
-            Task::Ends(row) => ends_twice(elf, fresh, image, row.edits),
-            Task::Twice(first, second) => is_written_twice(elf, fresh, image, first, second),
-            Task::Left => ends(elf, image),
-            Task::Grows => grows(elf, image),
-            Task::Repeated(repeated) => repeated.is_done(elf, fresh, image),
-            Task::Torn(row, _) => is_torn(elf, fresh, image, row.edits),
-            Task::Unread(row, _, again) => fails_to_read(elf, fresh, image, row.edits, again),
-            Task::Refused(edits, by) => is_refused(elf, fresh, edits, by),
+            Task::Ends(row) => ends_twice(rt, elf, fresh, image, row.edits),
+            Task::Twice(first, second) => is_written_twice(rt, elf, fresh, image, first, second),
+            Task::Left => ends(rt, elf, image),
+            Task::Grows => grows(rt, elf, image),
+            Task::Repeated(repeated) => repeated.is_done(rt, elf, fresh, image),
+            Task::Torn(row, _) => is_torn(rt, elf, fresh, image, row.edits),
+            Task::Unread(row, _, again) => fails_to_read(rt, elf, fresh, image, row.edits, again),
+            Task::Refused(edits, by) => is_refused(rt, elf, fresh, edits, by),
         }
     }
 
-    fn may_leave(&self, held: &[u8], old: &[u8], new: &[u8]) -> bool {
+    fn may_leave(&self, rt: &HostRuntime, held: &[u8], old: &[u8], new: &[u8]) -> bool {
         match *self {
-            Task::Torn(..) => leaves_old_or_new(held, old, new),
-            _ => held == new,
+            Task::Torn(..) => leaves_old_or_new(rt, held, old, new),
+            _ => same_bytes(rt, held, new),
         }
     }
 }

@@ -11,6 +11,7 @@ use elf_types::constants::{SHT_NOTE, SHT_PROGBITS};
 use std::alloc::Global;
 use test_descriptors::{Setting, all_but_marks_agree, is_done_by, is_done_in};
 use test_images::{Image, WIDE};
+use test_rows::{in_row, other, same, within};
 use update_in_place::update_in_place;
 
 /// Updates of which some fail, with edits after those, and one that ends.
@@ -33,20 +34,26 @@ pub struct Repeated {
 
 /// Whether an update fails to write, and the object answers as another one whose places are stored,
 /// and has its image.
-fn fails<D: Device, F: Source>(elf: &mut Elf<D>, fresh: &Elf<F>, image: &Image) -> bool {
-    let failed = update_in_place(elf) == Err(ElfError::Write);
-    failed && all_but_marks_agree(elf, fresh) && has_image(elf, image)
+fn fails<D: Device, F: Source>(
+    rt: &HostRuntime,
+    elf: &mut Elf<D>,
+    fresh: &Elf<F>,
+    image: &Image,
+) -> bool {
+    let fails = same(rt, &update_in_place(elf), &Err(ElfError::Write));
+    fails && all_but_marks_agree(rt, elf, fresh) && has_image(rt, elf, image)
 }
 
 /// Whether so many updates fail.
 fn all_fail<D: Device, F: Source>(
+    rt: &HostRuntime,
     elf: &mut Elf<D>,
     fresh: &Elf<F>,
     image: &Image,
     count: u64,
 ) -> bool {
-    for _ in 0..count {
-        if !fails(elf, fresh, image) {
+    for number in 0..count {
+        if !within(rt, &number, fails(rt, elf, fresh, image)) {
             return false;
         }
     }
@@ -57,15 +64,16 @@ impl Repeated {
     /// Makes the edits after a failed update, and finds out what the device is to hold then.
     fn edit_again<D: Device, F: Source>(
         &self,
+        rt: &HostRuntime,
         elf: &mut Elf<D>,
         fresh: &mut Elf<F>,
         image: &mut Image,
     ) -> bool {
-        if !are_made(elf, self.then) {
+        if !are_made(rt, elf, self.then) {
             return false;
         }
         if self.alike {
-            return expect(fresh, self.then, image) && has_image(elf, image);
+            return expect(rt, fresh, self.then, image) && has_image(rt, elf, image);
         }
         expect_image(elf, image)
     }
@@ -73,22 +81,29 @@ impl Repeated {
     /// Whether the updates fail and end so.
     pub fn is_done<D: Device, F: Source>(
         &self,
+        rt: &HostRuntime,
         elf: &mut Elf<D>,
         fresh: &mut Elf<F>,
         image: &mut Image,
     ) -> bool {
-        expect(fresh, self.edits, image)
-            && are_made(elf, self.edits)
-            && all_fail(elf, fresh, image, self.fails)
-            && self.edit_again(elf, fresh, image)
-            && all_fail(elf, fresh, image, self.more)
-            && ends(elf, image)
-            && ends(elf, image)
+        expect(rt, fresh, self.edits, image)
+            && are_made(rt, elf, self.edits)
+            && all_fail(rt, elf, fresh, image, self.fails)
+            && self.edit_again(rt, elf, fresh, image)
+            && all_fail(rt, elf, fresh, image, self.more)
+            && ends(rt, elf, image)
+            && ends(rt, elf, image)
     }
 }
 
 /// Whether updates of an object fail by these writes, so many, and the next one ends.
-fn is_repeated(alloc: Global, setting: &Setting, row: &Row, writes: [u64; 3], fails: u64) -> bool {
+fn is_repeated(
+    rt: &HostRuntime,
+    setting: &Setting,
+    row: &Row,
+    writes: [u64; 3],
+    fails: u64,
+) -> bool {
     let work = Repeated {
         edits: row.edits,
         writes,
@@ -97,37 +112,37 @@ fn is_repeated(alloc: Global, setting: &Setting, row: &Row, writes: [u64; 3], fa
         more: 0,
         alike: true,
     };
-    is_done_by(alloc, setting, WIDE, &Task::Repeated(work), fails == 2)
+    is_done_by(rt, setting, WIDE, &Task::Repeated(work), fails == 2)
 }
 
 /// Whether an update whose write with this number fails can be repeated, also where one more fails,
 /// by its first write, and where two more do: by each of their writes, after the first and the last
 /// one of the update.
-fn is_repeated_after(alloc: Global, setting: &Setting, row: &Row, bad: u64) -> bool {
+fn is_repeated_after(rt: &HostRuntime, setting: &Setting, row: &Row, bad: u64) -> bool {
     for step in 1..row.again.saturating_add(1) {
         let second = bad.saturating_add(step);
         let third = second.saturating_add(step);
         let tried = bad == 1 || bad == row.writes || bad == step;
-        if tried && !is_repeated(alloc, setting, row, [bad, second, third], 3) {
+        if tried && !is_repeated(rt, setting, row, [bad, second, third], 3) {
             return false;
         }
     }
     let next = bad.saturating_add(1);
-    is_repeated(alloc, setting, row, [bad, 0, 0], 1)
-        && is_repeated(alloc, setting, row, [bad, next, 0], 2)
+    is_repeated(rt, setting, row, [bad, 0, 0], 1)
+        && is_repeated(rt, setting, row, [bad, next, 0], 2)
 }
 
 /// Whether the update of each row can be repeated after each of its writes failed, and makes no
 /// more.
-fn are_repeated(alloc: Global, setting: &Setting, rows: &[Row]) -> bool {
+fn are_repeated(rt: &HostRuntime, setting: &Setting, rows: &[Row]) -> bool {
     for row in rows {
         let writes = row.writes.saturating_add(1);
         for bad in 1..writes {
-            if !is_repeated_after(alloc, setting, row, bad) {
+            if !within(rt, &bad, is_repeated_after(rt, setting, row, bad)) {
                 return false;
             }
         }
-        if !is_repeated(alloc, setting, row, [writes, 0, 0], 0) {
+        if !is_repeated(rt, setting, row, [writes, 0, 0], 0) {
             return false;
         }
     }
@@ -135,10 +150,10 @@ fn are_repeated(alloc: Global, setting: &Setting, rows: &[Row]) -> bool {
 }
 
 /// Whether those of all objects can.
-fn all_are_repeated(alloc: Global) -> bool {
+fn all_are_repeated(rt: &HostRuntime) -> bool {
     for which in ALL.iter() {
         let made = table(*which);
-        if !are_repeated(alloc, &made.setting, made.rows) {
+        if !are_repeated(rt, &made.setting, made.rows) {
             return false;
         }
     }
@@ -147,7 +162,7 @@ fn all_are_repeated(alloc: Global) -> bool {
 
 #[test]
 fn an_update_that_fails_to_write_can_be_repeated(rt: HostRuntime) {
-    assert!(rt; all_are_repeated(rt.alloc()));
+    assert!(rt; all_are_repeated(&rt));
 }
 
 /// Edits after a failed update: the image gets shorter than the device, or longer, or as long, with
@@ -165,7 +180,7 @@ static NEXT: [&[Edit]; 7] = [
 /// Whether an object is edited after the write of its update with a number failed, and then
 /// written, where the first write of so many updates after the edits fails too.
 fn is_edited_after(
-    alloc: Global,
+    rt: &HostRuntime,
     setting: &Setting,
     row: &Row,
     bad: u64,
@@ -181,13 +196,13 @@ fn is_edited_after(
         more,
         alike,
     };
-    is_done_by(alloc, setting, WIDE, &Task::Repeated(work), false)
+    is_done_by(rt, setting, WIDE, &Task::Repeated(work), false)
 }
 
 /// Whether it is after each write of its update failed; after every second one an update fails once
 /// more.
 fn is_edited_between(
-    alloc: Global,
+    rt: &HostRuntime,
     setting: &Setting,
     row: &Row,
     then: &'static [Edit],
@@ -195,7 +210,11 @@ fn is_edited_between(
 ) -> bool {
     for bad in 1..row.writes.saturating_add(1) {
         let more = if alike { bad % 2 } else { 0 };
-        if !is_edited_after(alloc, setting, row, bad, then, more, alike) {
+        if !within(
+            rt,
+            &bad,
+            is_edited_after(rt, setting, row, bad, then, more, alike),
+        ) {
             return false;
         }
     }
@@ -203,20 +222,25 @@ fn is_edited_between(
 }
 
 /// Whether an object is, by each of these edits, and by the flag of the caller's layout.
-fn is_edited_by_all(alloc: Global, setting: &Setting, row: &Row, next: &[&'static [Edit]]) -> bool {
-    for then in next {
-        if !is_edited_between(alloc, setting, row, then, true) {
+fn is_edited_by_all(
+    rt: &HostRuntime,
+    setting: &Setting,
+    row: &Row,
+    next: &[&'static [Edit]],
+) -> bool {
+    for (n, then) in next.iter().enumerate() {
+        if !in_row(rt, n, is_edited_between(rt, setting, row, then, true)) {
             return false;
         }
     }
-    is_edited_between(alloc, setting, row, &[Edit::Layout], false)
+    is_edited_between(rt, setting, row, &[Edit::Layout], false)
 }
 
 /// Whether each object of a table is.
-fn are_edited_between(alloc: Global, which: Which, next: &[&'static [Edit]]) -> bool {
+fn are_edited_between(rt: &HostRuntime, which: Which, next: &[&'static [Edit]]) -> bool {
     let made = table(which);
-    for row in made.rows {
-        if !is_edited_by_all(alloc, &made.setting, row, next) {
+    for (n, row) in made.rows.iter().enumerate() {
+        if !in_row(rt, n, is_edited_by_all(rt, &made.setting, row, next)) {
             return false;
         }
     }
@@ -224,10 +248,14 @@ fn are_edited_between(alloc: Global, which: Which, next: &[&'static [Edit]]) -> 
 }
 
 /// Whether each object under the caller's layout is, by another entry point.
-fn are_laid_between(alloc: Global) -> bool {
+fn are_laid_between(rt: &HostRuntime) -> bool {
     let laid = table(Which::Laid);
-    for row in laid.rows {
-        if !is_edited_between(alloc, &laid.setting, row, &[Edit::Entry(9)], false) {
+    for (n, row) in laid.rows.iter().enumerate() {
+        if !in_row(
+            rt,
+            n,
+            is_edited_between(rt, &laid.setting, row, &[Edit::Entry(9)], false),
+        ) {
             return false;
         }
     }
@@ -236,8 +264,8 @@ fn are_laid_between(alloc: Global) -> bool {
 
 #[test]
 fn an_object_is_edited_between_two_updates(rt: HostRuntime) {
-    assert!(rt; are_edited_between(rt.alloc(), Which::Five, &NEXT));
-    assert!(rt; are_laid_between(rt.alloc()));
+    assert!(rt; are_edited_between(&rt, Which::Five, &NEXT));
+    assert!(rt; are_laid_between(&rt));
 }
 
 /// Zeros in place of another fill byte, which a failed update may have put behind the base.
@@ -245,19 +273,20 @@ static ZEROS: [&[Edit]; 1] = [&[Edit::Fill(0)]];
 
 #[test]
 fn what_a_failed_update_put_behind_the_base_is_written_over(rt: HostRuntime) {
-    assert!(rt; are_edited_between(rt.alloc(), Which::Gaps, &ZEROS));
+    assert!(rt; are_edited_between(&rt, Which::Gaps, &ZEROS));
 }
 
 /// Whether an update after edits fails to write.
 pub fn is_torn<D: Device, F: Source>(
+    rt: &HostRuntime,
     elf: &mut Elf<D>,
     fresh: &mut Elf<F>,
     image: &mut Image,
     edits: &[Edit],
 ) -> bool {
-    expect(fresh, edits, image)
-        && are_made(elf, edits)
-        && update_in_place(elf) == Err(ElfError::Write)
+    expect(rt, fresh, edits, image)
+        && are_made(rt, elf, edits)
+        && same(rt, &update_in_place(elf), &Err(ElfError::Write))
 }
 
 /// Whether a byte is that of its place, or what is said where that is past the end.
@@ -269,24 +298,25 @@ fn is_at(byte: u8, there: Option<&u8>, past: bool) -> bool {
 }
 
 /// Whether each byte that is held is an old one or a new one.
-pub fn leaves_old_or_new(held: &[u8], old: &[u8], new: &[u8]) -> bool {
+pub fn leaves_old_or_new(rt: &HostRuntime, held: &[u8], old: &[u8], new: &[u8]) -> bool {
     if held.len() != old.len() && held.len() != new.len() {
-        return false;
+        return other(rt, &held.len(), "the length before or after");
     }
     for (i, byte) in held.iter().enumerate() {
         let is_old = is_at(*byte, old.get(i), *byte == 0);
         if !is_old && !is_at(*byte, new.get(i), false) {
-            return false;
+            return other(rt, &(i, *byte), "an old byte or a new one there");
         }
     }
     true
 }
 
 /// Whether it is so where a write fails, by each of the writes.
-fn are_torn(alloc: Global, setting: &Setting, rows: &[Row]) -> bool {
-    for row in rows {
+fn are_torn(rt: &HostRuntime, setting: &Setting, rows: &[Row]) -> bool {
+    for (n, row) in rows.iter().enumerate() {
         for bad in 1..row.writes.saturating_add(1) {
-            if !is_done_in(alloc, setting, WIDE, &Task::Torn(*row, bad)) {
+            let torn = is_done_in(rt, setting, WIDE, &Task::Torn(*row, bad));
+            if !in_row(rt, n, within(rt, &bad, torn)) {
                 return false;
             }
         }
@@ -295,10 +325,10 @@ fn are_torn(alloc: Global, setting: &Setting, rows: &[Row]) -> bool {
 }
 
 /// Whether it is of all objects.
-fn all_are_torn(alloc: Global) -> bool {
+fn all_are_torn(rt: &HostRuntime) -> bool {
     for which in ALL.iter() {
         let made = table(*which);
-        if !are_torn(alloc, &made.setting, made.rows) {
+        if !are_torn(rt, &made.setting, made.rows) {
             return false;
         }
     }
@@ -307,5 +337,5 @@ fn all_are_torn(alloc: Global) -> bool {
 
 #[test]
 fn a_write_that_fails_leaves_old_or_new_bytes(rt: HostRuntime) {
-    assert!(rt; all_are_torn(rt.alloc()));
+    assert!(rt; all_are_torn(&rt));
 }

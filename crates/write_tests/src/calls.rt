@@ -93,7 +93,7 @@ static WRITTEN: [Case; 5] = [
 
 #[test]
 fn the_image_that_the_calls_leave_is_written(rt: HostRuntime) {
-    assert!(rt; are_so(rt.alloc(), &OLD, &WRITTEN));
+    assert!(rt; are_so(&rt, &OLD, &WRITTEN));
 }
 
 /// Scripts whose update is refused: two parts share a byte, the image gets too large, and a section
@@ -132,7 +132,7 @@ static UNWRITTEN: [Case; 3] = [
 
 #[test]
 fn a_refused_update_makes_no_file(rt: HostRuntime) {
-    assert!(rt; are_so(rt.alloc(), &OLD, &UNWRITTEN));
+    assert!(rt; are_so(&rt, &OLD, &UNWRITTEN));
 }
 
 /// Words, files that are no script or no image, and the message.
@@ -199,7 +199,7 @@ static COMPLAINTS: [Case; 6] = [
 
 #[test]
 fn without_calls_or_an_image_no_file_is_made(rt: HostRuntime) {
-    assert!(rt; are_so(rt.alloc(), &OLD, &COMPLAINTS));
+    assert!(rt; are_so(&rt, &OLD, &COMPLAINTS));
 }
 
 /// A script that sets the other value.
@@ -274,7 +274,7 @@ static FAULTS: [Case; 6] = [
 
 #[test]
 fn a_call_that_fails_leaves_the_old_file_or_a_front(rt: HostRuntime) {
-    assert!(rt; are_so(rt.alloc(), &OLD, &FAULTS));
+    assert!(rt; are_so(&rt, &OLD, &FAULTS));
 }
 
 /// A run that writes the other value.
@@ -308,5 +308,5 @@ static UNREAD: [Outcome; 2] = [
 
 #[test]
 fn a_read_that_fails_leaves_the_old_file_or_a_front(rt: HostRuntime) {
-    assert!(rt; fail_so(rt.alloc(), &OLD, &MADE, &Call::Read("F"), 8, &UNREAD));
+    assert!(rt; fail_so(&rt, &OLD, &MADE, &Call::Read("F"), 8, &UNREAD));
 }

@@ -80,7 +80,7 @@ static MADE: [Case; 6] = [
 
 #[test]
 fn changes_make_the_stated_image(rt: HostRuntime) {
-    assert!(rt; are_so(rt.alloc(), &BESIDE, &MADE));
+    assert!(rt; are_so(&rt, &BESIDE, &MADE));
 }
 
 // ---- Messages
@@ -251,7 +251,7 @@ static REFUSALS: [Case; 19] = [
 
 #[test]
 fn what_is_refused_makes_no_file(rt: HostRuntime) {
-    assert!(rt; are_so(rt.alloc(), &BESIDE, &REFUSALS));
+    assert!(rt; are_so(&rt, &BESIDE, &REFUSALS));
 }
 
 /// The usage line of copy.
@@ -282,7 +282,7 @@ static SAME_WORDS: [Case; 3] = [
 
 #[test]
 fn the_output_is_no_file_that_is_read(rt: HostRuntime) {
-    assert!(rt; are_so(rt.alloc(), &BESIDE, &SAME_WORDS));
+    assert!(rt; are_so(&rt, &BESIDE, &SAME_WORDS));
 }
 
 // ---- Stops
@@ -347,7 +347,7 @@ static FAULTS: [Case; 5] = [
 
 #[test]
 fn a_call_that_fails_leaves_the_old_file_or_a_front(rt: HostRuntime) {
-    assert!(rt; are_so(rt.alloc(), &BESIDE, &FAULTS));
+    assert!(rt; are_so(&rt, &BESIDE, &FAULTS));
 }
 
 /// A run over that object, whose new file has the section.
@@ -389,15 +389,6 @@ static BEFORE: [Outcome; 1] = [Outcome {
 
 #[test]
 fn a_read_that_fails_leaves_the_old_file(rt: HostRuntime) {
-    assert!(rt; are_so(rt.alloc(), &BESIDE, &BYTES));
-    assert!(rt;
-        fail_so(
-            rt.alloc(),
-            &BESIDE,
-            &WITH_SECTION,
-            &Call::Read("F"),
-            9,
-            &BEFORE
-        )
-    );
+    assert!(rt; are_so(&rt, &BESIDE, &BYTES));
+    assert!(rt; fail_so(&rt, &BESIDE, &WITH_SECTION, &Call::Read("F"), 9, &BEFORE));
 }

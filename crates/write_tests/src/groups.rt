@@ -122,7 +122,7 @@ static MADE: [Case; 2] = [
 
 #[test]
 fn a_group_keeps_the_members_that_stay(rt: HostRuntime) {
-    assert!(rt; are_so(rt.alloc(), &OLD, &MADE));
+    assert!(rt; are_so(&rt, &OLD, &MADE));
 }
 
 /// A group that is no whole number of words.
@@ -141,5 +141,5 @@ static RAGGED: Case = Case {
 
 #[test]
 fn a_ragged_group_makes_no_file(rt: HostRuntime) {
-    assert!(rt; is_so(rt.alloc(), &OLD, &RAGGED));
+    assert!(rt; is_so(&rt, &OLD, &RAGGED));
 }

@@ -228,10 +228,10 @@ static PLACING: [Case; 3] = [MOVED, ADDED, FILLED];
 
 #[test]
 fn what_is_not_edited_stands_in_the_image(rt: HostRuntime) {
-    assert!(rt; are_so(rt.alloc(), &OLD, &KEEPING));
+    assert!(rt; are_so(&rt, &OLD, &KEEPING));
 }
 
 #[test]
 fn parts_stand_in_the_image_where_they_are_placed(rt: HostRuntime) {
-    assert!(rt; are_so(rt.alloc(), &OLD, &PLACING));
+    assert!(rt; are_so(&rt, &OLD, &PLACING));
 }

@@ -179,7 +179,7 @@ static WHOLE: [Case; 6] = [
 
 #[test]
 fn what_was_split_is_joined(rt: HostRuntime) {
-    assert!(rt; are_so(rt.alloc(), &OLD, &WHOLE));
+    assert!(rt; are_so(&rt, &OLD, &WHOLE));
 }
 
 // ---- Messages
@@ -231,7 +231,7 @@ static UNOPENED: [Case; 5] = [
 
 #[test]
 fn the_first_file_that_is_missing_or_no_image_has_the_message(rt: HostRuntime) {
-    assert!(rt; are_so(rt.alloc(), &OLD, &UNOPENED));
+    assert!(rt; are_so(&rt, &OLD, &UNOPENED));
 }
 
 /// The object whose symbols are allocated.
@@ -309,7 +309,7 @@ static UNJOINED: [Case; 7] = [
 
 #[test]
 fn what_is_not_joined_makes_no_file(rt: HostRuntime) {
-    assert!(rt; are_so(rt.alloc(), &OLD, &UNJOINED));
+    assert!(rt; are_so(&rt, &OLD, &UNJOINED));
 }
 
 /// The usage line of unstrip.
@@ -340,7 +340,7 @@ static SAME_NAMES: [Case; 3] = [
 
 #[test]
 fn no_two_names_are_the_same_word(rt: HostRuntime) {
-    assert!(rt; are_so(rt.alloc(), &OLD, &SAME_NAMES));
+    assert!(rt; are_so(&rt, &OLD, &SAME_NAMES));
 }
 
 // ---- Calls that fail
@@ -405,8 +405,8 @@ static FRONT: [Outcome; 1] = [Outcome {
 
 #[test]
 fn a_call_that_fails_leaves_the_old_file_or_a_front(rt: HostRuntime) {
-    assert!(rt; are_so(rt.alloc(), &OLD, &FAULTS));
-    assert!(rt; fail_so(rt.alloc(), &OLD, &JOINING, &Call::Made, 1, &FRONT));
+    assert!(rt; are_so(&rt, &OLD, &FAULTS));
+    assert!(rt; fail_so(&rt, &OLD, &JOINING, &Call::Made, 1, &FRONT));
 }
 
 /// A run that joins the halves of the object whose data is loaded, of which reads fail.
@@ -433,24 +433,6 @@ static HALF_UNREAD: [Outcome; 2] = [
 
 #[test]
 fn a_read_of_a_half_that_fails_leaves_the_old_file_or_a_front(rt: HostRuntime) {
-    assert!(rt;
-        fail_so(
-            rt.alloc(),
-            &OLD,
-            &COPYING,
-            &Call::Read("O"),
-            6,
-            &HALF_UNREAD
-        )
-    );
-    assert!(rt;
-        fail_so(
-            rt.alloc(),
-            &OLD,
-            &COPYING,
-            &Call::Read("D"),
-            6,
-            &HALF_UNREAD
-        )
-    );
+    assert!(rt; fail_so(&rt, &OLD, &COPYING, &Call::Read("O"), 6, &HALF_UNREAD));
+    assert!(rt; fail_so(&rt, &OLD, &COPYING, &Call::Read("D"), 6, &HALF_UNREAD));
 }

@@ -34,7 +34,7 @@ static UNBUILT: Case = Case {
 
 #[test]
 fn an_image_without_dynamic_symbols_has_no_dynamic_hash(rt: HostRuntime) {
-    assert!(rt; is_so(rt.alloc(), &OLD, &UNBUILT));
+    assert!(rt; is_so(&rt, &OLD, &UNBUILT));
 }
 
 /// A file that is not there, and one that is no image.
@@ -59,7 +59,7 @@ static NO_IMAGE: [Case; 2] = [
 
 #[test]
 fn a_file_that_is_not_there_and_one_that_is_no_image_are_refused(rt: HostRuntime) {
-    assert!(rt; are_so(rt.alloc(), &OLD, &NO_IMAGE));
+    assert!(rt; are_so(&rt, &OLD, &NO_IMAGE));
 }
 
 // ---- An object
@@ -215,7 +215,7 @@ static BUILT: [Case; 2] = [
 
 #[test]
 fn hash_sections_and_relocations_of_an_object_are_built_anew(rt: HostRuntime) {
-    assert!(rt; are_so(rt.alloc(), &OLD, &BUILT));
+    assert!(rt; are_so(&rt, &OLD, &BUILT));
 }
 
 // ---- Refusals of the steps
@@ -268,7 +268,7 @@ static UNMADE: [Case; 2] = [
 
 #[test]
 fn a_refused_step_is_told_and_makes_no_file(rt: HostRuntime) {
-    assert!(rt; are_so(rt.alloc(), &OLD, &UNMADE));
+    assert!(rt; are_so(&rt, &OLD, &UNMADE));
 }
 
 // ---- A program
@@ -333,7 +333,7 @@ static IN_PLACE: Case = Case {
 
 #[test]
 fn the_parts_of_a_program_stay_where_they_are(rt: HostRuntime) {
-    assert!(rt; is_so(rt.alloc(), &OLD, &IN_PLACE));
+    assert!(rt; is_so(&rt, &OLD, &IN_PLACE));
 }
 
 /// The shorter one, of which nothing is.
@@ -348,5 +348,5 @@ static TOO_LONG: Case = Case {
 
 #[test]
 fn a_section_of_a_program_that_grows_into_another_part_is_refused(rt: HostRuntime) {
-    assert!(rt; is_so(rt.alloc(), &OLD, &TOO_LONG));
+    assert!(rt; is_so(&rt, &OLD, &TOO_LONG));
 }

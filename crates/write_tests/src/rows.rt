@@ -5,7 +5,8 @@ use elf_types::{ElfError, Shdr, Sym, Syms, Words};
 use elf_xlate::Items;
 use std::alloc::Global;
 use test_images::{Image, NULL_SECTION, Put, Recipe, Start, WIDE, image_of};
-use test_runs::{DONE, NOTHING, run_leaving};
+use test_rows::{failed, other};
+use test_runs::{DONE, NOTHING, run_leaving, same_file};
 
 /// How many symbols there are: those of two readings and of a part of a third.
 const COUNT: u32 = 5_000;
@@ -165,28 +166,28 @@ fn image_with(alloc: Global, recipe: &Recipe, left: bool, at: (u64, u64)) -> Opt
 }
 
 /// Whether strip leaves these bytes of an image.
-fn leaves(alloc: Global, given: &Image, made: &[u8]) -> bool {
-    match run_leaving(alloc, "strip -g -o O F", given, NOTHING, "O") {
+fn leaves(rt: &HostRuntime, given: &Image, made: &[u8]) -> bool {
+    match run_leaving(rt.alloc(), "strip -g -o O F", given, NOTHING, "O") {
         Ok(left) => match &left.held {
-            Some(held) => left.ran.is(&DONE) && held.as_slice() == made,
-            None => false,
+            Some(held) => left.ran.is(rt, &DONE) && same_file(rt, held.as_slice(), made),
+            None => other(rt, &"no file", "an image"),
         },
-        Err(_) => false,
+        Err(e) => failed(rt, e),
     }
 }
 
 /// Whether strip leaves the image that it should.
-fn is_left(alloc: Global) -> bool {
-    let Some(given) = image_with(alloc, &OBJECT, false, (456, 120_456)) else {
-        return false;
+fn is_left(rt: &HostRuntime) -> bool {
+    let Some(given) = image_with(rt.alloc(), &OBJECT, false, (456, 120_456)) else {
+        return other(rt, &"no memory", "the image that is given");
     };
-    match image_with(alloc, &LEFT, true, (72, 120_072)) {
-        Some(made) => leaves(alloc, &given, made.bytes.as_slice()),
-        None => false,
+    match image_with(rt.alloc(), &LEFT, true, (72, 120_072)) {
+        Some(made) => leaves(rt, &given, made.bytes.as_slice()),
+        None => other(rt, &"no memory", "the image that is left"),
     }
 }
 
 #[test]
 fn each_symbol_follows_in_a_table_of_many(rt: HostRuntime) {
-    assert!(rt; is_left(rt.alloc()));
+    assert!(rt; is_left(&rt));
 }

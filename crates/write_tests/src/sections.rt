@@ -2,9 +2,9 @@
 //! tell, and one more, where section 0 tells their number.
 
 use crate::calls::SCRIPTED;
-use std::alloc::Global;
 use test_cases::{Case, Portion, Stored, left_by};
 use test_images::{Recipe, Start, WIDE};
+use test_rows::{failed, holds, in_row, in_step, other, same};
 use test_runs::{Left, NOTHING, run_line};
 use tool_output::Status;
 
@@ -62,9 +62,14 @@ fn stand_at(bytes: &[u8], at: u64, wanted: &[u8]) -> bool {
 }
 
 /// Whether all do.
-fn all_stand(bytes: &[u8], places: &[(u64, &'static [u8])]) -> bool {
-    for (at, wanted) in places {
-        if !stand_at(bytes, *at, wanted) {
+fn all_stand(rt: &HostRuntime, bytes: &[u8], places: &[(u64, &'static [u8])]) -> bool {
+    for (n, (at, wanted)) in places.iter().enumerate() {
+        let so = holds(
+            rt,
+            "the bytes stand at their place",
+            stand_at(bytes, *at, wanted),
+        );
+        if !in_step(rt, n, so) {
             return false;
         }
     }
@@ -72,48 +77,57 @@ fn all_stand(bytes: &[u8], places: &[(u64, &'static [u8])]) -> bool {
 }
 
 /// Whether the run of a row ended so, and left such an image.
-fn is_made(left: &Left, row: &Row) -> bool {
+fn is_made(rt: &HostRuntime, left: &Left, row: &Row) -> bool {
     match &left.held {
         Some(bytes) => {
-            left.ran.status == Status::Done
-                && left.ran.out.as_slice().ends_with(row.said)
-                && bytes.len() == row.size
-                && all_stand(bytes.as_slice(), row.at)
+            same(rt, &left.ran.status, &Status::Done)
+                && holds(
+                    rt,
+                    "it says so",
+                    left.ran.out.as_slice().ends_with(row.said),
+                )
+                && same(rt, &bytes.len(), &row.size)
+                && all_stand(rt, bytes.as_slice(), row.at)
         }
-        None => false,
+        None => other(rt, &"no file", "an image"),
     }
 }
 
 /// Whether readelf shows such a header of the image.
-fn is_shown(alloc: Global, left: &Left, row: &Row) -> bool {
+fn is_shown(rt: &HostRuntime, left: &Left, row: &Row) -> bool {
     match &left.held {
-        Some(bytes) => match run_line(alloc, "readelf -h F", bytes, NOTHING) {
-            Ok(ran) => ran.status == Status::Done && ran.out.as_slice().ends_with(row.shown),
-            Err(_) => false,
+        Some(bytes) => match run_line(rt.alloc(), "readelf -h F", bytes, NOTHING) {
+            Ok(ran) => same(rt, &ran.status, &Status::Done)
+                && holds(
+                    rt,
+                    "readelf shows it",
+                    ran.out.as_slice().ends_with(row.shown),
+                ),
+            Err(e) => failed(rt, e),
         },
         None => false,
     }
 }
 
 /// Whether the image of a row is made, and shown again.
-fn is_so(alloc: Global, row: &Row) -> bool {
-    match left_by(alloc, &[], &row.case) {
-        Some(left) => is_made(&left, row) && is_shown(alloc, &left, row),
+fn is_so(rt: &HostRuntime, row: &Row) -> bool {
+    match left_by(rt, &[], &row.case) {
+        Some(left) => is_made(rt, &left, row) && is_shown(rt, &left, row),
         None => false,
     }
 }
 
-/// The index of the first row that is not so.
-fn first_wrong(alloc: Global, rows: &[Row]) -> Option<usize> {
-    for (i, row) in rows.iter().enumerate() {
-        if !is_so(alloc, row) {
-            return Some(i);
+/// Whether each row is so.
+fn are_so(rt: &HostRuntime, rows: &[Row]) -> bool {
+    for (n, row) in rows.iter().enumerate() {
+        if !in_row(rt, n, is_so(rt, row)) {
+            return false;
         }
     }
-    None
+    true
 }
 
 #[test]
 fn section_0_tells_how_many_sections_there_are_from_0xff00_on(rt: HostRuntime) {
-    assert_eq!(rt; first_wrong(rt.alloc(), &ROWS), None);
+    assert!(rt; are_so(&rt, &ROWS));
 }

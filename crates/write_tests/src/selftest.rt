@@ -7,6 +7,7 @@ use elf_types::{Addrs, ElfError, NULL_SECTION, Octets, Shdr, Sym};
 use std::alloc::Global;
 use test_cases::{Case, Held, RUN, Stored, are_so};
 use test_images::{Content, Put, Recipe, Start, WIDE};
+use test_rows::{failed, in_row, same};
 use test_runs::{DONE, Ending, Failing, Given, NOTHING, run_leaving};
 use tool_output::Status;
 
@@ -155,8 +156,8 @@ static AGAIN: [Case; 3] = [
 
 #[test]
 fn one_section_is_told_of_and_each_fault_has_its_status(rt: HostRuntime) {
-    assert!(rt; are_so(rt.alloc(), &[], &FIRST));
-    assert!(rt; are_so(rt.alloc(), &OLD, &AGAIN));
+    assert!(rt; are_so(&rt, &[], &FIRST));
+    assert!(rt; are_so(&rt, &OLD, &AGAIN));
 }
 
 /// No file, in a set of files in which each has room for eight megabytes.
@@ -188,26 +189,26 @@ static SIZES: [Size; 2] = [
 ];
 
 /// Whether a name holds so many bytes.
-fn has_length(held: &Option<Octets>, length: u64) -> bool {
+fn has_length(rt: &HostRuntime, held: &Option<Octets>, length: u64) -> bool {
     match held {
-        Some(bytes) => bytes.len() == length,
+        Some(bytes) => same(rt, &bytes.len(), &length),
         None => false,
     }
 }
 
 /// Whether a run of these words shows and leaves so much.
-fn is_size(alloc: Global, size: &Size) -> bool {
+fn is_size(rt: &HostRuntime, size: &Size) -> bool {
     let (line, out, length) = *size;
-    match run_leaving(alloc, line, &Roomy, NOTHING, "O") {
-        Ok(left) => left.ran.is(&Ending { out, ..DONE }) && has_length(&left.held, length),
-        Err(_) => false,
+    match run_leaving(rt.alloc(), line, &Roomy, NOTHING, "O") {
+        Ok(left) => left.ran.is(rt, &Ending { out, ..DONE }) && has_length(rt, &left.held, length),
+        Err(e) => failed(rt, e),
     }
 }
 
 /// Whether each run does.
-fn are_sizes(alloc: Global, sizes: &[Size]) -> bool {
-    for size in sizes {
-        if !is_size(alloc, size) {
+fn are_sizes(rt: &HostRuntime, sizes: &[Size]) -> bool {
+    for (n, size) in sizes.iter().enumerate() {
+        if !in_row(rt, n, is_size(rt, size)) {
             return false;
         }
     }
@@ -216,5 +217,5 @@ fn are_sizes(alloc: Global, sizes: &[Size]) -> bool {
 
 #[test]
 fn up_to_60000_sections_are_told_of(rt: HostRuntime) {
-    assert!(rt; are_sizes(rt.alloc(), &SIZES));
+    assert!(rt; are_sizes(&rt, &SIZES));
 }

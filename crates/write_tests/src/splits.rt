@@ -54,7 +54,7 @@ static OBJECTS: [Case; 2] = [
 
 #[test]
 fn an_object_of_which_nothing_is_loaded_is_its_own_debug_half(rt: HostRuntime) {
-    assert!(rt; are_so(rt.alloc(), &BOTH, &OBJECTS));
+    assert!(rt; are_so(&rt, &BOTH, &OBJECTS));
 }
 
 /// The names of the sections of an object with debug data.
@@ -121,7 +121,7 @@ static MOVED: Case = Case {
 
 #[test]
 fn what_is_removed_stands_in_the_debug_half(rt: HostRuntime) {
-    assert!(rt; is_so(rt.alloc(), &BOTH, &MOVED));
+    assert!(rt; is_so(&rt, &BOTH, &MOVED));
 }
 
 // ---- Neither half
@@ -154,7 +154,7 @@ static SAME_NAMES: [Case; 3] = [
 
 #[test]
 fn no_two_names_are_the_same_word(rt: HostRuntime) {
-    assert!(rt; are_so(rt.alloc(), &BOTH, &SAME_NAMES));
+    assert!(rt; are_so(&rt, &BOTH, &SAME_NAMES));
 }
 
 /// The file and its front.
@@ -187,7 +187,7 @@ static NO_IMAGE: [Case; 3] = [
 
 #[test]
 fn what_is_no_image_is_not_split(rt: HostRuntime) {
-    assert!(rt; are_so(rt.alloc(), &BOTH, &NO_IMAGE));
+    assert!(rt; are_so(&rt, &BOTH, &NO_IMAGE));
 }
 
 /// An object with debug data, of which one section is removed and allocated, and another one is out
@@ -297,7 +297,7 @@ static UNMADE: [Case; 5] = [
 
 #[test]
 fn what_is_refused_makes_neither_half(rt: HostRuntime) {
-    assert!(rt; are_so(rt.alloc(), &BOTH, &UNMADE));
+    assert!(rt; are_so(&rt, &BOTH, &UNMADE));
 }
 
 // ---- Calls that fail
@@ -385,8 +385,8 @@ static IN_EACH: [Outcome; 2] = [
 
 #[test]
 fn the_first_half_is_whole_before_the_second_is_made(rt: HostRuntime) {
-    assert!(rt; are_so(rt.alloc(), &BOTH, &FAULTS));
-    assert!(rt; fail_so(rt.alloc(), &BOTH, &SPLIT, &Call::Made, 8, &IN_EACH));
+    assert!(rt; are_so(&rt, &BOTH, &FAULTS));
+    assert!(rt; fail_so(&rt, &BOTH, &SPLIT, &Call::Made, 8, &IN_EACH));
 }
 
 /// A read of the image stops a run before it makes a file, or in the debug half, whose bytes are
@@ -410,5 +410,5 @@ static IN_DEBUG: [Outcome; 2] = [
 
 #[test]
 fn a_read_that_fails_makes_neither_half_or_a_front_of_the_second(rt: HostRuntime) {
-    assert!(rt; fail_so(rt.alloc(), &BOTH, &SPLIT, &Call::Read("F"), 12, &IN_DEBUG));
+    assert!(rt; fail_so(&rt, &BOTH, &SPLIT, &Call::Read("F"), 12, &IN_DEBUG));
 }

@@ -45,8 +45,8 @@ static FRONTS: [Outcome; 1] = [Outcome {
 
 #[test]
 fn each_write_that_fails_leaves_a_front(rt: HostRuntime) {
-    assert!(rt; is_so(rt.alloc(), &OLD, &LENGTH));
-    assert!(rt; fail_so(rt.alloc(), &OLD, &WHOLE, &Call::Made, 8, &FRONTS));
+    assert!(rt; is_so(&rt, &OLD, &LENGTH));
+    assert!(rt; fail_so(&rt, &OLD, &WHOLE, &Call::Made, 8, &FRONTS));
 }
 
 /// A piece is appended to the third of five sections; the file F is looked at beside the new one.
@@ -96,8 +96,8 @@ static PUTS: [Outcome; 2] = [
 
 #[test]
 fn each_write_and_put_that_fails_leaves_the_old_file_or_a_front(rt: HostRuntime) {
-    assert!(rt; fail_so(rt.alloc(), &OLD, &GROWING, &Call::Made, 16, &WRITES));
-    assert!(rt; fail_so(rt.alloc(), &OLD, &GROWING, &Call::Put, 8, &PUTS));
+    assert!(rt; fail_so(&rt, &OLD, &GROWING, &Call::Made, 16, &WRITES));
+    assert!(rt; fail_so(&rt, &OLD, &GROWING, &Call::Put, 8, &PUTS));
 }
 
 /// Files want more memory than there is: nothing is said, and the file that was there is left.
@@ -116,5 +116,5 @@ static WANTING: Case = Case {
 
 #[test]
 fn a_run_without_memory_leaves_the_old_file(rt: HostRuntime) {
-    assert!(rt; is_so(rt.alloc(), &OLD, &WANTING));
+    assert!(rt; is_so(&rt, &OLD, &WANTING));
 }

@@ -68,7 +68,7 @@ static UNWRITTEN: [Case; 5] = [
 
 #[test]
 fn what_is_refused_makes_no_file(rt: HostRuntime) {
-    assert!(rt; are_so(rt.alloc(), &OLD, &UNWRITTEN));
+    assert!(rt; are_so(&rt, &OLD, &UNWRITTEN));
 }
 
 /// The symbols go. The ELF header is left, the table of the names, which is the empty one, and the
@@ -87,7 +87,7 @@ static SYMBOLS_GO: [Case; 2] = [
 
 #[test]
 fn symbols_go_with_their_strings(rt: HostRuntime) {
-    assert!(rt; are_so(rt.alloc(), &OLD, &SYMBOLS_GO));
+    assert!(rt; are_so(&rt, &OLD, &SYMBOLS_GO));
 }
 
 /// An executable without sections.
@@ -119,5 +119,5 @@ static WITHOUT_SECTIONS: [Case; 2] = [
 
 #[test]
 fn an_image_without_sections_is_made_the_same(rt: HostRuntime) {
-    assert!(rt; are_so(rt.alloc(), &OLD, &WITHOUT_SECTIONS));
+    assert!(rt; are_so(&rt, &OLD, &WITHOUT_SECTIONS));
 }

@@ -251,5 +251,5 @@ const CHANGES: [Row; 12] = [
 
 #[test]
 fn a_changed_piece_is_own_and_marked(rt: HostRuntime) {
-    assert!(rt; are_so(rt.alloc(), &CHANGES));
+    assert!(rt; are_so(&rt, &CHANGES));
 }

@@ -10,36 +10,37 @@ use elf_types::constants::SHT_SYMTAB;
 use elf_types::{Class, ElfError, Shdr};
 use section_data::Cell;
 use test_images::NULL_SECTION;
+use test_rows::{failed, holds, other, same};
 
 /// Whether a home of 48 bytes is read into memory that is kept aside, after a read that failed.
-pub fn is_room_kept(cell: &mut Cell, source: &mut MemSource) -> bool
+pub fn is_room_kept(rt: &HostRuntime, cell: &mut Cell, source: &mut MemSource) -> bool
     requires { LiesIn cell.old (length source.old.bytes) }
 {
-    if let Err(_) = cell.reserve() {
-        return false;
+    if let Err(e) = cell.reserve() {
+        return failed(rt, e);
     }
     match cell.load_reserved(source) {
-        Ok(()) => false,
+        Ok(()) => other(rt, &"a read", "one that fails"),
         Err(e) => {
-            e == ElfError::Read
-                && !cell.is_loaded()
-                && cell.load_reserved(source) == Ok(())
-                && cell.is_loaded()
-                && source.asked() == 96
+            same(rt, &e, &ElfError::Read)
+                && holds(rt, "a failed read loads nothing", !cell.is_loaded())
+                && same(rt, &cell.load_reserved(source), &Ok(()))
+                && holds(rt, "it is loaded", cell.is_loaded())
+                && same(rt, &source.asked(), &96)
         }
     }
 }
 
 /// Whether a home of 48 bytes is read again once it was let go.
-pub fn is_read_again(cell: &mut Cell, source: &mut MemSource) -> bool
+pub fn is_read_again(rt: &HostRuntime, cell: &mut Cell, source: &mut MemSource) -> bool
     requires lies { LiesIn cell.old (length source.old.bytes) }
     requires unread { cell_is_loaded cell.old ≡ false }
 {
-    let read = cell.load(source) == Ok(());
+    let read = same(rt, &cell.load(source), &Ok(()));
     cell.unload();
     let gone = !cell.is_loaded();
-    let again = cell.load(source) == Ok(());
-    read && gone && again && cell.is_loaded() && source.asked() == 96
+    let again = same(rt, &cell.load(source), &Ok(()));
+    read && gone && again && cell.is_loaded() && same(rt, &source.asked(), &96)
 }
 
 /// Two symbols.
@@ -56,7 +57,7 @@ const SYMBOLS: Row = Row {
 fn a_failed_read_leaves_the_memory_that_is_kept_aside(rt: HostRuntime) {
     assert!(rt;
         are_so(
-            rt.alloc(),
+            &rt,
             &[Row {
                 bad_read: 1,
                 asked: Asked::RoomKept,
@@ -70,7 +71,7 @@ fn a_failed_read_leaves_the_memory_that_is_kept_aside(rt: HostRuntime) {
 fn a_home_that_was_let_go_is_read_again(rt: HostRuntime) {
     assert!(rt;
         are_so(
-            rt.alloc(),
+            &rt,
             &[Row {
                 asked: Asked::ReadAgain,
                 ..SYMBOLS

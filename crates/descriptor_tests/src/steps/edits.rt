@@ -5,6 +5,7 @@ use super::{Change, Step};
 use elf_descriptor::Elf;
 use elf_outside::Source;
 use elf_types::{Ehdr, ElfError, Phdr, ScnId};
+use test_rows::same;
 
 /// Stores the header with another string index and entry point.
 fn store_header<S: Source>(elf: &mut Elf<S>, shstrndx: u32, entry: u64) -> Result<(), ElfError> {
@@ -34,7 +35,7 @@ fn put_offset<S: Source>(elf: &mut Elf<S>, offset: u64) -> bool {
 }
 
 /// Whether so many sections are added.
-fn are_added<S: Source>(elf: &mut Elf<S>, count: u64) -> bool {
+fn are_added<S: Source>(rt: &HostRuntime, elf: &mut Elf<S>, count: u64) -> bool {
     for _ in 0..count {
         if elf.newscn().is_err() {
             return false;
@@ -55,23 +56,27 @@ fn store_section<S: Source>(
 }
 
 /// Whether a step that edits headers, flags or counts is answered so.
-pub fn is_edited<S: Source>(elf: &mut Elf<S>, step: &Step) -> bool {
+pub fn is_edited<S: Source>(rt: &HostRuntime, elf: &mut Elf<S>, step: &Step) -> bool {
     match step {
-        Step::Flag(part, set, bits, told) => elf.flag(*part, *set, *bits) == *told,
+        Step::Flag(part, set, bits, told) => same(rt, &elf.flag(*part, *set, *bits), told),
         Step::SetFill(fill) => {
             elf.set_fill(*fill);
             true
         }
-        Step::StoreHeader(names, entry, told) => store_header(elf, *names, *entry) == *told,
-        Step::StoreSegment(i, offset, told) => store_segment(elf, *i, *offset) == *told,
+        Step::StoreHeader(names, entry, told) => same(rt, &store_header(elf, *names, *entry), told),
+        Step::StoreSegment(i, offset, told) => same(rt, &store_segment(elf, *i, *offset), told),
         Step::PutOffset(offset) => put_offset(elf, *offset),
-        Step::Newphdr(n, told) => elf.newphdr(*n) == *told,
-        Step::Newscn(told) => elf.newscn() == *told,
-        Step::Sections(count) => are_added(elf, *count),
-        Step::Newnull(told) => elf.newnull() == *told,
-        Step::Put(s, header) => elf.update_shdr(ScnId(*s), header) == Ok(()),
+        Step::Newphdr(n, told) => same(rt, &elf.newphdr(*n), told),
+        Step::Newscn(told) => same(rt, &elf.newscn(), told),
+        Step::Sections(count) => are_added(rt, elf, *count),
+        Step::Newnull(told) => same(rt, &elf.newnull(), told),
+        Step::Put(s, header) => same(rt, &elf.update_shdr(ScnId(*s), header), &Ok(())),
         Step::Store(from, to, change, told) => {
-            store_section(elf, ScnId(*from), ScnId(*to), *change) == *told
+            same(
+                rt,
+                &store_section(elf, ScnId(*from), ScnId(*to), *change),
+                told,
+            )
         }
         _ => false,
     }

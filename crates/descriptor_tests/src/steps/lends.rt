@@ -9,12 +9,14 @@ use elf_types::{
 use elf_xlate::Items;
 use section_data::Storable;
 use std::alloc::Global;
+use std::fmt::Debug;
+use test_rows::{failed, other, same};
 
 /// The piece that is lent.
 const PIECE: DataId = STRINGS;
 
 /// A kind of items, which a call of its own lends.
-trait Kinded: Storable + PartialEq {
+trait Kinded: Debug + Storable + PartialEq {
     /// The list of the piece.
     fn lend<S: Source>(elf: &mut Elf<S>) -> Result<&mut List<Self>, ElfError>;
 }
@@ -67,17 +69,23 @@ fn append<T: Kinded, S: Source>(elf: &mut Elf<S>, item: T) -> Result<(), ElfErro
 }
 
 /// Whether the piece alone is marked.
-fn is_marked<S: Source>(elf: &Elf<S>) -> bool {
-    elf.flags(Part::Piece(1, 0)) == Ok(DIRTY) && elf.flags(Part::Section(1)) == Ok(0)
+fn is_marked<S: Source>(rt: &HostRuntime, elf: &Elf<S>) -> bool {
+    same(rt, &elf.flags(Part::Piece(1, 0)), &Ok(DIRTY))
+        && same(rt, &elf.flags(Part::Section(1)), &Ok(0))
 }
 
 /// Whether an item is appended to a list that is lent, and another stored in place of the first.
-fn is_lent<T: Kinded, S: Source>(elf: &mut Elf<S>, appended: T, stored: T) -> bool {
-    let mut stated = append(elf, appended) == Ok(());
-    stated &= elf.update_item(PIECE, 0, stored) == Ok(());
-    stated &= elf.item::<T>(PIECE, 0) == Ok(stored);
-    stated &= elf.item::<T>(PIECE, 1) == Ok(appended);
-    stated && is_marked(elf)
+fn is_lent<T: Kinded, S: Source>(
+    rt: &HostRuntime,
+    elf: &mut Elf<S>,
+    appended: T,
+    stored: T,
+) -> bool {
+    let mut stated = same(rt, &append(elf, appended), &Ok(()));
+    stated &= same(rt, &elf.update_item(PIECE, 0, stored), &Ok(()));
+    stated &= same(rt, &elf.item::<T>(PIECE, 0), &Ok(stored));
+    stated &= same(rt, &elf.item::<T>(PIECE, 1), &Ok(appended));
+    stated && is_marked(rt, elf)
 }
 
 /// Appends a byte.
@@ -97,18 +105,20 @@ fn count<S: Source>(elf: &mut Elf<S>) -> Result<u64, ElfError> {
 }
 
 /// Whether a list of a kind is lent.
-fn is_lent_as<S: Source>(elf: &mut Elf<S>, lending: &Lending) -> bool {
+fn is_lent_as<S: Source>(rt: &HostRuntime, elf: &mut Elf<S>, lending: &Lending) -> bool {
     match lending {
         Lending::Byte(byte) => {
-            append_byte(elf, *byte) == Ok(()) && count(elf) == Ok(2) && is_marked(elf)
+            same(rt, &append_byte(elf, *byte), &Ok(()))
+                && same(rt, &count(elf), &Ok(2))
+                && is_marked(rt, elf)
         }
-        Lending::Half(appended, stored) => is_lent(elf, *appended, *stored),
-        Lending::Word(appended, stored) => is_lent(elf, *appended, *stored),
-        Lending::Addr(appended, stored) => is_lent(elf, *appended, *stored),
-        Lending::Sym(appended, stored) => is_lent(elf, *appended, *stored),
-        Lending::Rel(appended, stored) => is_lent(elf, *appended, *stored),
-        Lending::Rela(appended, stored) => is_lent(elf, *appended, *stored),
-        Lending::Dyn(appended, stored) => is_lent(elf, *appended, *stored),
+        Lending::Half(appended, stored) => is_lent(rt, elf, *appended, *stored),
+        Lending::Word(appended, stored) => is_lent(rt, elf, *appended, *stored),
+        Lending::Addr(appended, stored) => is_lent(rt, elf, *appended, *stored),
+        Lending::Sym(appended, stored) => is_lent(rt, elf, *appended, *stored),
+        Lending::Rel(appended, stored) => is_lent(rt, elf, *appended, *stored),
+        Lending::Rela(appended, stored) => is_lent(rt, elf, *appended, *stored),
+        Lending::Dyn(appended, stored) => is_lent(rt, elf, *appended, *stored),
     }
 }
 
@@ -149,28 +159,31 @@ fn count_of(given: &Given) -> u64 {
 }
 
 /// Whether an answer is the one that is told; what is refused came back, so many items.
-fn is_answer<T: PartialEq + Drop>(
+fn is_answer<T: Debug + PartialEq + Drop>(
+    rt: &HostRuntime,
     answer: Result<T, (Items, ElfError)>,
     count: u64,
     told: &Result<T, ElfError>,
 ) -> bool {
     match (answer, told) {
-        (Ok(done), Ok(wanted)) => done == *wanted,
-        (Err((items, e)), Err(wanted)) => e == *wanted && items.count() == count,
-        _ => false,
+        (Ok(done), Ok(wanted)) => same(rt, &done, wanted),
+        (Err((items, e)), Err(wanted)) => same(rt, &e, wanted) && same(rt, &items.count(), &count),
+        (Ok(_done), Err(wanted)) => other(rt, wanted, "that in place of an answer"),
+        (Err((_items, e)), Ok(_)) => failed(rt, e),
     }
 }
 
 /// Whether a piece takes the items that are given, or refuses them so.
 fn is_replaced<S: Source>(
+    rt: &HostRuntime,
     elf: &mut Elf<S>,
     d: DataId,
     given: &Given,
     told: &Result<(), ElfError>,
 ) -> bool {
     match items_of(elf.alloc(), given) {
-        Ok(items) => is_answer(elf.replace(d, items), count_of(given), told),
-        Err(_) => false,
+        Ok(items) => is_answer(rt, elf.replace(d, items), count_of(given), told),
+        Err(e) => failed(rt, e),
     }
 }
 
@@ -189,6 +202,7 @@ fn add<S: Source>(
 
 /// Whether a section takes the items that are given as a piece, or refuses them so.
 fn is_added<S: Source>(
+    rt: &HostRuntime,
     elf: &mut Elf<S>,
     s: ScnId,
     align: Option<u64>,
@@ -196,13 +210,13 @@ fn is_added<S: Source>(
     told: &Result<DataId, ElfError>,
 ) -> bool {
     match items_of(elf.alloc(), given) {
-        Ok(items) => is_answer(add(elf, s, align, items), count_of(given), told),
-        Err(_) => false,
+        Ok(items) => is_answer(rt, add(elf, s, align, items), count_of(given), told),
+        Err(e) => failed(rt, e),
     }
 }
 
 /// Whether so many pieces without bytes are added to a section.
-fn are_added<S: Source>(elf: &mut Elf<S>, s: ScnId, count: u64) -> bool {
+fn are_added<S: Source>(rt: &HostRuntime, elf: &mut Elf<S>, s: ScnId, count: u64) -> bool {
     for _ in 0..count {
         let none = Items::Bytes(Octets::new(elf.alloc()));
         if elf.newdata(s, none).is_err() {
@@ -213,15 +227,15 @@ fn are_added<S: Source>(elf: &mut Elf<S>, s: ScnId, count: u64) -> bool {
 }
 
 /// Whether a step that changes items, or adds some, is answered so.
-pub fn is_changed<S: Source>(elf: &mut Elf<S>, step: &Step) -> bool {
+pub fn is_changed<S: Source>(rt: &HostRuntime, elf: &mut Elf<S>, step: &Step) -> bool {
     match step {
-        Step::StoreSymbol(d, i, symbol, told) => elf.update_item(*d, *i, *symbol) == *told,
-        Step::AddToValues(more, told) => add_to_values(elf, *more) == *told,
-        Step::AddToBytes(told) => add_to_bytes(elf) == *told,
-        Step::Replace(d, given, told) => is_replaced(elf, *d, given, told),
-        Step::Add(s, align, given, told) => is_added(elf, ScnId(*s), *align, given, told),
-        Step::EmptyPieces(s, count) => are_added(elf, ScnId(*s), *count),
-        Step::Lent(lending) => is_lent_as(elf, lending),
+        Step::StoreSymbol(d, i, symbol, told) => same(rt, &elf.update_item(*d, *i, *symbol), told),
+        Step::AddToValues(more, told) => same(rt, &add_to_values(elf, *more), told),
+        Step::AddToBytes(told) => same(rt, &add_to_bytes(elf), told),
+        Step::Replace(d, given, told) => is_replaced(rt, elf, *d, given, told),
+        Step::Add(s, align, given, told) => is_added(rt, elf, ScnId(*s), *align, given, told),
+        Step::EmptyPieces(s, count) => are_added(rt, elf, ScnId(*s), *count),
+        Step::Lent(lending) => is_lent_as(rt, elf, lending),
         _ => false,
     }
 }

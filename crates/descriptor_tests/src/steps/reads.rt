@@ -6,6 +6,7 @@ use elf_descriptor::Elf;
 use elf_outside::Source;
 use elf_types::{DataId, ElfError, Kind, ScnId, Sym};
 use elf_xlate::Items;
+use test_rows::{failed, other, same, same_bytes};
 
 /// The kind and the number of the items of a piece.
 fn data_of<S: Source>(elf: &mut Elf<S>, d: DataId) -> Result<(Kind, u64), ElfError> {
@@ -14,11 +15,17 @@ fn data_of<S: Source>(elf: &mut Elf<S>, d: DataId) -> Result<(Kind, u64), ElfErr
 }
 
 /// Whether the raw bytes of a section are told so.
-fn is_raw<S: Source>(elf: &mut Elf<S>, s: ScnId, told: Result<&[u8], ElfError>) -> bool {
+fn is_raw<S: Source>(
+    rt: &HostRuntime,
+    elf: &mut Elf<S>,
+    s: ScnId,
+    told: Result<&[u8], ElfError>,
+) -> bool {
     match (elf.raw(s), told) {
-        (Ok(raw), Ok(bytes)) => raw == bytes,
-        (Err(e), Err(wanted)) => e == wanted,
-        _ => false,
+        (Ok(raw), Ok(bytes)) => same_bytes(rt, raw, bytes),
+        (Err(e), Err(wanted)) => same(rt, &e, &wanted),
+        (Ok(_), Err(wanted)) => other(rt, &wanted, "that in place of bytes"),
+        (Err(e), Ok(_)) => failed(rt, e),
     }
 }
 
@@ -40,18 +47,18 @@ fn first_base<S: Source>(elf: &mut Elf<S>) -> Result<[u8; 2], ElfError> {
 }
 
 /// Whether a step that reads, or takes memory or lets it go, is answered so.
-pub fn is_read<S: Source>(elf: &mut Elf<S>, step: &Step) -> bool {
+pub fn is_read<S: Source>(rt: &HostRuntime, elf: &mut Elf<S>, step: &Step) -> bool {
     match step {
-        Step::Data(d, told) => data_of(elf, *d) == *told,
-        Step::Long(s, told) => long(elf, ScnId(*s)) == *told,
-        Step::Raw(s, told) => is_raw(elf, ScnId(*s), *told),
-        Step::Byte(told) => byte(elf) == Some(*told),
+        Step::Data(d, told) => same(rt, &data_of(elf, *d), told),
+        Step::Long(s, told) => same(rt, &long(elf, ScnId(*s)), told),
+        Step::Raw(s, told) => is_raw(rt, elf, ScnId(*s), *told),
+        Step::Byte(told) => same(rt, &byte(elf), &Some(*told)),
         Step::FirstTwo(d, first, second) => first_two::<S, Sym>(elf, *d) == Ok((*first, *second)),
-        Step::Symbol(d, i, told) => symbol(elf, *d, *i) == *told,
-        Step::Base(told) => first_base(elf) == Ok(*told),
-        Step::Reserve => elf.reserve() == Ok(()),
-        Step::ReserveHome(s, told) => elf.reserve_home(ScnId(*s)) == *told,
-        Step::Unload(s, told) => elf.unload(ScnId(*s)) == *told,
+        Step::Symbol(d, i, told) => same(rt, &symbol(elf, *d, *i), told),
+        Step::Base(told) => same(rt, &first_base(elf), &Ok(*told)),
+        Step::Reserve => same(rt, &elf.reserve(), &Ok(())),
+        Step::ReserveHome(s, told) => same(rt, &elf.reserve_home(ScnId(*s)), told),
+        Step::Unload(s, told) => same(rt, &elf.unload(ScnId(*s)), told),
         _ => false,
     }
 }

@@ -5,11 +5,14 @@ use elf_descriptor::{Elf, Held};
 use elf_outside::Source;
 use elf_types::{DataId, Ehdr, ElfError, Kind, ScnId, Shdr};
 use elf_xlate::item_size;
+use test_rows::{failed, other, same, same_bytes};
 
 /// Whether a header has so many program headers and sections, and names that section as the one of
 /// the names.
-fn has_counts(header: &Ehdr, segments: u32, sections: u32, names: u32) -> bool {
-    header.phnum == segments && header.shnum == sections && header.shstrndx == names
+fn has_counts(rt: &HostRuntime, header: &Ehdr, segments: u32, sections: u32, names: u32) -> bool {
+    same(rt, &header.phnum, &segments)
+        && same(rt, &header.shnum, &sections)
+        && same(rt, &header.shstrndx, &names)
 }
 
 /// The offsets of the two program headers.
@@ -26,27 +29,30 @@ fn is_unread<S: Source>(elf: &Elf<S>, d: DataId) -> bool {
 }
 
 /// Whether the bytes that are held of a piece are these.
-fn is_held<S: Source>(elf: &Elf<S>, d: DataId, bytes: &[u8]) -> bool {
+fn is_held<S: Source>(rt: &HostRuntime, elf: &Elf<S>, d: DataId, bytes: &[u8]) -> bool {
     match elf.held(d) {
-        Ok(Held::Raw(there)) => there == bytes,
-        _ => false,
+        Ok(Held::Raw(there)) => same_bytes(rt, there, bytes),
+        Ok(_) => other(rt, &d, "bytes that are held"),
+        Err(e) => failed(rt, e),
     }
 }
 
 /// Whether what a step asks of the object as a whole, or of what is held, is told so.
-pub fn is_told<S: Source>(elf: &Elf<S>, step: &Step) -> bool {
+pub fn is_told<S: Source>(rt: &HostRuntime, elf: &Elf<S>, step: &Step) -> bool {
     match step {
-        Step::Counts(segments, sections) => { elf.phnum() == *segments && elf.shnum() == *sections }
-        Step::Header(segments, sections, names) => {
-            has_counts(&elf.ehdr(), *segments, *sections, *names)
+        Step::Counts(segments, sections) => {
+            same(rt, &elf.phnum(), segments) && same(rt, &elf.shnum(), sections)
         }
-        Step::Pad(pad) => elf.pad() == *pad,
-        Step::Dirty(dirty) => elf.dirty() == *dirty,
-        Step::Fill(fill) => elf.fill() == *fill,
-        Step::Flags(part, told) => elf.flags(*part) == *told,
-        Step::Offsets(first, second) => offsets(elf) == Ok((*first, *second)),
-        Step::Unread(d, unread) => is_unread(elf, *d) == *unread,
-        Step::Held(d, bytes) => is_held(elf, *d, bytes),
+        Step::Header(segments, sections, names) => {
+            has_counts(rt, &elf.ehdr(), *segments, *sections, *names)
+        }
+        Step::Pad(pad) => same(rt, &elf.pad(), pad),
+        Step::Dirty(dirty) => same(rt, &elf.dirty(), dirty),
+        Step::Fill(fill) => same(rt, &elf.fill(), fill),
+        Step::Flags(part, told) => same(rt, &elf.flags(*part), told),
+        Step::Offsets(first, second) => same(rt, &offsets(elf), &Ok((*first, *second))),
+        Step::Unread(d, unread) => same(rt, &is_unread(elf, *d), unread),
+        Step::Held(d, bytes) => is_held(rt, elf, *d, bytes),
         _ => false,
     }
 }
@@ -62,33 +68,37 @@ pub fn changed(header: Shdr, change: Change) -> Shdr {
 }
 
 /// Whether a field of the header of a section has a number.
-fn has<S: Source>(elf: &Elf<S>, s: ScnId, change: Change) -> bool {
+fn has<S: Source>(rt: &HostRuntime, elf: &Elf<S>, s: ScnId, change: Change) -> bool {
     match elf.shdr(s) {
-        Ok(header) => changed(header, change) == header,
-        Err(_) => false,
+        Ok(header) => same(rt, &changed(header, change), &header),
+        Err(e) => failed(rt, e),
     }
 }
 
 /// Whether the home of section 2 is where its header says, as long as two symbols.
-fn has_symbols_home<S: Source>(elf: &Elf<S>) -> bool {
+fn has_symbols_home<S: Source>(rt: &HostRuntime, elf: &Elf<S>) -> bool {
     let size = 2 * item_size(Kind::Sym, elf.ehdr().class);
     match elf.shdr(ScnId(SYMBOLS.section)) {
-        Ok(header) => elf.home(ScnId(SYMBOLS.section)) == Ok((header.offset, size)),
-        Err(_) => false,
+        Ok(header) => same(
+            rt,
+            &elf.home(ScnId(SYMBOLS.section)),
+            &Ok((header.offset, size)),
+        ),
+        Err(e) => failed(rt, e),
     }
 }
 
 /// Whether what a step asks of a section or a piece is told so.
-pub fn is_told_of_section<S: Source>(elf: &Elf<S>, step: &Step) -> bool {
+pub fn is_told_of_section<S: Source>(rt: &HostRuntime, elf: &Elf<S>, step: &Step) -> bool {
     match step {
-        Step::Section(s, told) => elf.shdr(ScnId(*s)) == *told,
-        Step::Has(s, change) => has(elf, ScnId(*s), *change),
-        Step::Home(s, told) => elf.home(ScnId(*s)) == *told,
-        Step::SymbolsHome => has_symbols_home(elf),
-        Step::Kind(d, told) => elf.piece_kind(*d) == *told,
-        Step::Align(d, told) => elf.piece_align(*d) == *told,
-        Step::Pieces(s, told) => elf.pieces(ScnId(*s)) == *told,
-        Step::Size(s, told) => elf.data_size(ScnId(*s)) == *told,
+        Step::Section(s, told) => same(rt, &elf.shdr(ScnId(*s)), told),
+        Step::Has(s, change) => has(rt, elf, ScnId(*s), *change),
+        Step::Home(s, told) => same(rt, &elf.home(ScnId(*s)), told),
+        Step::SymbolsHome => has_symbols_home(rt, elf),
+        Step::Kind(d, told) => same(rt, &elf.piece_kind(*d), told),
+        Step::Align(d, told) => same(rt, &elf.piece_align(*d), told),
+        Step::Pieces(s, told) => same(rt, &elf.pieces(ScnId(*s)), told),
+        Step::Size(s, told) => same(rt, &elf.data_size(ScnId(*s)), told),
         _ => false,
     }
 }
