@@ -1,6 +1,6 @@
 //! What the lines leave that change something.
 
-use crate::runs::{Row, are_answered};
+use crate::runs::{Row, first_other};
 use elf_types::{Class, Order};
 use std::test::*;
 
@@ -53,8 +53,10 @@ const EDITS: [Row; 10] = [
 ];
 
 #[test]
-fn edits_leave_the_stepped_object(rt: HostRuntime) {
-    assert!(rt; are_answered(&rt, Class::C64, Order::Least, &EDITS));
+fn edits_leave_the_stepped_object(rt: HostRuntime) -> Result<(), Fail> {
+    let wrong = first_other(rt.alloc(), Class::C64, Order::Least, &EDITS)?;
+    assert_eq!(rt; wrong, None);
+    Ok(())
 }
 
 /// Edits of the same object in class 32.
@@ -66,6 +68,8 @@ const NARROW: [Row; 1] = [(
 )];
 
 #[test]
-fn what_does_not_fit_a_narrow_object_is_refused(rt: HostRuntime) {
-    assert!(rt; are_answered(&rt, Class::C32, Order::Greatest, &NARROW));
+fn what_does_not_fit_a_narrow_object_is_refused(rt: HostRuntime) -> Result<(), Fail> {
+    let wrong = first_other(rt.alloc(), Class::C32, Order::Greatest, &NARROW)?;
+    assert_eq!(rt; wrong, None);
+    Ok(())
 }

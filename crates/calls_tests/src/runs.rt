@@ -6,8 +6,8 @@ use calls_tool::AnswerLine;
 use elf_descriptor::Elf;
 use elf_outside::Source;
 use elf_types::{Class, ElfError, Octets, Order};
+use std::alloc::Global;
 use test_images::{Image, five_sections, symbol_object};
-use test_rows::{failed, failed_by, in_row, same, same_bytes, within};
 use test_sources::source;
 use tool_output::Line;
 
@@ -33,57 +33,50 @@ fn put_answers<S: Source>(
 }
 
 /// Whether the script of a row answers its lines over a source, which is given back.
-fn answers_over<S: Source>(rt: &HostRuntime, src: S, calls: &Calls, wanted: &str) -> (S, bool) {
-    match Elf::begin(rt.alloc(), src) {
+fn answers_over<S: Source>(alloc: Global, src: S, calls: &Calls, wanted: &str) -> (S, bool) {
+    match Elf::begin(alloc, src) {
         Ok(mut elf) => {
-            let mut page = Octets::new(rt.alloc());
+            let mut page = Octets::new(alloc);
             let put = put_answers(&mut elf, calls, &mut page);
-            let so = same(rt, &put, &Ok(())) && same_bytes(rt, page.as_slice(), wanted.as_bytes());
-            (elf.end(), so)
+            let same = page.as_slice() == wanted.as_bytes();
+            (elf.end(), put.is_ok() && same)
         }
-        Err((src, e)) => (src, failed(rt, e)),
+        Err((src, _)) => (src, false),
     }
 }
 
-/// Whether calls answer these lines over an image.
-fn answers_of(rt: &HostRuntime, image: Image, calls: &Calls, wanted: &str) -> bool {
-    match source(rt.alloc(), image.bytes, 0) {
-        Ok(src) => answers_over(rt, src, calls, wanted).1,
-        Err(e) => failed(rt, e),
-    }
-}
-
-/// Whether the script of a row answers its lines over an image, where there is one.
-fn answers(rt: &HostRuntime, made: Result<Image, ElfError>, row: &Row) -> bool {
-    let image = match made {
-        Ok(image) => image,
-        Err(e) => return failed(rt, e),
+/// Whether it does over an image.
+fn answers(alloc: Global, image: Image, row: &Row) -> Result<bool, ElfError> {
+    let Ok(calls) = read_script(alloc, row.0.as_bytes()) else {
+        return Ok(false);
     };
-    let so = match read_script(rt.alloc(), row.0.as_bytes()) {
-        Ok(calls) => answers_of(rt, image, &calls, row.1),
-        Err(e) => failed_by(rt, &e),
-    };
-    within(rt, &row.0, so)
+    let (_src, same) = answers_over(alloc, source(alloc, image.bytes, 0)?, &calls, row.1);
+    Ok(same)
 }
 
-/// Whether each row is answered by its lines on an object with two symbols.
-pub fn are_answered(rt: &HostRuntime, class: Class, order: Order, rows: &[Row]) -> bool {
-    for (n, row) in rows.iter().enumerate() {
-        let image = symbol_object(rt.alloc(), class, order);
-        if !in_row(rt, n, answers(rt, image, row)) {
-            return false;
+/// The first row that is not answered by its lines on an object with two symbols.
+pub fn first_other(
+    alloc: Global,
+    class: Class,
+    order: Order,
+    rows: &[Row],
+) -> Result<Option<&'static str>, ElfError> {
+    for row in rows {
+        let image = symbol_object(alloc, class, order)?;
+        if !answers(alloc, image, row)? {
+            return Ok(Some(row.0));
         }
     }
-    true
+    Ok(None)
 }
 
-/// Whether each row is answered by its lines on an object with five sections.
-pub fn are_answered_of_five(rt: &HostRuntime, rows: &[Row]) -> bool {
-    for (n, row) in rows.iter().enumerate() {
-        let image = five_sections(rt.alloc(), Class::C64, Order::Least);
-        if !in_row(rt, n, answers(rt, image, row)) {
-            return false;
+/// The first row that is not answered by its lines on an object with five sections.
+pub fn first_other_of_five(alloc: Global, rows: &[Row]) -> Result<Option<&'static str>, ElfError> {
+    for row in rows {
+        let image = five_sections(alloc, Class::C64, Order::Least)?;
+        if !answers(alloc, image, row)? {
+            return Ok(Some(row.0));
         }
     }
-    true
+    Ok(None)
 }

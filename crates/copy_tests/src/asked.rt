@@ -5,8 +5,8 @@ use crate::faults::{are_refused, has_no_table};
 use elf_descriptor::Elf;
 use elf_outside::Source;
 use elf_types::Octets;
+use std::alloc::Global;
 use test_images::{Form, Recipe, image_in};
-use test_rows::failed;
 use test_sources::source;
 
 /// What is asked.
@@ -20,38 +20,38 @@ pub enum Asked {
 }
 
 /// Whether it is so.
-fn is_so<S: Source>(rt: &HostRuntime, elf: &mut Elf<S>, asked: &Asked) -> bool {
+fn is_so<S: Source>(alloc: Global, elf: &mut Elf<S>, asked: &Asked) -> bool {
     match asked {
-        Asked::Made => are_all_made(rt, elf),
-        Asked::Refused => are_refused(rt, elf),
-        Asked::NoTable => has_no_table(rt, elf),
+        Asked::Made => are_all_made(alloc, elf),
+        Asked::Refused => are_refused(alloc, elf),
+        Asked::NoTable => has_no_table(alloc, elf),
     }
 }
 
 /// Whether it is so of a source.
-fn is_so_of<S: Source + Drop>(rt: &HostRuntime, src: S, asked: &Asked) -> bool {
-    match Elf::begin(rt.alloc(), src) {
+fn is_so_of<S: Source + Drop>(alloc: Global, src: S, asked: &Asked) -> bool {
+    match Elf::begin(alloc, src) {
         Ok(mut elf) => {
-            let so = is_so(rt, &mut elf, asked);
+            let so = is_so(alloc, &mut elf, asked);
             let _src = elf.end();
             so
         }
-        Err((_src, e)) => failed(rt, e),
+        Err(_) => false,
     }
 }
 
 /// Whether it is so of these bytes.
-fn is_so_over(rt: &HostRuntime, bytes: Octets, asked: &Asked) -> bool {
-    match source(rt.alloc(), bytes, 0) {
-        Ok(src) => is_so_of(rt, src, asked),
-        Err(e) => failed(rt, e),
+fn is_so_over(alloc: Global, bytes: Octets, asked: &Asked) -> bool {
+    match source(alloc, bytes, 0) {
+        Ok(src) => is_so_of(alloc, src, asked),
+        Err(_) => false,
     }
 }
 
 /// Whether it is so of an image in a form.
-pub fn is_answered(rt: &HostRuntime, form: Form, recipe: &Recipe, asked: &Asked) -> bool {
-    match image_in(rt.alloc(), form, recipe) {
-        Ok(image) => is_so_over(rt, image.bytes, asked),
-        Err(e) => failed(rt, e),
+pub fn is_answered(alloc: Global, form: Form, recipe: &Recipe, asked: &Asked) -> bool {
+    match image_in(alloc, form, recipe) {
+        Ok(image) => is_so_over(alloc, image.bytes, asked),
+        Err(_) => false,
     }
 }

@@ -5,7 +5,6 @@ use elf_outside::{MemFiles, MemSink, NoSource, Sink};
 use elf_types::{Addrs, ElfError, Octets};
 use object_files::{write_image, write_images};
 use std::alloc::Global;
-use test_rows::{failed, in_row, same};
 use tool_output::{Outputs, Stop};
 
 /// The numbers of the calls that fail: those that hand a file out, the writes of each file that is
@@ -124,61 +123,41 @@ fn ended_by(
     Ok(outputs.end(last))
 }
 
-/// Whether the making of one file or of two ends so, and leaves these.
-fn leaves_in(
-    rt: &HostRuntime,
-    files: &mut MemFiles,
-    row: &Row,
-    two: bool,
-    second: Option<&'static [u8]>,
-) -> bool {
-    match ended_by(rt.alloc(), two, files, row.bad_put) {
-        Ok(ended) => {
-            same(rt, &ended, &row.ended)
-                && same(rt, &files.bytes("a"), &row.first)
-                && same(rt, &files.bytes("b"), &second)
-        }
-        Err(e) => failed(rt, e),
-    }
-}
-
 /// Whether two files are left as a row says.
-fn leaves_two(rt: &HostRuntime, row: &Row) -> bool {
-    match files_of(rt.alloc(), row) {
-        Ok(mut files) => leaves_in(rt, &mut files, row, true, row.second),
-        Err(e) => failed(rt, e),
-    }
+fn leaves_two(alloc: Global, row: &Row) -> Result<bool, ElfError> {
+    let mut files = files_of(alloc, row)?;
+    let ended = ended_by(alloc, true, &mut files, row.bad_put)?;
+    Ok(ended == row.ended && files.bytes("a") == row.first && files.bytes("b") == row.second)
 }
 
 /// Whether one file is left as a row says of the first.
-fn leaves_one(rt: &HostRuntime, row: &Row) -> bool {
-    match files_of(rt.alloc(), row) {
-        Ok(mut files) => leaves_in(rt, &mut files, row, false, None),
-        Err(e) => failed(rt, e),
-    }
+fn leaves_one(alloc: Global, row: &Row) -> Result<bool, ElfError> {
+    let mut files = files_of(alloc, row)?;
+    let ended = ended_by(alloc, false, &mut files, row.bad_put)?;
+    Ok(ended == row.ended && files.bytes("a") == row.first && files.bytes("b").is_none())
 }
 
-/// Whether two files are left as each row says.
-fn are_left(rt: &HostRuntime, rows: &[Row]) -> bool {
-    for (n, row) in rows.iter().enumerate() {
-        if !in_row(rt, n, leaves_two(rt, row)) {
-            return false;
+/// The number of the first row that is not left so, or None.
+fn first_other(alloc: Global, rows: &[Row]) -> Option<usize> {
+    for (i, row) in rows.iter().enumerate() {
+        if leaves_two(alloc, row) != Ok(true) {
+            return Some(i);
         }
     }
-    true
+    None
 }
 
 #[test]
 fn two_files_hold_their_images(rt: HostRuntime) {
-    assert!(rt; leaves_two(&rt, &WHOLE));
+    assert!(rt; leaves_two(rt.alloc(), &WHOLE) == Ok(true));
 }
 
 #[test]
 fn one_file_is_made_where_another_was(rt: HostRuntime) {
-    assert!(rt; leaves_one(&rt, &WHOLE));
+    assert!(rt; leaves_one(rt.alloc(), &WHOLE) == Ok(true));
 }
 
 #[test]
 fn a_failed_call_leaves_the_other_files(rt: HostRuntime) {
-    assert!(rt; are_left(&rt, &FAILING));
+    assert!(rt; first_other(rt.alloc(), &FAILING).is_none());
 }

@@ -8,7 +8,6 @@ use elf_xlate::Items;
 use hash_build::{GnuShape, build_gnu, build_sysv, gnu_order};
 use symbol_lookup::{find_gnu, find_sysv};
 use test_images::{NARROW, WIDE};
-use test_rows::{failed, in_row, in_step, same};
 
 /// Gives a section other items.
 fn replace<S: Source>(elf: &mut Elf<S>, s: ScnId, items: Items) -> Result<(), ElfError> {
@@ -55,11 +54,9 @@ static NAMES: [(&[u8], Option<u64>); 8] = [
 ];
 
 /// Whether each name finds its symbol through either section.
-fn are_found<S: Source>(rt: &HostRuntime, elf: &mut Elf<S>) -> bool {
-    for (n, row) in NAMES.iter().enumerate() {
-        let found = same(rt, &find_sysv(elf, SYSV, row.0), &Ok(row.1))
-            && same(rt, &find_gnu(elf, GNU, row.0), &Ok(row.1));
-        if !in_step(rt, n, found) {
+fn are_found<S: Source>(elf: &mut Elf<S>) -> bool {
+    for row in NAMES.iter() {
+        if find_sysv(elf, SYSV, row.0) != Ok(row.1) || find_gnu(elf, GNU, row.0) != Ok(row.1) {
             return false;
         }
     }
@@ -106,10 +103,9 @@ static SHAPES: [(u32, GnuShape); 4] = [
 struct Found;
 
 impl Question for Found {
-    fn is_answered<S: Source>(&self, rt: &HostRuntime, elf: &mut Elf<S>) -> bool {
-        for (n, row) in SHAPES.iter().enumerate() {
-            let found = same(rt, &rebuild(elf, row.0, row.1), &Ok(())) && are_found(rt, elf);
-            if !in_row(rt, n, found) {
+    fn is_answered<S: Source>(&self, elf: &mut Elf<S>) -> bool {
+        for row in SHAPES.iter() {
+            if rebuild(elf, row.0, row.1) != Ok(()) || !are_found(elf) {
                 return false;
             }
         }
@@ -119,24 +115,21 @@ impl Question for Found {
 
 #[test]
 fn each_name_is_found_through_what_is_built(rt: HostRuntime) {
-    assert!(rt; is_answered(&rt, &Found, WIDE, &SORTED));
-    assert!(rt; is_answered(&rt, &Found, NARROW, &SORTED));
+    assert!(rt; is_answered(rt.alloc(), &Found, WIDE, &SORTED));
+    assert!(rt; is_answered(rt.alloc(), &Found, NARROW, &SORTED));
 }
 
 /// Both are built twice, and the order is asked for.
 struct Twice;
 
 impl Question for Twice {
-    fn is_answered<S: Source>(&self, rt: &HostRuntime, elf: &mut Elf<S>) -> bool {
+    fn is_answered<S: Source>(&self, elf: &mut Elf<S>) -> bool {
         for row in SHAPES.iter() {
-            if let Err(e) = build(elf, row.0, row.1) {
-                return failed(rt, e);
+            if build(elf, row.0, row.1).is_err() {
+                return false;
             }
         }
-        match gnu_order(elf, SYMBOLS, 1) {
-            Ok(_) => true,
-            Err(e) => failed(rt, e),
-        }
+        gnu_order(elf, SYMBOLS, 1).is_ok()
     }
 }
 
@@ -145,5 +138,5 @@ const ONCE: u64 = 64 + 5 * 64 + 10 * 24 + 36;
 
 #[test]
 fn the_table_and_its_strings_are_read_once(rt: HostRuntime) {
-    assert!(rt; same(&rt, &asked(&rt, &Twice, WIDE, &SORTED), &Some(ONCE)));
+    assert!(rt; asked(rt.alloc(), &Twice, WIDE, &SORTED) == Some(ONCE));
 }

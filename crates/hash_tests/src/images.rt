@@ -7,8 +7,8 @@ use elf_types::constants::{
     SHN_ABS, SHT_GNU_HASH, SHT_HASH, SHT_STRTAB, SHT_SYMTAB, STB_GLOBAL, STB_LOCAL, STB_WEAK,
 };
 use elf_types::{DataId, ElfError, NULL_SECTION, Octets, ScnId, Shdr, Sym};
+use std::alloc::Global;
 use test_images::{Content, Form, Put, Recipe, Start, WIDE, image_in, image_of};
-use test_rows::{failed, other, same};
 use test_sources::{Sparse, source};
 
 /// The section of the symbols.
@@ -21,10 +21,10 @@ pub const SYSV: ScnId = ScnId(3);
 pub const GNU: ScnId = ScnId(4);
 
 /// Whether an answer is that refusal.
-pub fn is_refusal<T>(rt: &HostRuntime, answer: &Result<T, ElfError>, refusal: ElfError) -> bool {
+pub fn is_refusal<T>(answer: &Result<T, ElfError>, refusal: ElfError) -> bool {
     match answer {
-        Ok(_) => other(rt, &"an answer", "a refusal"),
-        Err(e) => same(rt, e, &refusal),
+        Ok(_) => false,
+        Err(e) => *e == refusal,
     }
 }
 
@@ -154,75 +154,69 @@ pub static UNSORTED: Recipe = Recipe {
 /// A question on an image, with its answer.
 pub trait Question {
     /// Whether the descriptor that began over it answers as it should.
-    fn is_answered<S: Source>(&self, rt: &HostRuntime, elf: &mut Elf<S>) -> bool;
+    fn is_answered<S: Source>(&self, elf: &mut Elf<S>) -> bool;
 }
 
 /// Whether a question is answered over a source, which is given back.
-fn is_answered_over<Q: Question, S: Source>(rt: &HostRuntime, q: &Q, src: S) -> (S, bool) {
-    match Elf::begin(rt.alloc(), src) {
+fn is_answered_over<Q: Question, S: Source>(alloc: Global, q: &Q, src: S) -> (S, bool) {
+    match Elf::begin(alloc, src) {
         Ok(mut elf) => {
-            let answered = q.is_answered(rt, &mut elf);
+            let answered = q.is_answered(&mut elf);
             (elf.end(), answered)
         }
-        Err((src, e)) => (src, failed(rt, e)),
+        Err((src, _)) => (src, false),
     }
 }
 
 /// Whether a question is answered over a source of a length that begins with these bytes and does
 /// not tell them.
-fn is_answered_untold<Q: Question>(rt: &HostRuntime, q: &Q, bytes: Octets, len: u64) -> bool {
-    is_answered_over(rt, q, Sparse::new(bytes, len)).1
+fn is_answered_untold<Q: Question>(alloc: Global, q: &Q, bytes: Octets, len: u64) -> bool {
+    is_answered_over(alloc, q, Sparse::new(bytes, len)).1
 }
 
 /// Whether it is over one that begins with an image.
-pub fn is_answered_within<Q: Question>(rt: &HostRuntime, q: &Q, recipe: &Recipe, len: u64) -> bool {
-    match image_of(rt.alloc(), recipe) {
-        Ok(image) => is_answered_untold(rt, q, image.bytes, len),
-        Err(e) => failed(rt, e),
+pub fn is_answered_within<Q: Question>(alloc: Global, q: &Q, recipe: &Recipe, len: u64) -> bool {
+    match image_of(alloc, recipe) {
+        Ok(image) => is_answered_untold(alloc, q, image.bytes, len),
+        Err(_) => false,
     }
 }
 
 /// How many bytes of a source in memory were asked for once a question was answered; none where it
 /// was not.
-fn asked_of<Q: Question>(rt: &HostRuntime, q: &Q, src: MemSource) -> Option<u64> {
-    let (src, answered) = is_answered_over(rt, q, src);
+fn asked_of<Q: Question>(alloc: Global, q: &Q, src: MemSource) -> Option<u64> {
+    let (src, answered) = is_answered_over(alloc, q, src);
     if answered { Some(src.asked()) } else { None }
 }
 
 /// The same of one of these bytes.
-fn asked_in<Q: Question>(rt: &HostRuntime, q: &Q, bytes: Octets) -> Option<u64> {
-    match source(rt.alloc(), bytes, 0) {
-        Ok(src) => asked_of(rt, q, src),
-        Err(e) => {
-            let _said = failed(rt, e);
-            None
-        }
+fn asked_in<Q: Question>(alloc: Global, q: &Q, bytes: Octets) -> Option<u64> {
+    match source(alloc, bytes, 0) {
+        Ok(src) => asked_of(alloc, q, src),
+        Err(_) => None,
     }
 }
 
 /// The same of an image in a form.
-pub fn asked<Q: Question>(rt: &HostRuntime, q: &Q, form: Form, recipe: &Recipe) -> Option<u64> {
-    match image_in(rt.alloc(), form, recipe) {
-        Ok(image) => asked_in(rt, q, image.bytes),
-        Err(e) => {
-            let _said = failed(rt, e);
-            None
-        }
+pub fn asked<Q: Question>(alloc: Global, q: &Q, form: Form, recipe: &Recipe) -> Option<u64> {
+    match image_in(alloc, form, recipe) {
+        Ok(image) => asked_in(alloc, q, image.bytes),
+        Err(_) => None,
     }
 }
 
 /// Whether it is answered over an image in a form, by a source that does not tell its bytes.
-fn is_answered_hidden<Q: Question>(rt: &HostRuntime, q: &Q, form: Form, recipe: &Recipe) -> bool {
-    match image_in(rt.alloc(), form, recipe) {
+fn is_answered_hidden<Q: Question>(alloc: Global, q: &Q, form: Form, recipe: &Recipe) -> bool {
+    match image_in(alloc, form, recipe) {
         Ok(image) => {
             let len = image.bytes.len();
-            is_answered_untold(rt, q, image.bytes, len)
+            is_answered_untold(alloc, q, image.bytes, len)
         }
-        Err(e) => failed(rt, e),
+        Err(_) => false,
     }
 }
 
 /// Whether it is over either.
-pub fn is_answered<Q: Question>(rt: &HostRuntime, q: &Q, form: Form, recipe: &Recipe) -> bool {
-    asked(rt, q, form, recipe).is_some() && is_answered_hidden(rt, q, form, recipe)
+pub fn is_answered<Q: Question>(alloc: Global, q: &Q, form: Form, recipe: &Recipe) -> bool {
+    asked(alloc, q, form, recipe).is_some() && is_answered_hidden(alloc, q, form, recipe)
 }

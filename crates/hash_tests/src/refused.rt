@@ -17,27 +17,27 @@ const SHAPE: GnuShape = GnuShape {
 };
 
 /// Whether each call refuses a section so.
-fn are_refused<S: Source>(rt: &HostRuntime, elf: &mut Elf<S>, s: ScnId, e: ElfError) -> bool {
-    is_refusal(rt, &build_sysv(elf, s, 1), e)
-        && is_refusal(rt, &gnu_order(elf, s, 1), e)
-        && is_refusal(rt, &build_gnu(elf, s, SHAPE), e)
+fn are_refused<S: Source>(elf: &mut Elf<S>, s: ScnId, e: ElfError) -> bool {
+    is_refusal(&build_sysv(elf, s, 1), e)
+        && is_refusal(&gnu_order(elf, s, 1), e)
+        && is_refusal(&build_gnu(elf, s, SHAPE), e)
 }
 
 /// Sections that have no symbols, or are not there.
 struct NoTable;
 
 impl Question for NoTable {
-    fn is_answered<S: Source>(&self, rt: &HostRuntime, elf: &mut Elf<S>) -> bool {
+    fn is_answered<S: Source>(&self, elf: &mut Elf<S>) -> bool {
         let nowhere = ElfError::NoSection { index: 9, count: 5 };
-        are_refused(rt, elf, ScnId(9), nowhere)
-            && are_refused(rt, elf, SYSV, ElfError::WrongKind { held: Kind::Word })
-            && are_refused(rt, elf, GNU, ElfError::WrongKind { held: Kind::Bytes })
+        are_refused(elf, ScnId(9), nowhere)
+            && are_refused(elf, SYSV, ElfError::WrongKind { held: Kind::Word })
+            && are_refused(elf, GNU, ElfError::WrongKind { held: Kind::Bytes })
     }
 }
 
 #[test]
 fn other_sections_are_refused(rt: HostRuntime) {
-    assert!(rt; is_answered(&rt, &NoTable, WIDE, &SORTED));
+    assert!(rt; is_answered(rt.alloc(), &NoTable, WIDE, &SORTED));
 }
 
 /// The length of a source that holds 2^32 symbols behind the first 1,024 bytes.
@@ -57,12 +57,12 @@ static MANY: Recipe = Recipe {
 struct TooMany;
 
 impl Question for TooMany {
-    fn is_answered<S: Source>(&self, rt: &HostRuntime, elf: &mut Elf<S>) -> bool {
-        are_refused(rt, elf, SYMBOLS, ElfError::TooMany)
+    fn is_answered<S: Source>(&self, elf: &mut Elf<S>) -> bool {
+        are_refused(elf, SYMBOLS, ElfError::TooMany)
     }
 }
 
 #[test]
 fn more_symbols_than_words_tell_are_refused(rt: HostRuntime) {
-    assert!(rt; is_answered_within(&rt, &TooMany, &MANY, LONG));
+    assert!(rt; is_answered_within(rt.alloc(), &TooMany, &MANY, LONG));
 }

@@ -12,38 +12,37 @@ use rehash_tool::rehash;
 use std::alloc::Global;
 use symbol_lookup::{find_gnu, find_sysv};
 use test_images::{NARROW, WIDE};
-use test_rows::{failed, other, same, same_bytes, same_items};
 
 /// Whether a section's items are these bytes.
-fn are_bytes<S: Source>(rt: &HostRuntime, elf: &mut Elf<S>, s: ScnId, wanted: &[u8]) -> bool {
+fn are_bytes<S: Source>(elf: &mut Elf<S>, s: ScnId, wanted: &[u8]) -> bool {
     match elf.data(first_piece(s)) {
         Ok(items) => match items {
-            Items::Bytes(l) => same_bytes(rt, l.as_slice(), wanted),
-            other_items => other(rt, &other_items.kind(), "the kind of the wanted items"),
+            Items::Bytes(l) => l.as_slice() == wanted,
+            _ => false,
         },
-        Err(e) => failed(rt, e),
+        Err(_) => false,
     }
 }
 
 /// Whether they are these words.
-fn are_words<S: Source>(rt: &HostRuntime, elf: &mut Elf<S>, s: ScnId, wanted: &[u32]) -> bool {
+fn are_words<S: Source>(elf: &mut Elf<S>, s: ScnId, wanted: &[u32]) -> bool {
     match elf.data(first_piece(s)) {
         Ok(items) => match items {
-            Items::Word(l) => same_items(rt, l.as_slice(), wanted),
-            other_items => other(rt, &other_items.kind(), "the kind of the wanted items"),
+            Items::Word(l) => l.as_slice() == wanted,
+            _ => false,
         },
-        Err(e) => failed(rt, e),
+        Err(_) => false,
     }
 }
 
 /// Whether they are these two-byte numbers.
-fn are_halves<S: Source>(rt: &HostRuntime, elf: &mut Elf<S>, s: ScnId, wanted: &[u16]) -> bool {
+fn are_halves<S: Source>(elf: &mut Elf<S>, s: ScnId, wanted: &[u16]) -> bool {
     match elf.data(first_piece(s)) {
         Ok(items) => match items {
-            Items::Half(l) => same_items(rt, l.as_slice(), wanted),
-            other_items => other(rt, &other_items.kind(), "the kind of the wanted items"),
+            Items::Half(l) => l.as_slice() == wanted,
+            _ => false,
         },
-        Err(e) => failed(rt, e),
+        Err(_) => false,
     }
 }
 
@@ -64,85 +63,71 @@ struct Moved {
 }
 
 /// Whether a relocation with an addend is by a symbol.
-fn is_rela_of<S: Source>(rt: &HostRuntime, elf: &mut Elf<S>, i: u64, symbol: u32) -> bool {
+fn is_rela_of<S: Source>(elf: &mut Elf<S>, i: u64, symbol: u32) -> bool {
     match rela(elf, first_piece(RELAS), i) {
-        Ok(r) => same(rt, &r.sym, &symbol)
-            && same(rt, &r.offset, &8)
-            && same(rt, &r.rtype, &1)
-            && same(rt, &r.addend, &-4),
-        Err(e) => failed(rt, e),
+        Ok(r) => r.sym == symbol && r.offset == 8 && r.rtype == 1 && r.addend == -4,
+        Err(_) => false,
     }
 }
 
 /// Whether one without is.
-fn is_rel_of<S: Source>(rt: &HostRuntime, elf: &mut Elf<S>, i: u64, symbol: u32) -> bool {
+fn is_rel_of<S: Source>(elf: &mut Elf<S>, i: u64, symbol: u32) -> bool {
     match rel(elf, first_piece(RELS), i) {
-        Ok(r) => same(rt, &r.sym, &symbol) && same(rt, &r.offset, &8) && same(rt, &r.rtype, &1),
-        Err(e) => failed(rt, e),
+        Ok(r) => r.sym == symbol && r.offset == 8 && r.rtype == 1,
+        Err(_) => false,
     }
 }
 
 /// Whether a symbol has the name at an offset.
-fn is_named<S: Source>(rt: &HostRuntime, elf: &mut Elf<S>, symbol: u32, name: u32) -> bool {
+fn is_named<S: Source>(elf: &mut Elf<S>, symbol: u32, name: u32) -> bool {
     match sym(elf, first_piece(SYMBOLS), u64::from(symbol)) {
-        Ok(held) => same(rt, &held.name, &name),
-        Err(e) => failed(rt, e),
+        Ok(held) => held.name == name,
+        Err(_) => false,
     }
 }
 
 /// Whether the signature of the group is a symbol.
-fn is_signed<S: Source>(rt: &HostRuntime, elf: &Elf<S>, symbol: u32) -> bool {
+fn is_signed<S: Source>(elf: &Elf<S>, symbol: u32) -> bool {
     match elf.shdr(GROUP) {
-        Ok(header) => same(rt, &header.info, &symbol),
-        Err(e) => failed(rt, e),
+        Ok(header) => header.info == symbol,
+        Err(_) => false,
     }
 }
 
 impl Moved {
     /// Whether the sections hold what they should.
-    fn is_there<S: Source>(&self, rt: &HostRuntime, elf: &mut Elf<S>) -> bool {
-        are_words(rt, elf, SYSV, self.words)
-            && are_bytes(rt, elf, GNU, self.bytes)
-            && are_halves(rt, elf, VERSIONS, self.versions)
-            && are_words(rt, elf, INDEXES, self.indexes)
+    fn is_there<S: Source>(&self, elf: &mut Elf<S>) -> bool {
+        are_words(elf, SYSV, self.words)
+            && are_bytes(elf, GNU, self.bytes)
+            && are_halves(elf, VERSIONS, self.versions)
+            && are_words(elf, INDEXES, self.indexes)
     }
 
     /// Whether relocations and the group name the symbols that they named.
-    fn is_followed<S: Source>(&self, rt: &HostRuntime, elf: &mut Elf<S>) -> bool {
-        is_rela_of(rt, elf, 0, self.b)
-            && is_rela_of(rt, elf, 1, 1)
-            && is_rela_of(rt, elf, 2, 7)
-            && is_rel_of(rt, elf, 0, self.b)
-            && is_rel_of(rt, elf, 1, 7)
-            && is_signed(rt, elf, self.b)
-            && is_named(rt, elf, self.b, 3)
-            && is_named(rt, elf, 1, 24)
+    fn is_followed<S: Source>(&self, elf: &mut Elf<S>) -> bool {
+        is_rela_of(elf, 0, self.b)
+            && is_rela_of(elf, 1, 1)
+            && is_rela_of(elf, 2, 7)
+            && is_rel_of(elf, 0, self.b)
+            && is_rel_of(elf, 1, 7)
+            && is_signed(elf, self.b)
+            && is_named(elf, self.b, 3)
+            && is_named(elf, 1, 24)
     }
 
     /// Whether both sections find both names.
-    fn is_found<S: Source>(&self, rt: &HostRuntime, elf: &mut Elf<S>) -> bool {
-        same(rt, &find_gnu(elf, GNU, b"a"), &Ok(Some(u64::from(self.a))))
-            && same(rt, &find_gnu(elf, GNU, b"b"), &Ok(Some(u64::from(self.b))))
-            && same(
-                rt,
-                &find_sysv(elf, SYSV, b"a"),
-                &Ok(Some(u64::from(self.a))),
-            )
-            && same(
-                rt,
-                &find_sysv(elf, SYSV, b"b"),
-                &Ok(Some(u64::from(self.b))),
-            )
-            && same(rt, &find_gnu(elf, GNU, b"hidden"), &Ok(None))
+    fn is_found<S: Source>(&self, elf: &mut Elf<S>) -> bool {
+        find_gnu(elf, GNU, b"a") == Ok(Some(u64::from(self.a)))
+            && find_gnu(elf, GNU, b"b") == Ok(Some(u64::from(self.b)))
+            && find_sysv(elf, SYSV, b"a") == Ok(Some(u64::from(self.a)))
+            && find_sysv(elf, SYSV, b"b") == Ok(Some(u64::from(self.b)))
+            && find_gnu(elf, GNU, b"hidden") == Ok(None)
     }
 }
 
 impl Question for Moved {
-    fn is_answered<S: Source>(&self, rt: &HostRuntime, elf: &mut Elf<S>) -> bool {
-        same(rt, &rehash(elf), &Ok(true))
-            && self.is_there(rt, elf)
-            && self.is_followed(rt, elf)
-            && self.is_found(rt, elf)
+    fn is_answered<S: Source>(&self, elf: &mut Elf<S>) -> bool {
+        rehash(elf) == Ok(true) && self.is_there(elf) && self.is_followed(elf) && self.is_found(elf)
     }
 }
 
@@ -178,8 +163,8 @@ static IN_ONE: Moved = Moved {
 
 #[test]
 fn what_goes_by_the_symbols_follows_their_order(rt: HostRuntime) {
-    assert!(rt; is_answered(&rt, &IN_TWO, WIDE, &DYNAMIC));
-    assert!(rt; is_answered(&rt, &IN_ONE, NARROW, &DYNAMIC));
+    assert!(rt; is_answered(rt.alloc(), &IN_TWO, WIDE, &DYNAMIC));
+    assert!(rt; is_answered(rt.alloc(), &IN_ONE, NARROW, &DYNAMIC));
 }
 
 /// Without GNU's section the symbols stay where they are, and nothing else is looked at: the
@@ -187,18 +172,18 @@ fn what_goes_by_the_symbols_follows_their_order(rt: HostRuntime) {
 struct WordsAlone;
 
 impl Question for WordsAlone {
-    fn is_answered<S: Source>(&self, rt: &HostRuntime, elf: &mut Elf<S>) -> bool {
-        same(rt, &rehash(elf), &Ok(true))
-            && are_words(rt, elf, SYSV, &[2, 5, 1, 2, 0, 4, 0, 0, 0])
-            && are_halves(rt, elf, VERSIONS, &[0, 1, 2])
-            && is_named(rt, elf, 1, 3)
+    fn is_answered<S: Source>(&self, elf: &mut Elf<S>) -> bool {
+        rehash(elf) == Ok(true)
+            && are_words(elf, SYSV, &[2, 5, 1, 2, 0, 4, 0, 0, 0])
+            && are_halves(elf, VERSIONS, &[0, 1, 2])
+            && is_named(elf, 1, 3)
     }
 }
 
 #[test]
 fn a_section_of_words_alone_is_built_without_a_new_order(rt: HostRuntime) {
-    assert!(rt; is_answered(&rt, &WordsAlone, WIDE, &WORDS_ALONE));
-    assert!(rt; is_answered(&rt, &WordsAlone, NARROW, &WORDS_ALONE));
+    assert!(rt; is_answered(rt.alloc(), &WordsAlone, WIDE, &WORDS_ALONE));
+    assert!(rt; is_answered(rt.alloc(), &WordsAlone, NARROW, &WORDS_ALONE));
 }
 
 /// Beginnings of GNU's hash section that are not kept: too short, no bucket, too many, no bloom
@@ -237,11 +222,9 @@ fn rehash_with_bytes<S: Source>(
 struct Shaped(Global);
 
 impl Question for Shaped {
-    fn is_answered<S: Source>(&self, rt: &HostRuntime, elf: &mut Elf<S>) -> bool {
+    fn is_answered<S: Source>(&self, elf: &mut Elf<S>) -> bool {
         for bytes in NOT_KEPT.iter() {
-            if rehash_with_bytes(self.0, elf, bytes) != Ok(true)
-                || !are_bytes(rt, elf, GNU, SMALLEST)
-            {
+            if rehash_with_bytes(self.0, elf, bytes) != Ok(true) || !are_bytes(elf, GNU, SMALLEST) {
                 return false;
             }
         }
@@ -251,7 +234,7 @@ impl Question for Shaped {
 
 #[test]
 fn a_shape_that_is_too_large_or_none_becomes_the_smallest(rt: HostRuntime) {
-    assert!(rt; is_answered(&rt, &Shaped(rt.alloc()), WIDE, &DYNAMIC));
+    assert!(rt; is_answered(rt.alloc(), &Shaped(rt.alloc()), WIDE, &DYNAMIC));
 }
 
 /// Numbers of buckets that are not kept.
@@ -275,10 +258,10 @@ fn rehash_with_words<S: Source>(
 struct Bucket(Global);
 
 impl Question for Bucket {
-    fn is_answered<S: Source>(&self, rt: &HostRuntime, elf: &mut Elf<S>) -> bool {
+    fn is_answered<S: Source>(&self, elf: &mut Elf<S>) -> bool {
         for words in NO_BUCKETS.iter() {
             if rehash_with_words(self.0, elf, words) != Ok(true)
-                || !are_words(rt, elf, SYSV, &[1, 5, 2, 0, 0, 3, 4, 0])
+                || !are_words(elf, SYSV, &[1, 5, 2, 0, 0, 3, 4, 0])
             {
                 return false;
             }
@@ -289,5 +272,5 @@ impl Question for Bucket {
 
 #[test]
 fn too_many_buckets_or_none_become_one(rt: HostRuntime) {
-    assert!(rt; is_answered(&rt, &Bucket(rt.alloc()), WIDE, &DYNAMIC));
+    assert!(rt; is_answered(rt.alloc(), &Bucket(rt.alloc()), WIDE, &DYNAMIC));
 }

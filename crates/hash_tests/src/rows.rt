@@ -6,21 +6,20 @@ use elf_outside::Source;
 use elf_types::{ElfError, Octets, Words};
 use hash_build::{GnuShape, build_gnu, build_sysv, gnu_order};
 use test_images::{NARROW, OBJECT, WIDE};
-use test_rows::{failed, same_bytes};
 
 /// Whether these are the words.
-fn are_words(rt: &HostRuntime, words: &Result<Words, ElfError>, wanted: &[u32]) -> bool {
+fn are_words(words: &Result<Words, ElfError>, wanted: &[u32]) -> bool {
     match words {
-        Ok(l) => same_bytes(rt, l.as_slice(), wanted),
-        Err(e) => failed(rt, e),
+        Ok(l) => l.as_slice() == wanted,
+        Err(_) => false,
     }
 }
 
 /// Whether these are the bytes.
-fn are_bytes(rt: &HostRuntime, bytes: &Result<Octets, ElfError>, wanted: &[u8]) -> bool {
+fn are_bytes(bytes: &Result<Octets, ElfError>, wanted: &[u8]) -> bool {
     match bytes {
-        Ok(l) => same_bytes(rt, l.as_slice(), wanted),
-        Err(e) => failed(rt, e),
+        Ok(l) => l.as_slice() == wanted,
+        Err(_) => false,
     }
 }
 
@@ -47,20 +46,20 @@ const NARROW_BYTES: &[u8] = &[
 struct Built(&'static [u8]);
 
 impl Question for Built {
-    fn is_answered<S: Source>(&self, rt: &HostRuntime, elf: &mut Elf<S>) -> bool {
+    fn is_answered<S: Source>(&self, elf: &mut Elf<S>) -> bool {
         let words = build_sysv(elf, SYMBOLS, 1);
         let order = gnu_order(elf, SYMBOLS, 1);
         let bytes = build_gnu(elf, SYMBOLS, ONE);
-        are_words(rt, &words, &[1, 2, 1, 0, 0])
-            && are_words(rt, &order, &[0, 1])
-            && are_bytes(rt, &bytes, self.0)
+        are_words(&words, &[1, 2, 1, 0, 0])
+            && are_words(&order, &[0, 1])
+            && are_bytes(&bytes, self.0)
     }
 }
 
 #[test]
 fn both_sections_are_built_for_one_symbol(rt: HostRuntime) {
-    assert!(rt; is_answered(&rt, &Built(WIDE_BYTES), WIDE, &OBJECT));
-    assert!(rt; is_answered(&rt, &Built(NARROW_BYTES), NARROW, &OBJECT));
+    assert!(rt; is_answered(rt.alloc(), &Built(WIDE_BYTES), WIDE, &OBJECT));
+    assert!(rt; is_answered(rt.alloc(), &Built(NARROW_BYTES), NARROW, &OBJECT));
 }
 
 /// Two buckets.
@@ -74,20 +73,20 @@ const TWO: GnuShape = GnuShape {
 struct Ordered;
 
 impl Question for Ordered {
-    fn is_answered<S: Source>(&self, rt: &HostRuntime, elf: &mut Elf<S>) -> bool {
+    fn is_answered<S: Source>(&self, elf: &mut Elf<S>) -> bool {
         let two = gnu_order(elf, SYMBOLS, 2);
         let one = gnu_order(elf, SYMBOLS, 1);
         let refused = build_gnu(elf, SYMBOLS, TWO);
-        are_words(rt, &two, &[0, 3, 2, 4, 1])
-            && are_words(rt, &one, &[0, 3, 1, 2, 4])
-            && is_refusal(rt, &refused, ElfError::Unsorted { at: 2 })
+        are_words(&two, &[0, 3, 2, 4, 1])
+            && are_words(&one, &[0, 3, 1, 2, 4])
+            && is_refusal(&refused, ElfError::Unsorted { at: 2 })
     }
 }
 
 #[test]
 fn symbols_are_ordered_by_bucket(rt: HostRuntime) {
-    assert!(rt; is_answered(&rt, &Ordered, WIDE, &UNSORTED));
-    assert!(rt; is_answered(&rt, &Ordered, NARROW, &UNSORTED));
+    assert!(rt; is_answered(rt.alloc(), &Ordered, WIDE, &UNSORTED));
+    assert!(rt; is_answered(rt.alloc(), &Ordered, NARROW, &UNSORTED));
 }
 
 /// Chains go up in a section of type `SHT_HASH`, whatever the order of the symbols is: the elf
@@ -95,16 +94,15 @@ fn symbols_are_ordered_by_bucket(rt: HostRuntime) {
 struct Chained;
 
 impl Question for Chained {
-    fn is_answered<S: Source>(&self, rt: &HostRuntime, elf: &mut Elf<S>) -> bool {
+    fn is_answered<S: Source>(&self, elf: &mut Elf<S>) -> bool {
         let two = build_sysv(elf, SYMBOLS, 2);
         let one = build_sysv(elf, SYMBOLS, 1);
-        are_words(rt, &two, &[2, 5, 1, 2, 0, 4, 0, 0, 0])
-            && are_words(rt, &one, &[1, 5, 1, 0, 2, 4, 0, 0])
+        are_words(&two, &[2, 5, 1, 2, 0, 4, 0, 0, 0]) && are_words(&one, &[1, 5, 1, 0, 2, 4, 0, 0])
     }
 }
 
 #[test]
 fn chains_of_words_go_up(rt: HostRuntime) {
-    assert!(rt; is_answered(&rt, &Chained, WIDE, &UNSORTED));
-    assert!(rt; is_answered(&rt, &Chained, NARROW, &UNSORTED));
+    assert!(rt; is_answered(rt.alloc(), &Chained, WIDE, &UNSORTED));
+    assert!(rt; is_answered(rt.alloc(), &Chained, NARROW, &UNSORTED));
 }

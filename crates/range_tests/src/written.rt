@@ -8,7 +8,6 @@ use object_files::Image;
 use shared_bytes::SharedBytes;
 use std::alloc::Global;
 use test_images::{Recipe, Start, image_in};
-use test_rows::{in_row, other, same, within};
 use test_sources::source;
 
 /// The image of which ranges are copied.
@@ -207,29 +206,22 @@ fn outcome_of(alloc: Global, setting: &Setting) -> Result<Outcome, ElfError> {
 
 /// How many of the first twenty reads stop the writing where they fail; none where one of them
 /// does anything else.
-fn stops(rt: &HostRuntime) -> u32 {
+fn stops(alloc: Global) -> u32 {
     let mut count = 0u32;
     for bad_read in 1..21 {
-        match outcome_of(rt.alloc(), &Setting { bad_read, ..WHOLE }) {
+        match outcome_of(alloc, &Setting { bad_read, ..WHOLE }) {
             Ok(Outcome::Stopped) => count = count.saturating_add(1),
             Ok(Outcome::Written) => {}
-            answer => {
-                let _said = within(rt, &bad_read, other(rt, &answer, "a read that stops it"));
-                return 0;
-            }
+            _ => return 0,
         }
     }
     count
 }
 
 /// Whether each of these settings does not fit.
-fn are_unfit(rt: &HostRuntime, settings: &[Setting]) -> bool {
-    for (n, setting) in settings.iter().enumerate() {
-        if !in_row(
-            rt,
-            n,
-            same(rt, &outcome_of(rt.alloc(), setting), &Ok(Outcome::Unfit)),
-        ) {
+fn are_unfit(alloc: Global, settings: &[Setting]) -> bool {
+    for setting in settings {
+        if outcome_of(alloc, setting) != Ok(Outcome::Unfit) {
             return false;
         }
     }
@@ -238,15 +230,15 @@ fn are_unfit(rt: &HostRuntime, settings: &[Setting]) -> bool {
 
 #[test]
 fn an_image_is_written_from_ranges(rt: HostRuntime) {
-    assert!(rt; same(&rt, &outcome_of(rt.alloc(), &WHOLE), &Ok(Outcome::Written)));
+    assert!(rt; outcome_of(rt.alloc(), &WHOLE) == Ok(Outcome::Written));
 }
 
 #[test]
 fn each_read_that_fails_stops_it(rt: HostRuntime) {
-    assert!(rt; same(&rt, &stops(&rt), &4));
+    assert!(rt; stops(rt.alloc()) == 4);
 }
 
 #[test]
 fn what_does_not_fit_is_told(rt: HostRuntime) {
-    assert!(rt; are_unfit(&rt, &UNFIT));
+    assert!(rt; are_unfit(rt.alloc(), &UNFIT));
 }

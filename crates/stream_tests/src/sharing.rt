@@ -5,7 +5,6 @@ use shared_bytes::SharedBytes;
 use shared_strings::SharedStrings;
 use std::alloc::Global;
 use std::test::*;
-use test_rows::{same, same_bytes};
 
 /// An older table, whose names end at one NUL.
 const OLD: &[u8] = b"\0aaab\0";
@@ -67,13 +66,7 @@ fn names_of_an_older_table_make_a_new_one(rt: HostRuntime) -> Result<(), Fail> {
         assert_eq!(rt; strings.add(name, near), Ok(place));
     }
     let table = strings.finish()?.to_octets(rt.alloc())?;
-    assert!(rt;
-        same_bytes(
-            &rt,
-            table.as_slice(),
-            b"\0aaab\0aab\0ab\0xy\0b\0".as_slice()
-        )
-    );
+    assert!(rt; table.as_slice() == b"\0aaab\0aab\0ab\0xy\0b\0".as_slice());
     Ok(())
 }
 
@@ -92,7 +85,7 @@ fn an_older_table_is_held_late(rt: HostRuntime) -> Result<(), Fail> {
         assert_eq!(rt; strings.add(name, near), Ok(place));
     }
     let table = strings.finish()?.to_octets(rt.alloc())?;
-    assert!(rt; same_bytes(&rt, table.as_slice(), b"\0aaab\0aab\0ab\0b\0".as_slice()));
+    assert!(rt; table.as_slice() == b"\0aaab\0aab\0ab\0b\0".as_slice());
     Ok(())
 }
 
@@ -117,6 +110,6 @@ fn names_of_one_hash_are_told_apart(rt: HostRuntime) -> Result<(), Fail> {
 
 #[test]
 fn shared_bytes_are_copied_from_each_place_on(rt: HostRuntime) {
-    assert!(rt; same(&rt, &is_each_copied(rt.alloc()), &Ok(true)));
-    assert!(rt; same(&rt, &is_text_told(rt.alloc()), &Ok(true)));
+    assert!(rt; is_each_copied(rt.alloc()) == Ok(true));
+    assert!(rt; is_text_told(rt.alloc()) == Ok(true));
 }

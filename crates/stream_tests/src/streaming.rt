@@ -4,8 +4,8 @@ use crate::forms::begun;
 use crate::listing::listed;
 use elf_types::ElfError;
 use image_ranges::ByteRange;
+use std::alloc::Global;
 use strip_stream::stream_listed;
-use test_rows::{holds, same};
 
 /// A range of what is held.
 const fn held_at(at: u64, len: u64) -> ByteRange {
@@ -18,31 +18,27 @@ const fn held_at(at: u64, len: u64) -> ByteRange {
 
 /// Whether the five sections of class 64 and their table are planned, and the front is held behind
 /// three bytes.
-fn is_streamed(rt: &HostRuntime) -> Result<bool, ElfError> {
-    let x = listed(rt.alloc())?;
+fn is_streamed(alloc: Global) -> Result<bool, ElfError> {
+    let x = listed(alloc)?;
     if x.headers.is_empty() || x.headers.len() > 1 << 20 || x.headers.len() != x.sizes.len() {
         return Ok(false);
     }
-    let mut held = begun(rt.alloc())?;
-    let streamed = stream_listed(rt.alloc(), x, [0; 7], &[], false, 0, &mut held)?;
+    let mut held = begun(alloc)?;
+    let streamed = stream_listed(alloc, x, [0; 7], &[], false, 0, &mut held)?;
     let (planned, front) = (streamed.planned, streamed.front);
-    let bytes = held.to_octets(rt.alloc())?;
+    let bytes = held.to_octets(alloc)?;
     Ok(
-        same(rt, &planned.places.end, &424)
-            && same(rt, &planned.parts.len(), &5)
-            && same(rt, &front.header, &held_at(3, 64))
-            && same(rt, &front.segments, &held_at(67, 0))
-            && same(rt, &front.table, &held_at(67, 320))
-            && same(rt, &held.len(), &387)
-            && holds(
-                rt,
-                "the header is held",
-                bytes.as_slice().starts_with(b"abc\x7fELF"),
-            ),
+        planned.places.end == 424
+            && planned.parts.len() == 5
+            && front.header == held_at(3, 64)
+            && front.segments == held_at(67, 0)
+            && front.table == held_at(67, 320)
+            && held.len() == 387
+            && bytes.as_slice().starts_with(b"abc\x7fELF"),
     )
 }
 
 #[test]
 fn an_image_is_planned_and_its_front_is_held(rt: HostRuntime) {
-    assert!(rt; same(&rt, &is_streamed(&rt), &Ok(true)));
+    assert!(rt; is_streamed(rt.alloc()) == Ok(true));
 }

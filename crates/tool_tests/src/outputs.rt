@@ -3,7 +3,6 @@
 use elf_outside::{MemSink, Sink};
 use elf_types::{Addrs, ElfError, Octets};
 use std::alloc::Global;
-use test_rows::{failed, in_row, same, same_bytes};
 use tool_output::{Outputs, PAGE_SIZE, Side, Stop};
 
 /// What both sinks hold in the end, and how the writing ended.
@@ -16,10 +15,10 @@ pub struct Written {
 
 impl Written {
     /// Whether the writing ended so, and the outputs hold its texts.
-    fn is(&self, rt: &HostRuntime, ending: &Ending) -> bool {
-        same(rt, &self.ended, &ending.ended)
-            && same_bytes(rt, self.out.as_slice(), ending.out)
-            && same_bytes(rt, self.err.as_slice(), ending.err)
+    fn is(&self, ending: &Ending) -> bool {
+        self.ended == ending.ended
+            && self.out.as_slice() == ending.out
+            && self.err.as_slice() == ending.err
     }
 }
 
@@ -74,10 +73,10 @@ pub struct Ending {
 }
 
 /// Whether a writing ends so.
-pub fn ends_so<W: Writing>(rt: &HostRuntime, w: &W, ending: &Ending) -> bool {
-    match written_by(rt.alloc(), w, ending.failing) {
-        Ok(written) => written.is(rt, ending),
-        Err(e) => failed(rt, e),
+pub fn ends_so<W: Writing>(alloc: Global, w: &W, ending: &Ending) -> bool {
+    match written_by(alloc, w, ending.failing) {
+        Ok(written) => written.is(ending),
+        Err(_) => false,
     }
 }
 
@@ -124,9 +123,9 @@ const TURNS_END: [Ending; 3] = [
 ];
 
 /// Whether it ends in each of these ways.
-fn turns_end(rt: &HostRuntime, endings: &[Ending]) -> bool {
-    for (n, ending) in endings.iter().enumerate() {
-        if !in_row(rt, n, ends_so(rt, &InTurns, ending)) {
+fn turns_end(alloc: Global, endings: &[Ending]) -> bool {
+    for ending in endings {
+        if !ends_so(alloc, &InTurns, ending) {
             return false;
         }
     }
@@ -135,7 +134,7 @@ fn turns_end(rt: &HostRuntime, endings: &[Ending]) -> bool {
 
 #[test]
 fn lines_reach_both_outputs_up_to_a_failed_put(rt: HostRuntime) {
-    assert!(rt; turns_end(&rt, &TURNS_END));
+    assert!(rt; turns_end(rt.alloc(), &TURNS_END));
 }
 
 /// A line of 16 bytes is written so many times.
@@ -152,10 +151,10 @@ impl Writing for Many {
 }
 
 /// Whether such a writing, whose second put fails, ends so and puts a page.
-fn puts_a_page(rt: &HostRuntime, count: u64, ended: Result<bool, Stop>) -> bool {
-    match written_by(rt.alloc(), &Many(count), 2) {
-        Ok(written) => same(rt, &written.ended, &ended) && same(rt, &written.out.len(), &PAGE_SIZE),
-        Err(e) => failed(rt, e),
+fn puts_a_page(alloc: Global, count: u64, ended: Result<bool, Stop>) -> bool {
+    match written_by(alloc, &Many(count), 2) {
+        Ok(written) => written.ended == ended && written.out.len() == PAGE_SIZE,
+        Err(_) => false,
     }
 }
 
@@ -164,6 +163,6 @@ const FULL: u64 = PAGE_SIZE / 16;
 
 #[test]
 fn a_page_is_put_when_it_is_full(rt: HostRuntime) {
-    assert!(rt; puts_a_page(&rt, FULL, Ok(false)));
-    assert!(rt; puts_a_page(&rt, FULL + 1, Err(Stop::Write)));
+    assert!(rt; puts_a_page(rt.alloc(), FULL, Ok(false)));
+    assert!(rt; puts_a_page(rt.alloc(), FULL + 1, Err(Stop::Write)));
 }

@@ -3,7 +3,7 @@
 use crate::outputs::{Ending, Writing, ends_so};
 use elf_outside::Sink;
 use elf_types::{ElfError, Octets};
-use test_rows::{failed_by, in_row, same, same_bytes};
+use std::alloc::Global;
 use tool_output::{FileName, InSection, Line, Message, NameEx, Outputs, Status, Stop};
 
 /// A message of nm on the member M of LIB with a text is written.
@@ -66,9 +66,9 @@ impl Writing for Saying {
 type Said = (Saying, Ending);
 
 /// Whether each is said so.
-fn are_said(rt: &HostRuntime, sayings: &[Said]) -> bool {
-    for (n, (saying, ending)) in sayings.iter().enumerate() {
-        if !in_row(rt, n, ends_so(rt, saying, ending)) {
+fn are_said(alloc: Global, sayings: &[Said]) -> bool {
+    for (saying, ending) in sayings {
+        if !ends_so(alloc, saying, ending) {
             return false;
         }
     }
@@ -111,7 +111,7 @@ const REFUSALS: [Said; 3] = [
 
 #[test]
 fn refusals_are_messages_and_stops_are_not(rt: HostRuntime) {
-    assert!(rt; are_said(&rt, &REFUSALS));
+    assert!(rt; are_said(rt.alloc(), &REFUSALS));
 }
 
 /// A finding and a note.
@@ -138,25 +138,25 @@ const REMARKS: [Said; 2] = [
 
 #[test]
 fn findings_refuse_and_notes_do_not(rt: HostRuntime) {
-    assert!(rt; are_said(&rt, &REMARKS));
+    assert!(rt; are_said(rt.alloc(), &REMARKS));
 }
 
 /// Whether a line has this text.
-fn reads<L: Line>(rt: &HostRuntime, line: &L, text: &[u8]) -> bool {
-    let mut page = Octets::new(rt.alloc());
-    same(rt, &line.put(&mut page), &Ok(())) && same_bytes(rt, page.as_slice(), text)
+fn reads<L: Line>(alloc: Global, line: &L, text: &[u8]) -> bool {
+    let mut page = Octets::new(alloc);
+    line.put(&mut page) == Ok(()) && page.as_slice() == text
 }
 
 /// Whether a name has these texts, in either form.
-fn is_named(rt: &HostRuntime, name: &FileName<'_>, text: &[u8], ex: &[u8]) -> bool {
-    reads(rt, name, text) && reads(rt, &NameEx { name }, ex)
+fn is_named(alloc: Global, name: &FileName<'_>, text: &[u8], ex: &[u8]) -> bool {
+    reads(alloc, name, text) && reads(alloc, &NameEx { name }, ex)
 }
 
 #[test]
 fn names_are_shown_in_two_forms(rt: HostRuntime) {
-    assert!(rt; is_named(&rt, &FileName::of(b"F"), b"F", b"F"));
+    assert!(rt; is_named(rt.alloc(), &FileName::of(b"F"), b"F", b"F"));
     let member = FileName::of_member(b"LIB", b"M");
-    assert!(rt; is_named(&rt, &member, b"LIB[M]", b"M (ex LIB)"));
+    assert!(rt; is_named(rt.alloc(), &member, b"LIB[M]", b"M (ex LIB)"));
 }
 
 /// Each stop, its text, and the status of a run that it ends.
@@ -167,18 +167,17 @@ const STOPS: [(Stop, &str, u8); 3] = [
 ];
 
 /// Whether the stop is shown by that text.
-fn is_shown(rt: &HostRuntime, stop: Stop, text: &str) -> bool {
-    match format!(in rt.alloc(); "{stop}") {
-        Ok(shown) => same_bytes(rt, shown.as_bytes(), text.as_bytes()),
-        Err(e) => failed_by(rt, &e),
+fn is_shown(alloc: Global, stop: Stop, text: &str) -> bool {
+    match format!(in alloc; "{stop}") {
+        Ok(shown) => shown.as_str() == text,
+        Err(_) => false,
     }
 }
 
 /// Whether stops have these texts and statuses.
-fn are_shown(rt: &HostRuntime, stops: &[(Stop, &str, u8)]) -> bool {
-    for (n, (stop, text, status)) in stops.iter().enumerate() {
-        let so = is_shown(rt, *stop, text) && same(rt, &Status::of(Err(*stop)).code(), status);
-        if !in_row(rt, n, so) {
+fn are_shown(alloc: Global, stops: &[(Stop, &str, u8)]) -> bool {
+    for (stop, text, status) in stops {
+        if !is_shown(alloc, *stop, text) || Status::of(Err(*stop)).code() != *status {
             return false;
         }
     }
@@ -187,5 +186,5 @@ fn are_shown(rt: &HostRuntime, stops: &[(Stop, &str, u8)]) -> bool {
 
 #[test]
 fn stops_have_texts_and_statuses(rt: HostRuntime) {
-    assert!(rt; are_shown(&rt, &STOPS));
+    assert!(rt; are_shown(rt.alloc(), &STOPS));
 }
