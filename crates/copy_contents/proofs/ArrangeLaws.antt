@@ -28,7 +28,7 @@ not_listable x = record { ok = tt; small = tt; err = inl refl }
 module _ (x : Arranged) where
   pub placed_again : (next : Listed) → IsListable x → ArrangesTo x.listed x.tail (Ok next)
       → PlacesAgain x
-      (Ok (record { listed = next; ranges = x.ranges; held = x.held; tail = x.tail }))
+      (Ok (record x { listed = next }))
   placed_again next small arranges = record {
     ok = λ o p is.
         let to = arranges.ok p is.listed in

@@ -36,6 +36,7 @@ pub(crate) fn arrange_again(alloc: Global, x: Arranged) -> Result<Arranged, ElfE
         Ok(listed) => Ok(Arranged {
             listed,
             ranges: x.ranges,
+            kinds: x.kinds,
             held: x.held,
             tail,
         }),

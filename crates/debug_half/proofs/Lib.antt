@@ -1,5 +1,6 @@
-pub use Rattle.strip_rebuild.proofs.object_making
-pub use Rattle.strip_rebuild.proofs as strip_rebuild
-pub use Rattle.strip_rebuild.proofs.update_plan
-mod PartLaws
+pub use Rattle.rebuild_object.proofs.strip_contents.image_ranges
+pub use Rattle.rebuild_object.proofs.strip_contents
 pub mod HalfLaws
+pub mod RangeLaws
+pub mod KeepLaws
+pub mod PlanLaws

@@ -1,11 +1,12 @@
--- What is made of each section for the debug half, and what is read for it.
-use Rattle.std.specs.Prelude.{ℕ, List, [], ◌∷◌, filter, not, if◌then◌else◌}
+-- What the debug half has of each section, and what is read for it (eu-strip(1) with -f; gABI
+-- chapter 4, "Sections", SHT_NOBITS).
+use Rattle.std.specs.Prelude.{ℕ, ◌==◌, List, [], filter, map, not, if◌then◌else◌}
+use Rattle.elf_types.specs.declared.records.Kind.{Kind}
+use Rattle.elf_types.specs.declared.records.Kind.TheVariants as kinds
 use Rattle.elf_types.specs.declared.records.Shdr.{Shdr}
 use Rattle.elf_types.specs.declared.constants.TheConstants.{SHT_NOBITS}
-use Rattle.elf_xlate.specs.declared.content.Items.{Items}
-use Rattle.elf_xlate.specs.declared.content.Items.TheVariants as items
 use Rattle.elf_object.specs.Object.{Object, section_at}
-use Rattle.elf_object.specs.Due.{homes_due}
+use Rattle.elf_object.specs.Due.{all_sections, home_due, homes_due}
 use Rattle.elf_object.specs.Layout.{section_numbers}
 use Rattle.elf_object.specs.Sections.{header_at}
 use Rattle.command_objects.specs.Split.{is_loaded_from_file}
@@ -19,16 +20,22 @@ half_header o s =
     then record (header_at o s) { stype = SHT_NOBITS }
     else header_at o s
 
-unfoldable pub half_items : Object → ℕ → Items
-half_items o s =
-    if is_loaded_from_file (header_at o s) then items.Bytes []
-    else items.Bytes (section_at o s).raw
+-- the bytes that it has: none where it is loaded of the file
+unfoldable pub half_bytes : Object → ℕ → List ℕ
+half_bytes o s = if is_loaded_from_file (header_at o s) then [] else (section_at o s).raw
 
--- the home that is looked at for it
-unfoldable pub half_reads : Object → ℕ → List ℕ
-half_reads o s = if is_loaded_from_file (header_at o s) then [] else s ∷ []
+-- how many bytes of the base its range has
+abbrev pub half_range_due : Object → ℕ → ℕ
+half_range_due o s = if is_loaded_from_file (header_at o s) then 0 else home_due o [] s
 
 -- ---- All of them
+
+-- each from 1 on is read as bytes
+abbrev pub half_kind : ℕ → Kind
+half_kind s = if s == 0 then kinds.Empty else kinds.Bytes
+
+unfoldable pub half_kinds : Object → List Kind
+half_kinds o = map half_kind (all_sections o)
 
 -- the sections from 1 on that keep their bytes
 unfoldable pub kept_in_half : Object → List ℕ

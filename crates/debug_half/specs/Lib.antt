@@ -1,4 +1,7 @@
-pub use Rattle.strip_rebuild.specs.elf_descriptor
-pub use Rattle.strip_rebuild.specs.object_making
+pub use Rattle.rebuild_object.specs.strip_contents.image_ranges
+pub use Rattle.rebuild_object.specs.strip_contents
+pub use Rattle.rebuild_object.specs.strip_contents.strip_laws
 pub mod Half
-pub mod Answers
+pub mod Ranges
+pub mod Keeping
+pub mod Planning

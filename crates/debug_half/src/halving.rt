@@ -1,57 +1,21 @@
 //! The debug half of an object.
 
-ghost use Rattle.std.specs.Prelude.{◌≡◌, [], true, false, None, IsTrue, OnOk, IfOk, IfErr};
+ghost use Rattle.std.specs.Prelude.{◌≡◌, true, false, None, IsTrue, OnOk, IfOk, IfErr};
 ghost use Rattle.elf_object.specs.Object.{is_dirty};
 ghost use Rattle.elf_object.specs.Words.{result_map};
-ghost use Rattle.command_objects.specs.Followed.{kept_from_1};
 ghost use Rattle.command_objects.specs.Split.{debug_of, debug_refusal};
-ghost use Rattle.strip_rebuild.specs.object_making.Based.{IsMadeOver};
-ghost use Rattle.strip_rebuild.specs.object_making.Refused.{UnreadBy};
-ghost use Rattle.strip_rebuild.specs.Answers.{RebuildAnswers};
-ghost use Rattle.strip_rebuild.specs.Makes.{AsksFor};
+ghost use Rattle.rebuild_object.specs.strip_contents.object_making.Refused.{UnreadBy};
+ghost use Rattle.rebuild_object.specs.strip_contents.strip_rebuild.Answers.{RebuildAnswers};
+ghost use Rattle.rebuild_object.specs.strip_contents.strip_rebuild.Makes.{AsksFor};
 ghost use Rattle.debug_half.specs.Half.{half_due};
-ghost use Rattle.debug_half.specs.Answers.{Halves};
 
-use crate::making::HalfMaker;
+use crate::keeping::keep_half;
+use crate::planning::arrange_half;
 use elf_outside::{NoSource, Source};
 use elf_types::ElfError;
+use rebuild_object::object_of;
+use rebuild_object::prelude::Elf;
 use std::alloc::Global;
-use strip_rebuild::prelude::{Elf, SectionSet};
-use strip_rebuild::{fill, kept_numbers};
-
-/// Fills an object that was created over no base with the debug half of another one.
-fn fill_half<S: Source>(
-    elf: &mut Elf<S>,
-    numbers: &[u32],
-    made: &mut Elf<NoSource>,
-) -> Result<(), ElfError>
-    requires numbers { numbers.now ≡ kept_from_1 elf.old.o [] }
-    requires created { IsMadeOver elf.old.told elf.old.o None made.old }
-    ensures halves { Halves S.Source (result_map (λ _. made.new.o) result) result
-        elf.old elf.new }
-    ensures made { OnOk result (made.new.told ≡ true) }
-{
-    let index = elf.shstrndx();
-    fill(&HalfMaker, elf, numbers, index, made)
-}
-
-/// The same with an object that is handed on.
-fn finish<S: Source>(
-    elf: &mut Elf<S>,
-    numbers: &[u32],
-    mut made: Elf<NoSource>,
-) -> Result<Elf<NoSource>, ElfError>
-    requires numbers { numbers.now ≡ kept_from_1 elf.old.o [] }
-    requires created { IsMadeOver elf.old.told elf.old.o None made }
-    ensures halves { Halves S.Source (result_map (λ half. half.o) result) result
-        elf.old elf.new }
-    ensures made { IfOk result (λ half. half.told ≡ true) }
-{
-    match fill_half(elf, numbers, &mut made) {
-        Ok(()) => Ok(made),
-        Err(e) => Err(e),
-    }
-}
 
 /// The debug half of an object in which nothing is dirty: an object with its header, its program
 /// headers and all its sections under their numbers. Sections that are allocated and have bytes in
@@ -71,11 +35,13 @@ pub fn debug_of<S: Source>(alloc: Global, elf: &mut Elf<S>) -> Result<Elf<NoSour
     ensures made { IfOk result (λ half. half.told ≡ true) }
     ensures asks { AsksFor S.Source result elf.old elf.new (half_due elf.old.o) }
 {
-    let numbers = match kept_numbers(alloc, elf, &SectionSet::none(alloc)) {
-        Ok(numbers) => numbers,
+    let _sound = elf.dirty();
+    let contents = match keep_half(alloc, elf) {
+        Ok(contents) => contents,
         Err(e) => return Err(e),
     };
-    let header = elf.ehdr();
-    let made = Elf::create(alloc, header.class, header.order);
-    finish(elf, numbers.as_slice(), made)
+    match arrange_half(alloc, elf, contents) {
+        Ok(x) => object_of(alloc, elf, &x),
+        Err(e) => Err(e),
+    }
 }

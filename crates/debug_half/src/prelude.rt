@@ -1,3 +1,3 @@
 //! What `debug_half` passes on of the crates below it.
 
-pub use strip_rebuild::prelude::{Elf, SectionMaker};
+pub use rebuild_object::prelude::{Arranged, Contents, RangedPlan, arrange_rebuilt, plan_arranged};

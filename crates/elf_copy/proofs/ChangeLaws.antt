@@ -5,7 +5,7 @@ use Rattle.elf_types.specs.Answers.{◌>>=◌}
 use Rattle.elf_outside.specs.Counts.{Rose}
 use Rattle.elf_outside.specs.declared.sources.Source.{Ghosts}
 use Rattle.elf_object.specs.Object.{Object}
-use Rattle.strip_rebuild.specs.elf_descriptor.State.{State}
+use Rattle.rebuild_object.specs.strip_contents.elf_descriptor.State.{State}
 use Rattle.elf_object.specs.Sections.{in_turn}
 use Rattle.command_objects.specs.Copied.{Changes as StatedChanges, CopyFault as StatedFault, names_in, with_bytes, with_name, with_changes}
 use Rattle.copy_edits.specs.strip_removed.Calls.{ReadsNames}

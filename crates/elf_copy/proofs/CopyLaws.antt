@@ -9,8 +9,8 @@ use Rattle.elf_outside.specs.declared.sources.Source.{Ghosts}
 use Rattle.elf_object.specs.Object.{Object}
 use Rattle.elf_object.specs.Due.{homes_due}
 use Rattle.elf_object.specs.Words.{Wants, Answers}
-use Rattle.strip_rebuild.specs.elf_descriptor.State.{State}
-use Rattle.strip_rebuild.specs.elf_descriptor.Reads.{Queries}
+use Rattle.rebuild_object.specs.strip_contents.elf_descriptor.State.{State}
+use Rattle.rebuild_object.specs.strip_contents.elf_descriptor.Reads.{Queries}
 use Rattle.command_objects.specs.Arranged.{Rebuilt}
 use Rattle.command_objects.specs.Rebuilt.{rebuilt, renews_names}
 use Rattle.command_objects.specs.Removed.{with_found, with_followers, is_named, removed_by_name}
@@ -18,10 +18,10 @@ use Rattle.command_objects.specs.Copied.{Changes, CopyFault as StatedFault, or_s
 use Rattle.copy_edits.specs.strip_removed.Calls as calls
 use Rattle.copy_edits.specs.strip_removed.Steps.{IsRemovable}
 use Rattle.copy_edits.proofs.strip_removed.TopLaws.{are_removable}
-use Rattle.strip_rebuild.specs.declared.rebuilding.Rebuilt.{Rebuilt as Made}
-use Rattle.strip_rebuild.specs.Answers.{RebuildAnswers, EarlyBy, early_refusal, rebuild_due}
-use Rattle.strip_rebuild.specs.Makes.{AsksFor}
-use Rattle.strip_rebuild.proofs.AskLaws.{asks_reads, asks_as, asks_stop, asks_more, asks_twice}
+use Rattle.rebuild_object.specs.strip_contents.strip_rebuild.declared.rebuilding.Rebuilt.{Rebuilt as Made}
+use Rattle.rebuild_object.specs.strip_contents.strip_rebuild.Answers.{RebuildAnswers, EarlyBy, early_refusal, rebuild_due}
+use Rattle.rebuild_object.specs.strip_contents.strip_rebuild.Makes.{AsksFor}
+use Rattle.rebuild_object.proofs.strip_contents.strip_rebuild.AskLaws.{asks_reads, asks_as, asks_stop, asks_more, asks_twice}
 use Rattle.copy_changes.specs.declared.faults.CopyFault.{CopyFault}
 use Rattle.copy_changes.specs.declared.faults.CopyFault.TheVariants as faults
 use Rattle.copy_changes.specs.Stated.{stated_fault, IsUnread, outer_result}

@@ -8,8 +8,8 @@ use Rattle.elf_types.specs.declared.errors.ElfError.{ElfError}
 use Rattle.elf_types.specs.declared.errors.ElfError.TheVariants.{Memory, Read, Write, TooLarge, NoSection, Unfit}
 use Rattle.elf_types.specs.declared.records.Part.TheVariants as part
 use Rattle.elf_types.specs.Answers.{refused_if, first_refusal, answered, FollowsBy, ◌>>=◌}
-use Rattle.strip_rebuild.specs.elf_descriptor.State.{State}
-use Rattle.strip_rebuild.specs.elf_descriptor.Edits.{StepsTo}
+use Rattle.rebuild_object.specs.strip_contents.elf_descriptor.State.{State}
+use Rattle.rebuild_object.specs.strip_contents.elf_descriptor.Edits.{StepsTo}
 use Rattle.elf_object.specs.Object.{Object, Section}
 use Rattle.elf_object.specs.Calls.{update_ehdr_refusal}
 use Rattle.elf_object.specs.Steps.{stored_ehdr}
@@ -22,7 +22,7 @@ use Rattle.command_objects.specs.Copied.{Changes, CopyFault as StatedFault, or_s
 use Rattle.copy_edits.specs.object_making.Placing.{made_of, arranged_refusal, placed_state, arranged_state}
 use Rattle.elf_layout.specs.Layout.{some_above, limit_of}
 use Rattle.copy_edits.specs.strip_removed.Steps.{IsRemovable}
-use Rattle.strip_rebuild.proofs.NumberLaws.{zero_stays, kept_with_0}
+use Rattle.rebuild_object.proofs.strip_contents.strip_rebuild.NumberLaws.{zero_stays, kept_with_0}
 use Rattle.strip_laws.proofs.RebuiltLaws.{rebuilt_known}
 use Rattle.copy_laws.proofs.Reopened.{front_is}
 use Rattle.copy_laws.proofs.AllChanges.{places_leave}

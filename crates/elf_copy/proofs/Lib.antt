@@ -1,4 +1,4 @@
-pub use Rattle.strip_rebuild.proofs as strip_rebuild
+pub use Rattle.rebuild_object.proofs.strip_contents.strip_rebuild
 pub mod NamingLaws
 pub mod ChangeLaws
 pub mod FinishLaws

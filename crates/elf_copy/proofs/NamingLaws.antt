@@ -10,7 +10,7 @@ use Rattle.strtab_build.specs.Table.{place_of}
 use Rattle.elf_object.specs.Object.{Object, Section}
 use Rattle.elf_object.specs.Steps.{with_own}
 use Rattle.elf_object.specs.Strings.{or_empty_name}
-use Rattle.strip_rebuild.specs.elf_descriptor.State.{State}
+use Rattle.rebuild_object.specs.strip_contents.elf_descriptor.State.{State}
 use Rattle.elf_object.specs.Sections.{in_turn}
 use Rattle.command_objects.specs.Rebuilt.{table_refusal}
 use Rattle.command_objects.specs.Copied.{CopyFault as StatedFault, or_strip, with_added, with_section_flags, named_section, with_names, named, changes_names}

@@ -6,7 +6,7 @@ use Rattle.elf_types.specs.Answers.{FollowsBy, ◌>>=◌}
 use Rattle.elf_outside.specs.declared.sources.Source.{Ghosts}
 use Rattle.elf_object.specs.Object.{Object}
 use Rattle.elf_object.specs.Due.{homes_due}
-use Rattle.strip_rebuild.specs.elf_descriptor.State.{State}
+use Rattle.rebuild_object.specs.strip_contents.elf_descriptor.State.{State}
 use Rattle.elf_object.specs.Sections.{in_turn}
 use Rattle.command_objects.specs.Arranged.{Rebuilt, arranged}
 use Rattle.command_objects.specs.Rebuilt.{rebuilt, renews_names}
@@ -15,9 +15,9 @@ use Rattle.command_objects.specs.Copied.{Changes, CopyFault as StatedFault, or_s
 use Rattle.copy_edits.specs.object_making.Placing.{made_of}
 use Rattle.copy_edits.specs.strip_removed.Calls.{names_home}
 use Rattle.copy_edits.specs.strip_removed.Steps.{IsRemovable}
-use Rattle.strip_rebuild.specs.declared.rebuilding.Rebuilt.{Rebuilt as Made}
-use Rattle.strip_rebuild.specs.Answers.{EarlyBy, early_refusal, rebuild_due}
-use Rattle.strip_rebuild.specs.Makes.{AsksFor}
+use Rattle.rebuild_object.specs.strip_contents.strip_rebuild.declared.rebuilding.Rebuilt.{Rebuilt as Made}
+use Rattle.rebuild_object.specs.strip_contents.strip_rebuild.Answers.{EarlyBy, early_refusal, rebuild_due}
+use Rattle.rebuild_object.specs.strip_contents.strip_rebuild.Makes.{AsksFor}
 use Rattle.copy_changes.specs.declared.faults.CopyFault.{CopyFault}
 use Rattle.copy_changes.specs.declared.faults.CopyFault.TheVariants as faults
 use Rattle.copy_changes.specs.Stated.{stated_fault, IsUnread, outer_result}

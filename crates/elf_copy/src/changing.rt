@@ -13,8 +13,8 @@ use copy_edits::{add_sections, flag_sections, rename_sections, update_sections};
 use copy_names::{Naming, plan_names, store_names};
 use elf_outside::NoSource;
 use elf_types::List;
+use rebuild_object::prelude::Elf;
 use std::alloc::Global;
-use strip_rebuild::prelude::Elf;
 
 /// A fault in place of names, which are dropped.
 fn refuse_names(_naming: Naming, fault: CopyFault) -> Result<(), CopyFault>

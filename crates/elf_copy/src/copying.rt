@@ -9,11 +9,12 @@ ghost use Rattle.elf_copy.specs.Copies.{placed, changed_placed, seen_parts, seen
 use crate::changing::make_changes;
 use copy_changes::{Changes, CopyFault};
 use copy_edits::prelude::{SectionSet, arrange, removed_by_name};
+use copy_names::prelude::renews_names;
 use elf_outside::{NoSource, Source};
 use elf_types::ElfError;
+use rebuild_object::prelude::{Elf, Rebuilt};
+use rebuild_object::rebuild;
 use std::alloc::Global;
-use strip_rebuild::prelude::{Elf, renews_names};
-use strip_rebuild::{Rebuilt, rebuild};
 
 /// Gives what is not loaded its places behind a tail.
 fn place(elf: &mut Elf<NoSource>, tail: Option<u64>) -> Result<(), CopyFault>

@@ -7,4 +7,4 @@ mod copying;
 
 pub use copy_changes::{Changes, CopyFault, NameBits, NameBytes};
 pub use copying::copy_of;
-pub use strip_rebuild::Rebuilt;
+pub use rebuild_object::prelude::Rebuilt;

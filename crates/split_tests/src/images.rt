@@ -152,7 +152,7 @@ pub fn untold(image: Octets) -> Sparse {
 }
 
 /// A sink with room for each image of these tests.
-fn sink(alloc: Global) -> Result<MemSink, ElfError> {
+pub fn sink(alloc: Global) -> Result<MemSink, ElfError> {
     match Addrs::from_slice(alloc, &[0]) {
         Ok(bad_puts) => MemSink::new(alloc, 10_000, bad_puts),
         Err(e) => Err(e),

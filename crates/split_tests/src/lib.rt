@@ -14,4 +14,6 @@ mod joins;
 #[cfg(test)]
 mod mismatches;
 #[cfg(test)]
+mod planned;
+#[cfg(test)]
 mod refusals;

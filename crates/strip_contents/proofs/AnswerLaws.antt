@@ -1,22 +1,18 @@
 -- What was kept is arranged as the rebuilt object, and its plan is that of the file that an update
 -- writes of it.
-use Rattle.std.proofs.Common.{◌≡◌, ◌⊎◌, inl, inr, ◌<◌, ◌≤◌, ◌==◌, ◌&&◌, ℕ, Bool, true, false, not, List, [], length, map, Option, Some, None, Result, Ok, Err, refl, sym, ap, ◌∙◌, subst}
-use Rattle.std.specs.Prelude.{IsTrue, IfSome, nat_le}
-use Rattle.std.proofs.lemmas.Bool.{and_cases, eqb-true, leb-false, not-false}
+use Rattle.std.proofs.Common.{◌≡◌, ◌⊎◌, inl, inr, ◌≤◌, ℕ, true, false, List, [], length, map, Option, Some, None, Result, Ok, Err, refl, sym, ap, ◌∙◌, subst}
+use Rattle.std.specs.Prelude.{IsTrue, IfSome}
+use Rattle.std.proofs.lemmas.Result.{IfOk-weaker, IfErr-weaker}
 use Rattle.elf_types.specs.declared.records.Phdr.{Phdr}
 use Rattle.elf_types.specs.declared.errors.ElfError.{ElfError}
-use Rattle.elf_types.specs.declared.errors.ElfError.TheVariants.{Memory, Read, Write, TooLarge, NoSection}
+use Rattle.elf_types.specs.declared.errors.ElfError.TheVariants.{Memory, Read, Write, TooLarge}
 use Rattle.elf_types.specs.Answers.{first_refusal, answered, IsRefusal}
 use Rattle.elf_outside.specs.declared.sources.Source.{Ghosts}
-use Rattle.strip_laws.specs.elf_object.Object.{Object, Section, is_dirty}
+use Rattle.strip_laws.specs.elf_object.Object.{Object, is_dirty}
 use Rattle.strip_laws.specs.elf_object.Calls.{newphdr_refusal}
 use Rattle.strip_laws.specs.elf_object.Image.{image}
 use Rattle.strip_laws.specs.elf_object.Refusal.{refusal}
-use Rattle.strip_laws.specs.elf_object.Steps.{stored_ehdr, with_ehdr, with_phdrs}
-use Rattle.strip_laws.specs.elf_object.Open.{created_over}
 use Rattle.strip_laws.specs.elf_object.Valid.{IsObject}
-use Rattle.strip_laws.specs.elf_object.Words.{result_map}
-use Rattle.strip_laws.proofs.elf_object.PassedLaws.{not_refused}
 use Rattle.strip_laws.proofs.elf_object.RefusalLaws.{update_refuses}
 use Rattle.strip_tables.specs.elf_descriptor.State.{State}
 use Rattle.strip_tables.specs.update_plan.Placing.{IsRefused}
@@ -28,30 +24,29 @@ use Rattle.strip_laws.specs.elf_object.Sections.{is_among}
 use Rattle.strip_laws.specs.Made.{FitsClass}
 use Rattle.strip_laws.proofs.RebuiltLaws.{rebuilt_is_object}
 use Rattle.strip_laws.proofs.WritableLaws.{rebuilt_is_writable}
-use Rattle.strip_tables.specs.object_making.Based.{IsMadeOver}
 use Rattle.strip_tables.specs.object_making.Placing.{made_of, arranged_refusal}
 use Rattle.strip_tables.specs.object_making.Refused.{UnreadBy}
 use Rattle.strip_tables.specs.image_ranges.Ranges.{KeptSource}
 use Rattle.strip_tables.proofs.image_ranges.ImageLaws.{ranges_make_image}
 use Rattle.strip_tables.specs.strip_removed.Steps.{IsRemovable}
+use Rattle.strip_tables.specs.strip_rebuild.declared.naming.Names.{Names}
+use Rattle.strip_tables.specs.strip_rebuild.declared.naming.Names.TheVariants as names
 use Rattle.strip_tables.specs.strip_rebuild.declared.keepers.Keeper.{Keeper}
-use Rattle.strip_tables.specs.strip_rebuild.Answers.{RebuildAnswers, ChecksNames, Rebuilds, IsFilled, homes_asked, refusal_of, sections_of}
+use Rattle.strip_tables.specs.strip_rebuild.Answers.{RebuildAnswers, EarlyBy, early_refusal, ChecksNames, refusal_of, sections_of}
 use Rattle.strip_tables.specs.strip_rebuild.Keepers.{KeepsFor, refusal_by, index_by}
-use Rattle.strip_tables.specs.strip_rebuild.Makes.{AsksFor}
-use Rattle.strip_tables.proofs.strip_rebuild.AskLaws.{asks_nothing}
 use Rattle.strip_tables.proofs.strip_rebuild.FillLaws.{filled_third}
-use Rattle.strip_tables.proofs.strip_rebuild.KeptLaws.{early_told}
 use Rattle.strip_tables.proofs.strip_rebuild.MakeLaws.{unread_stated}
 use Rattle.strip_tables.proofs.strip_rebuild.NumberLaws.{zero_stays}
-use Rattle.strip_tables.proofs.strip_rebuild.RebuildLaws.{answers_early, names_refused, placed_whole, tail_within}
+use Rattle.strip_tables.proofs.strip_rebuild.RebuildLaws.{answers_early, early_error, early_is, names_refused, stated_is, tail_within}
 use Rattle.strip_contents.specs.declared.arranged.Arranged.{Arranged}
 use Rattle.strip_contents.specs.declared.contents.Contents.{Contents}
 use Rattle.strip_contents.specs.declared.plans.RangedPlan.{RangedPlan}
 use Rattle.strip_contents.specs.Checks.{index_beyond, ChecksLast}
-use Rattle.strip_contents.specs.Contents.{HasContents}
-use Rattle.strip_contents.specs.Plans.{arranged_object, kept_with, AreRangesBy, PlansCopied, MayBeWritten, IsRangedBy, IsArrangedAs, IsUnarranged, ArrangesContents, FileAnswers, ArrangedAnswers, ArrangesKept}
+use Rattle.strip_contents.specs.Contents.{HasContents, IsReadBy}
+use Rattle.strip_contents.specs.Plans.{arranged_object, kept_with, AreRangesBy, PlansCopied, MayBeWritten, IsRangedBy, IsArrangedAs, IsUnarranged, KeepsRanges, ArrangesContents, FileAnswers, ArrangedAnswers, MakesRebuilt, ArrangesKept}
 use Rattle.strip_contents.proofs.CheckLaws.{index_is, index_states, last_unread}
 use Rattle.strip_contents.proofs.ListLaws.{contents_count, gathered}
+use Rattle.strip_contents.proofs.MakesLaws.{makes_rebuilt}
 
 -- ---- What is refused
 
@@ -62,6 +57,14 @@ early_as_arranged o Memory stated is = tt
 early_as_arranged o Read stated is = tt
 early_as_arranged o Write stated is = is
 early_as_arranged o e stated is = is
+
+-- names whose table is too large are refused after what is early
+names_early : (names : Names) (e : ElfError) → ChecksNames names (Err e)
+    → (stated : Option ElfError) → stated ≡ None → EarlyBy stated e
+names_early names.Stay e came stated none = cc
+names_early (names.Anew n) e came stated none = cc
+names_early names.TooLarge e came stated none =
+    let same : e ≡ TooLarge = cc in subst (EarlyBy stated) (sym same) none
 
 -- it is one of its file
 pub arranged_as_file : (o : Object) (e : ElfError) (stated : Result Rebuilt ElfError)
@@ -79,14 +82,6 @@ update_answers base Read q stated is came = tt
 update_answers base Write q stated is came =
     absurd (subst (λ (r : Option ElfError). IfSome r IsRefusal) is (update_refuses q))
 update_answers base e q stated is came = came
-
-index_within : (s count : ℕ) → index_beyond s count ≡ None → (s ≡ 0) ⊎ (s < count)
-index_within s count passed =
-    elim (and_cases (not (s == 0)) (nat_le count s)
-    (not_refused (not (s == 0) && nat_le count s) (NoSection s count) passed)) [
-      | inl zero_is ↦ inl (eqb-true s 0 (not-false (s == 0) zero_is))
-      | inr low ↦ inr (leb-false count s low)
-    ]
 
 -- ---- Places
 
@@ -106,56 +101,6 @@ arranged_err p None e refused = cc
 arranged_err p (Some n) e refused =
     sym (ap (λ (r : Option ElfError). answered r (made_of (placed_from p n) (Some n))) refused)
 
--- ---- An object as a state
-
-state_of : Object → State (Unit {0})
-state_of o = record {
-  o = o;
-  told = true;
-  loaded = [];
-  held = [];
-  room = [];
-  ready = false;
-  source = tt;
-}
-
-base_is : (o : Object) (tail : Option ℕ)
-    → over_base o tail ≡ record (over_base o tail) { base = (over_base o tail).base }
-unfolding over_base created_over
-base_is o None = refl
-base_is o (Some n) = refl
-
-created : (told : Bool) (o : Object) (tail : Option ℕ)
-    → IsMadeOver told o tail (state_of (over_base o tail))
-unfolding state_of
-created told o tail = record {
-  base = (over_base o tail).base;
-  long = refl;
-  made_is = record {
-    object = base_is o tail;
-    told = refl;
-    loaded = refl;
-    held = refl;
-    room = refl;
-    ready = refl;
-  };
-  exact = λ t. refl;
-}
-
-filled : (told : Bool) (o : Object) (tail : Option ℕ) (index : ℕ) (sections : List Section)
-    → (index ≡ 0) ⊎ (index < length sections)
-    → IsFilled told o index sections (state_of (over_base o tail))
-    (state_of (assembled (over_base o tail) o index sections))
-unfolding state_of assembled with_ehdr stored_ehdr with_phdrs
-filled told o tail index sections within = record {
-  sections = sections;
-  object = refl;
-  long = refl;
-  exact = λ t. refl;
-  told_is = refl;
-  index_is = within;
-}
-
 -- ---- Of a keeper
 
 module _ {S : Type 0} (g : Ghosts S) (s : State S) (k : Keeper) (is : IsObject s.o)
@@ -167,14 +112,21 @@ module _ {S : Type 0} (g : Ghosts S) (s : State S) (k : Keeper) (is : IsObject s
   stays : is_among k.removed.now 0 ≡ false
   stays = zero_stays s.o k.removed.now removable
 
+  early : refusal_of k s.o ≡ early_refusal s.o k.removed.now
+  early = early_is s.told s.o k is clean removable keeps
+
   pub early_answer : (e : ElfError) → UnreadBy (refusal_of k s.o) e
       → ArrangedAnswers s.o (Err e) stated
   early_answer e by =
       early_as_arranged s.o e stated
-      (answers_early s.o k.removed.now e (subst (λ (r : Option ElfError). UnreadBy r e)
-      (early_told s.told s.o k keeps stays is clean) by))
+      (answers_early s.o k.removed.now e (subst (λ (r : Option ElfError). UnreadBy r e) early by))
 
-  module _ (fit : FitsClass s.o) (segments : newphdr_refusal (length s.o.phdrs) ≡ None)
+  pub early_stated : (e : ElfError) → UnreadBy (refusal_of k s.o) e
+      → EarlyBy (early_refusal s.o k.removed.now) e
+  early_stated e by =
+      early_error s.o k.removed.now e (subst (λ (r : Option ElfError). UnreadBy r e) early by)
+
+  module _ (fit : IsTrue s.told → FitsClass s.o) (segments : newphdr_refusal (length s.o.phdrs) ≡ None)
       (sections : first_refusal (map (refusal_by k s.o) (kept_from_1 s.o k.removed.now)) ≡ None)
       (x : Contents) (has : HasContents k s x) (index count : ℕ) (index_as : index ≡ index_by k s.o)
       (count_as : count ≡ length x.headers) where
@@ -194,16 +146,23 @@ module _ {S : Type 0} (g : Ghosts S) (s : State S) (k : Keeper) (is : IsObject s
         (subst (λ (r : Option ElfError). IfSome r IsRefusal) refused (index_states index count))
         (filled_is ∙ refused))
 
-    asked : AsksFor {T = Unit {0}} g (Ok tt) s s (homes_asked s.o k.removed.now)
-    asked = asks_nothing g (Ok tt) s (homes_asked s.o k.removed.now) tt
-
     names_answer : (e : ElfError) → index_beyond index count ≡ None → ChecksNames k.names (Err e)
         → IsTrue s.told → ArrangedAnswers s.o (Err e) stated
     names_answer e passed checks t =
-        let whole : Rebuilds {T = Unit {0}} g k.removed.now (Err e) (Err e)
-        (homes_asked s.o k.removed.now) s s =
-        names_refused g s s k is clean removable keeps (filled_is ∙ passed) asked e checks in
-        early_as_arranged s.o e stated (whole.answer t)
+        let large = names_refused s.told s.o k is clean removable keeps (filled_is ∙ passed) t e
+        checks in
+        subst (λ (d : ElfError). ArrangedAnswers s.o (Err d) stated) (sym large.0) large.1
+
+    passes : index_beyond index count ≡ None → early_refusal s.o k.removed.now ≡ None
+    passes passed = sym early ∙ filled_is ∙ passed
+
+    last_early : (e : ElfError) → ChecksLast k.names index count (Err e)
+        → EarlyBy (early_refusal s.o k.removed.now) e
+    last_early e (inl refused) =
+        early_stated e (unread_stated (refusal_of k s.o) e
+        (subst (λ (r : Option ElfError). IfSome r IsRefusal) refused (index_states index count))
+        (filled_is ∙ refused))
+    last_early e (inr checks) = names_early k.names e checks.1 (early_refusal s.o k.removed.now) (passes checks.0)
 
     last_refused : (e : ElfError) → ChecksLast k.names index count (Err e) → IsTrue s.told
         → ArrangedAnswers s.o (Err e) stated
@@ -221,42 +180,21 @@ module _ {S : Type 0} (g : Ghosts S) (s : State S) (k : Keeper) (is : IsObject s
         abbrev q : Object
         q = arranged_object p tail
 
-        within : (index_by k s.o ≡ 0) ⊎ (index_by k s.o < length (sections_of k s.o))
-        within =
-            index_within (index_by k s.o) (length (sections_of k s.o))
-            (ap (λ (i : ℕ). index_beyond i (length (sections_of k s.o))) (sym index_as)
-            ∙ ap (index_beyond index) (sym (count_as ∙ contents_count k s x has))
-            ∙ passed)
-
-        whole : (r : Result (Unit {0}) ElfError)
-            → result_map (λ u. made_of q tail) r ≡ arranged (made_of p tail)
-            → r ≡ answered (arranged_refusal p tail) tt
-            → RebuildAnswers (result_map (λ u. made_of q tail) r) stated
-        unfolding state_of
-        whole r came answer =
-            let all : Rebuilds {T = Unit {0}} g k.removed.now
-            (result_map (λ u. made_of q tail) r) r (homes_asked s.o k.removed.now) s s =
-            placed_whole g s s k is clean removable keeps (filled_is ∙ passed) asked tail
-            (state_of (over_base s.o tail)) (state_of p) (state_of q) tt tail_as
-            (created s.told s.o tail)
-            (filled s.told s.o tail (index_by k s.o) (sections_of k s.o) within) checked r came
-            answer in
-            all.answer t
+        is_arranged : stated ≡ arranged (made_of p tail)
+        is_arranged =
+            stated_is s.told s.o k is clean removable keeps (filled_is ∙ passed) t tail tail_as
+            checked
 
         is_rebuilt : arranged_refusal p tail ≡ None → stated ≡ Ok (made_of q tail)
-        is_rebuilt placed =
-            whole (Ok tt) (arranged_ok p tail placed)
-            (sym (ap (λ (r : Option ElfError). answered r (tt {0})) placed))
+        is_rebuilt placed = is_arranged ∙ sym (arranged_ok p tail placed)
 
         not_rebuilt : arranged_refusal p tail ≡ Some TooLarge → stated ≡ Err TooLarge
-        not_rebuilt refused =
-            whole (Err TooLarge) (arranged_err p tail TooLarge refused)
-            (sym (ap (λ (r : Option ElfError). answered r (tt {0})) refused))
+        not_rebuilt refused = is_arranged ∙ sym (arranged_err p tail TooLarge refused)
 
         may : stated ≡ Ok (made_of q tail) → MayBeWritten q
         may came =
-            let writable = rebuilt_is_writable s.o k.removed.now (made_of q tail) is fit stays
-            came in
+            let writable = rebuilt_is_writable s.o k.removed.now (made_of q tail) is (fit t)
+            stays came in
             record {
               object = rebuilt_is_object s.o k.removed.now (made_of q tail) is came;
               dirty = writable.dirty;
@@ -287,13 +225,27 @@ module _ {S : Type 0} (g : Ghosts S) (s : State S) (k : Keeper) (is : IsObject s
             (arranges.ok s.o.base p (gathered k s x has tail t within_base))
         answer_by (Err e) arranges = unarranged_answer e arranges.err
 
+    places_early : (tail : Option ℕ) (e : ElfError) → early_refusal s.o k.removed.now ≡ None
+        → (e ≡ Memory) ⊎ IsUnarranged s.o index x tail e
+        → EarlyBy (early_refusal s.o k.removed.now) e
+    places_early tail e none (inl want) =
+        subst (EarlyBy (early_refusal s.o k.removed.now)) (sym want) tt
+    places_early tail e none (inr large) =
+        subst (EarlyBy (early_refusal s.o k.removed.now)) (sym large.error) none
+
     pub kept_arranged : (r : Result Arranged ElfError) (tail : Option ℕ)
-        → ChecksLast k.names index count (Ok tt) → tail ≡ rebuilt_tail s.o k.removed.now
+        → IsReadBy k s.o x → ChecksLast k.names index count (Ok tt) → tail ≡ rebuilt_tail s.o k.removed.now
         → ArrangesContents s.o index x tail r → ArrangesKept s k.removed.now r
-    kept_arranged r tail checks tail_as arranges = record {
+    kept_arranged r tail read checks tail_as arranges = record {
       answer = λ t.
           answer_by checks.0 checks.1 tail tail_as t r
           (subst (λ (i : ℕ). ArrangesContents s.o i x tail r) index_as arranges);
+      early = IfErr-weaker r (λ e. (e ≡ Memory) ⊎ IsUnarranged s.o index x tail e)
+          (EarlyBy (early_refusal s.o k.removed.now))
+          (λ e. places_early tail e (passes checks.0)) arranges.err;
+      makes = IfOk-weaker r (KeepsRanges x tail) (MakesRebuilt s.o k.removed.now)
+          (λ next. makes_rebuilt s.told s.o k keeps is clean checks.1 x tail next stays read
+          tail_as) arranges.kept;
       small = arranges.small;
       unread = arranges.unread;
     }
@@ -302,6 +254,8 @@ module _ {S : Type 0} (g : Ghosts S) (s : State S) (k : Keeper) (is : IsObject s
         → ArrangesKept s k.removed.now (Err e)
     kept_refused e checks = record {
       answer = λ t. last_refused e checks t;
+      early = last_early e checks;
+      makes = tt;
       small = tt;
       unread = last_unread Arranged k.names index count e checks;
     }

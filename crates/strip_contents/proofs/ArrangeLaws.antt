@@ -95,5 +95,5 @@ behind_arranges x tail (Err e) same ok count sizes err = by err
       ok = tt;
       count = tt;
       sizes = tt;
-      err = inr (record { error = is.error; refused = is.refused });
+      err = inr (record { error = is.error; behind = refl; refused = is.refused });
     }

@@ -1,20 +1,21 @@
 -- What is asked for, by a keeper, is at most what is stated of the object.
 use Rattle.std.proofs.Common.{◌≡◌, ◌≢◌, ◌+◌, ◌≤◌, ◌==◌, ◌&&◌, ◌||◌, ℕ, Bool, true, false, List, [], ◌∷◌, if◌then◌else◌, refl, sym, ap, ◌∙◌, arith}
 use Rattle.std.specs.Prelude.{nat_eq, sum_by}
-use Rattle.std.specs.List.{list_any}
+use Rattle.std.specs.List.{flat_map, list_any}
 use Rattle.std.proofs.lemmas.Bool.{eq-eqb, or_right}
-use Rattle.std.proofs.lemmas.List.Sums.{sum_by-cons}
+use Rattle.std.proofs.lemmas.List.Sums.{sum_by-append, sum_by-cons}
+use Rattle.std.proofs.lemmas.List.Concat.{flat_map-cons}
 use Rattle.strip_laws.specs.elf_object.Object.{Object, is_dirty}
-use Rattle.strip_laws.specs.elf_object.Due.{homes_due}
+use Rattle.strip_laws.specs.elf_object.Due.{home_due, homes_due}
 use Rattle.strip_laws.specs.elf_object.Valid.{IsObject}
-use Rattle.strip_laws.specs.elf_object.Sections.{is_among}
-use Rattle.strip_laws.specs.command_objects.Followed.{kept_from_1}
+use Rattle.strip_laws.specs.elf_object.Sections.{header_at, is_among, number_or_0}
+use Rattle.strip_laws.specs.command_objects.Followed.{kept_from_1, extended_table, indexes_follow, members_follow, symbols_follow}
 use Rattle.strip_laws.specs.command_objects.Rebuilt.{renews_names, items_follow}
 use Rattle.strip_tables.specs.strip_removed.Calls.{names_home}
 use Rattle.strip_tables.specs.strip_rebuild.declared.naming.Names.{Names}
 use Rattle.strip_tables.specs.strip_rebuild.declared.naming.Names.TheVariants.{Stay, Anew, TooLarge}
 use Rattle.strip_tables.specs.strip_rebuild.declared.keepers.Keeper.{Keeper}
-use Rattle.strip_tables.specs.strip_rebuild.Answers.{kept_reads}
+use Rattle.strip_tables.specs.strip_rebuild.Answers.{homes_asked, kept_homes, kept_reads, rebuild_due}
 use Rattle.strip_tables.specs.strip_rebuild.Keepers.{follows_by, is_renewed, makes_by, reads_by, RenewsAs, KeepsFor}
 use Rattle.strip_tables.proofs.strip_rebuild.KeptLaws.{among_any, kept_parts, follows_told, reads_told}
 use Rattle.strip_contents.specs.Ranges.{making_due}
@@ -32,6 +33,83 @@ sums_less f h (x ∷ l) less =
     let one = sum_by-cons f x l in
     let other = sum_by-cons h x l in
     omega (arith, here, rest, one, other)
+
+-- of two numbers each
+pub sums_both : (f g h : ℕ → ℕ) (l : List ℕ)
+    → ((s : ℕ) → list_any (nat_eq s) l ≡ true → f s + g s ≤ h s)
+    → sum_by f l + sum_by g l ≤ sum_by h l
+sums_both f g h [] less = omega arith
+sums_both f g h (x ∷ l) less =
+    let here = less x (ap (λ (b : Bool). b || list_any (nat_eq x) l) (eq-eqb x x refl)) in
+    let rest = sums_both f g h l
+    (λ s is. less s (or_right (nat_eq s x) (list_any (nat_eq s) l) is)) in
+    let one = sum_by-cons f x l in
+    let two = sum_by-cons g x l in
+    let all = sum_by-cons h x l in
+    omega (arith, here, rest, one, two, all)
+
+-- a sum over the members of lists
+flat_sum : (f : ℕ → ℕ) (r : ℕ → List ℕ) (l : List ℕ)
+    → sum_by f (flat_map r l) ≡ sum_by (λ s. sum_by f (r s)) l
+flat_sum f r [] = refl
+flat_sum f r (x ∷ l) =
+    ap (sum_by f) (flat_map-cons r x l)
+    ∙ sum_by-append f (r x) (flat_map r l)
+    ∙ ap (λ (n : ℕ). sum_by f (r x) + n) (flat_sum f r l)
+    ∙ sym (sum_by-cons (λ s. sum_by f (r s)) x l)
+
+-- ---- The homes that are looked at
+
+pub homes_flat : (o : Object) (removed : List ℕ)
+    → homes_asked o removed
+    ≡ sum_by (λ s. homes_due o [] (kept_reads o removed s)) (kept_from_1 o removed)
+unfolding homes_due kept_homes
+homes_flat o removed =
+    flat_sum (home_due o []) (kept_reads o removed) (kept_from_1 o removed)
+
+-- the section's own is one of them
+pub reads_have : (o : Object) (removed : List ℕ) (s : ℕ)
+    → home_due o [] s ≤ homes_due o [] (kept_reads o removed s)
+unfolding homes_due kept_reads
+reads_have o removed s =
+    by (symbols_follow o s) (members_follow o s) (indexes_follow o removed s)
+  where
+    alone : home_due o [] s ≤ sum_by (home_due o []) (s ∷ [])
+    alone = let one = sum_by-cons (home_due o []) s [] in omega (arith, one)
+
+    first : (t : ℕ) → home_due o [] s ≤ sum_by (home_due o []) (s ∷ t ∷ [])
+    first t = let one = sum_by-cons (home_due o []) s (t ∷ []) in omega (arith, one)
+
+    second : (t : ℕ) → home_due o [] s ≤ sum_by (home_due o []) (t ∷ s ∷ [])
+    second t =
+        let one = sum_by-cons (home_due o []) t (s ∷ []) in
+        let other = alone in
+        omega (arith, one, other)
+
+    by : (a b c : Bool) → home_due o [] s ≤ sum_by (home_due o [])
+        (if a then number_or_0 (extended_table o removed s) ∷ s ∷ []
+        else (if b then s ∷ []
+        else (if c then s ∷ (header_at o s).link ∷ [] else s ∷ [])))
+    by true b c = second (number_or_0 (extended_table o removed s))
+    by false true c = alone
+    by false false true = first (header_at o s).link
+    by false false false = alone
+
+-- what is asked for while it is arranged is asked for at most
+pub stream_less : (o : Object) (removed : List ℕ) → stream_due o removed ≤ rebuild_due o removed
+unfolding stream_due kept_due rebuild_due
+stream_less o removed =
+    let less = sums_less (kept_due o removed) (λ s. homes_due o [] (kept_reads o removed s))
+    (kept_from_1 o removed) (λ s any. by (is_made o removed s) s) in
+    let same = homes_flat o removed in
+    omega (arith, less, same)
+  where
+    by : (b : Bool) (s : ℕ) → (if b then homes_due o [] (kept_reads o removed s) else 0)
+        ≤ homes_due o [] (kept_reads o removed s)
+    by true s = omega arith
+    by false s = omega arith
+
+-- ---- By a keeper
 
 renewed_made : (names : Names) (renews b : Bool) → RenewsAs renews names
     → is_renewed names b ≡ true → (renews && b) ≡ true

@@ -164,6 +164,10 @@ module _ (phdrs : List Phdr) (base : List ℕ) (p : Object) (x next : Listed)
 
 -- ---- What the step answers
 
+abbrev arranged_of : Contents → Option ℕ → Listed → Arranged
+arranged_of x tail next =
+    record { listed = next; ranges = x.ranges; kinds = x.kinds; held = x.held; tail = tail }
+
 module _ (o : Object) (index : ℕ) (x : Contents) (listed : Listed) (tail : Option ℕ)
     (at : listed ≡ listed_of o index x) where
   gathered_at : (base : List ℕ) (p : Object) → IsGatheredOf o index x tail base p
@@ -173,7 +177,7 @@ module _ (o : Object) (index : ℕ) (x : Contents) (listed : Listed) (tail : Opt
 
   -- there are as many headers as before
   listable : (next : Listed) → length x.headers ≤ MAX_SECTIONS → ArrangesTo listed tail (Ok next)
-      → IsListable (record { listed = next; ranges = x.ranges; held = x.held; tail = tail })
+      → IsListable (arranged_of x tail next)
   listable next few arranges = record {
     few =
         let count = arranges.count in
@@ -185,7 +189,7 @@ module _ (o : Object) (index : ℕ) (x : Contents) (listed : Listed) (tail : Opt
   pub contents_arranged : (next : Listed) → length x.headers ≤ MAX_SECTIONS
       → ArrangesTo listed tail (Ok next)
       → ArrangesContents o index x tail
-      (Ok (record { listed = next; ranges = x.ranges; held = x.held; tail = tail }))
+      (Ok (arranged_of x tail next))
   contents_arranged next few arranges = record {
     ok = λ base p is.
         let here = gathered_at base p is in
@@ -194,6 +198,7 @@ module _ (o : Object) (index : ℕ) (x : Contents) (listed : Listed) (tail : Opt
           passed = arranged.passed;
           ranges = gathered_ranged o.phdrs base p listed next x.ranges x.held tail here arranged;
         };
+    kept = record { ranges = refl; kinds_are = refl; tail_is = refl };
     small = listable next few arranges;
     err = tt;
     unread = λ a b. tt;
@@ -211,15 +216,18 @@ module _ (o : Object) (index : ℕ) (x : Contents) (listed : Listed) (tail : Opt
       by : (e ≡ Memory) ⊎ IsRefusedTo listed tail e → ArrangesContents o index x tail (Err e)
       by (inl want) = record {
         ok = tt;
+        kept = tt;
         small = tt;
         err = inl want;
         unread = wanted_unread Arranged e want;
       }
       by (inr refused) = record {
         ok = tt;
+        kept = tt;
         small = tt;
         err = inr (record {
           error = refused.error;
+          behind = refused.behind;
           refused = λ base p is. refused.refused p (gathered_at base p is).listed;
         });
         unread = large_unread e refused.error;

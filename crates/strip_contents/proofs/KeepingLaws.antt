@@ -3,7 +3,9 @@ use Rattle.std.proofs.Common.{◌≡◌, ◌+◌, ◌-◌, ◌<◌, ◌≤◌, �
 use Rattle.std.specs.Prelude.{All, IsTrue, IfErr, OnOk}
 use Rattle.std.proofs.lemmas.List.{length-map, map-append, take_more}
 use Rattle.std.proofs.lemmas.List.Elements.{All-append, All-cons, All-nil}
-use Rattle.std.proofs.lemmas.List.Sums.{sum_by_more, sum_by_more_le}
+use Rattle.std.proofs.lemmas.List.Sums.{sum_by_push, sum_by_more, sum_by_more_le}
+use Rattle.elf_types.specs.declared.records.Kind.{Kind}
+use Rattle.elf_types.specs.declared.records.Kind.TheVariants as kinds
 use Rattle.elf_types.specs.declared.records.Shdr.{Shdr}
 use Rattle.elf_types.specs.declared.records.TheConstants.{NULL_SECTION}
 use Rattle.elf_types.specs.declared.errors.ElfError.{ElfError}
@@ -17,28 +19,33 @@ use Rattle.strip_tables.specs.elf_descriptor.State.{State}
 use Rattle.strip_laws.specs.command_objects.Followed.{kept_from_1}
 use Rattle.strip_tables.proofs.object_making.RefusedLaws.{unread_as, unread_stop, passed_more, passed_all}
 use Rattle.strip_tables.specs.image_ranges.declared.ranges.ByteRange.{ByteRange}
-use Rattle.strip_tables.specs.image_ranges.Ranges.{range_bytes}
+use Rattle.strip_tables.specs.image_ranges.Ranges.{range_bytes, range_due}
 use Rattle.strip_tables.specs.strip_rebuild.declared.keepers.Keeper.{Keeper}
-use Rattle.strip_tables.specs.strip_rebuild.Keepers.{header_by, refusal_by}
+use Rattle.strip_tables.specs.strip_rebuild.Keepers.{header_by, kind_by, refusal_by}
 use Rattle.strip_tables.specs.strip_rebuild.Makes.{AsksFor}
 use Rattle.strip_tables.proofs.strip_rebuild.AskLaws.{asks_as, asks_stop, asks_more, asks_nothing, asks_twice}
 use Rattle.strip_tables.proofs.strip_rebuild.FillLaws.{none_passed}
 use Rattle.strip_tables.proofs.strip_rebuild.NumberLaws.{kept_few}
 use Rattle.strip_contents.specs.declared.contents.Contents.{Contents}
-use Rattle.strip_contents.specs.Ranges.{bytes_by, making_due, FindsRange}
-use Rattle.strip_contents.specs.Contents.{kept_size, IsPushed, HasOneMore, IsPutBehind, KeepsSection, AreKept, HasFirst, AreKeptBy, sections_due, KeepsSections, HasKept, KeepsContents}
+use Rattle.strip_contents.specs.Ranges.{bytes_by, making_due, base_due_by, FindsRange}
+use Rattle.strip_contents.specs.Reading.{ranges_due, IsReadAs}
+use Rattle.strip_contents.specs.Contents.{kept_size, IsPushed, HasOneMore, IsPutBehind, KeepsSection, AreKept, HasFirst, AreKeptBy, AreReadBy, sections_due, KeepsSections, HasKept, KeepsContents}
+use Rattle.strip_contents.proofs.ReadingLaws.{read_more}
 
 -- ---- One section
 
 module _ {S : Type 0} (g : Ghosts S) (k : Keeper) (s : ℕ) (old new : State S)
     (contents mid next : Contents) where
-  pub section_added : (h : Shdr) (size : ℕ) (range : ByteRange) (q : Result (Unit {0}) ElfError)
-      → h ≡ header_by k old.o s → size ≡ kept_size h range.len
+  pub section_added : (h : Shdr) (size : ℕ) (range : ByteRange) (kind : Kind)
+      (q : Result (Unit {0}) ElfError) → h ≡ header_by k old.o s → kind ≡ kind_by k old.o s
+      → size ≡ kept_size h range.len
       → FindsRange g k s (Ok range) old new contents.held mid.held
       → mid.headers ≡ contents.headers → mid.sizes ≡ contents.sizes
-      → mid.ranges ≡ contents.ranges → OnOk q (IsPushed h size range mid next)
+      → mid.ranges ≡ contents.ranges → mid.kinds ≡ contents.kinds
+      → OnOk q (IsPushed h size range kind mid next)
       → IfErr q (λ e. e ≡ Memory) → KeepsSection g k s q old new contents next
-  section_added h size range (Ok x) header size_is found headers sizes ranges pushed only =
+  section_added h size range kind (Ok x) header kind_is size_is found headers sizes ranges ks
+      pushed only =
       record {
         ok = record {
           size = size;
@@ -59,14 +66,27 @@ module _ {S : Type 0} (g : Ghosts S) (k : Keeper) (s : ℕ) (old new : State S)
               ap (λ (l : List ℕ). range_bytes (l ++ later) old.o.base range) pushed.held
               ∙ found.ok.is t later;
         };
+        read = record {
+          kinds_are = pushed.kinds_are
+              ∙ ap (λ (l : List Kind). l ++ kind ∷ []) ks
+              ∙ ap (λ (x : Kind). contents.kinds ++ x ∷ []) kind_is;
+          within =
+              let all = ap ranges_due
+              (pushed.ranges ∙ ap (λ (l : List ByteRange). l ++ range ∷ []) ranges) in
+              let one = sum_by_push range_due contents.ranges range in
+              let less = found.within in
+              omega (arith, all, one, less);
+        };
         passed = found.passed;
         err = tt;
         asks = asks_as g (Ok range) (Ok x) old new (making_due k old.o s) tt found.asks;
       }
-  section_added h size range (Err e) header size_is found headers sizes ranges pushed only =
+  section_added h size range kind (Err e) header kind_is size_is found headers sizes ranges ks
+      pushed only =
       subst (λ (d : ElfError). KeepsSection g k s (Err d) old new contents next) (sym only)
       (record {
         ok = tt;
+        read = tt;
         passed = tt;
         err = tt;
         asks = asks_as g (Ok range) (Err Memory) old new (making_due k old.o s) tt found.asks;
@@ -77,6 +97,7 @@ module _ {S : Type 0} (g : Ghosts S) (k : Keeper) (s : ℕ) (old new : State S)
       → KeepsSection g k s (Err e) old new contents next
   section_refused e found = record {
     ok = tt;
+    read = tt;
     passed = tt;
     err = found.err;
     asks = asks_stop g {T = ByteRange} {U = Unit {0}} e old new (making_due k old.o s) found.asks;
@@ -129,7 +150,8 @@ module _ (told : Bool) (base : List ℕ) (header : ℕ → Shdr) (bytes : ℕ �
 -- section 0 alone
 pub first_kept : (start now : Contents) → start.headers ≡ [] → start.sizes ≡ []
     → start.ranges ≡ []
-    → IsPushed NULL_SECTION 0 (record { held = true; at = 0; len = 0 }) start now → HasFirst now
+    → IsPushed NULL_SECTION 0 (record { held = true; at = 0; len = 0 }) kinds.Empty start now
+    → HasFirst now
 unfolding zero_shdr
 first_kept start now headers sizes ranges pushed told base header bytes =
     let one : now.sizes ≡ 0 ∷ [] =
@@ -149,17 +171,18 @@ first_kept start now headers sizes ranges pushed told base header bytes =
 
 pub first_pushed : (start now : Contents) (q : Result (Unit {0}) ElfError) → start.headers ≡ []
     → start.sizes ≡ [] → start.ranges ≡ []
-    → OnOk q (IsPushed NULL_SECTION 0 (record { held = true; at = 0; len = 0 }) start now)
+    → OnOk q (IsPushed NULL_SECTION 0 (record { held = true; at = 0; len = 0 }) kinds.Empty
+    start now)
     → OnOk q (HasFirst now)
 first_pushed start now (Ok x) headers sizes ranges pushed =
     first_kept start now headers sizes ranges pushed
 first_pushed start now (Err e) headers sizes ranges pushed = tt
 
 -- one more, whose bytes are in a range
-pub put_behind : (h : Shdr) (size : ℕ) (range : ByteRange) (old new : Contents)
+pub put_behind : (h : Shdr) (size : ℕ) (range : ByteRange) (kind : Kind) (old new : Contents)
     (q : Result (Unit {0}) ElfError) → size ≡ kept_size h range.len
-    → OnOk q (IsPushed h size range old new) → OnOk q (IsPutBehind h range old new)
-put_behind h size range old new (Ok x) size_is pushed = λ told base bytes is. record {
+    → OnOk q (IsPushed h size range kind old new) → OnOk q (IsPutBehind h range old new)
+put_behind h size range kind old new (Ok x) size_is pushed = λ told base bytes is. record {
   size = size;
   range = range;
   added = is.added;
@@ -172,7 +195,7 @@ put_behind h size range old new (Ok x) size_is pushed = λ told base bytes is. r
   is = λ t later.
       ap (λ (l : List ℕ). range_bytes (l ++ later) base range) pushed.held ∙ is.is t later;
 }
-put_behind h size range old new (Err e) size_is pushed = tt
+put_behind h size range kind old new (Err e) size_is pushed = tt
 
 -- ---- One after another
 
@@ -182,13 +205,16 @@ pub record Keeping {S : Type 0} (g : Ghosts S) (k : Keeper) (numbers : List ℕ)
   pub asks : AsksFor {T = Unit {0}} g (Ok tt) first now (sections_due k first.o (take i numbers))
   pub passed : first_refusal (map (refusal_by k first.o) (take i numbers)) ≡ None
   pub kept : AreKeptBy k first (take i numbers) x
+  pub read : AreReadBy k first.o (take i numbers) x
 
 module _ {S : Type 0} (g : Ghosts S) (k : Keeper) (numbers : List ℕ) (first : State S) where
-  pub keeping_none : (x : Contents) → AreKeptBy k first [] x → Keeping g k numbers first first x 0
-  keeping_none x kept = record {
+  pub keeping_none : (x : Contents) → AreKeptBy k first [] x → AreReadBy k first.o [] x
+      → Keeping g k numbers first first x 0
+  keeping_none x kept read = record {
     asks = asks_nothing g (Ok tt) first (sections_due k first.o []) tt;
     passed = refl;
     kept = kept;
+    read = read;
   }
 
   module _ (now : State S) (x : Contents) (i : ℕ) (so_far : Keeping g k numbers first now x i)
@@ -239,6 +265,17 @@ module _ {S : Type 0} (g : Ghosts S) (k : Keeper) (numbers : List ℕ) (first : 
         (kept_more first.told first.o.base (header_by k first.o) (bytes_by k first.o)
         (take i numbers) (get_or numbers i 0) x y so_far.kept told_first)
 
+    read_next : (y : Contents)
+        → IsReadAs (kind_by k now.o (get_or numbers i 0)) (base_due_by k now.o (get_or numbers i 0))
+        x y
+        → AreReadBy k first.o (take (i + 1) numbers) y
+    read_next y more =
+        let at_first = subst (λ (o : Object). IsReadAs (kind_by k o (get_or numbers i 0))
+        (base_due_by k o (get_or numbers i 0)) x y) so_far.asks.object more in
+        subst (λ (l : List ℕ). AreReadBy k first.o l y) (sym (take_more numbers i 0 there))
+        (read_more (kind_by k first.o) (base_due_by k first.o) (take i numbers) (get_or numbers i 0)
+        x y so_far.read at_first)
+
     pub keeping_more : (next : State S) (y : Contents)
         → KeepsSection g k (get_or numbers i 0) (Ok tt) now next x y
         → Keeping g k numbers first next y (i + 1)
@@ -250,6 +287,7 @@ module _ {S : Type 0} (g : Ghosts S) (k : Keeper) (numbers : List ℕ) (first : 
           (ap (λ (o : Object). refusal_by k o (get_or numbers i 0)) (sym so_far.asks.object)
           ∙ adds.passed);
       kept = added_next y adds.ok;
+      read = read_next y adds.read;
     }
 
     -- ---- Where it is refused
@@ -258,6 +296,7 @@ module _ {S : Type 0} (g : Ghosts S) (k : Keeper) (numbers : List ℕ) (first : 
         → KeepsSections g k numbers (Err e) first next z
     keeping_stops e next y z adds = record {
       ok = tt;
+      read = tt;
       passed = tt;
       err = unread_stop (refusal_by k first.o) numbers i e there so_far.passed
           (unread_as (refusal_by k now.o (get_or numbers i 0))
@@ -275,6 +314,7 @@ module _ {S : Type 0} (g : Ghosts S) (k : Keeper) (numbers : List ℕ) (first : 
       → length numbers ≤ i → KeepsSections g k numbers (Ok tt) first now x
   keeping_all now x i so_far all = record {
     ok = subst (λ (l : List ℕ). AreKeptBy k first l x) (take_all i numbers all) so_far.kept;
+    read = subst (λ (l : List ℕ). AreReadBy k first.o l x) (take_all i numbers all) so_far.read;
     passed = passed_all (refusal_by k first.o) numbers i all so_far.passed;
     err = tt;
     asks = subst (λ (l : List ℕ). AsksFor {T = Unit {0}} g (Ok tt) first now
@@ -288,6 +328,7 @@ module _ {S : Type 0} (g : Ghosts S) (k : Keeper) (numbers : List ℕ) (first : 
       subst (λ (d : ElfError). KeepsSections g k numbers (Err d) first first x) (sym only)
       (record {
         ok = tt;
+        read = tt;
         passed = tt;
         err = tt;
         asks = asks_nothing g (Err Memory) first (sections_due k first.o numbers) tt;
@@ -328,10 +369,11 @@ module _ {S : Type 0} (g : Ghosts S) (k : Keeper) (numbers : List ℕ) (old new 
       (kept_few old.o k.removed.now)
 
   pub none_kept : (x : Contents) → length old.o.sections ≡ 0 → x.headers ≡ [] → x.sizes ≡ []
-      → KeepsContents g k numbers (Ok x) old old
-  none_kept x none headers sizes = record {
+      → x.ranges ≡ [] → x.kinds ≡ [] → KeepsContents g k numbers (Ok x) old old
+  none_kept x none headers sizes ranges ks = record {
     ok = none_has old.told old.o.base (header_by k old.o) (bytes_by k old.o)
         (kept_from_1 old.o k.removed.now) (length old.o.sections) x none headers sizes;
+    read = record { none = λ n. (ks, ranges); some = λ some. absurd (some none) };
     passed = none_passed old.o (refusal_by k old.o) numbers none few_numbers;
     err = tt;
     asks = asks_nothing g (Ok x) old (sections_due k old.o numbers) tt;
@@ -344,6 +386,10 @@ module _ {S : Type 0} (g : Ghosts S) (k : Keeper) (numbers : List ℕ) (old new 
         (kept_from_1 old.o k.removed.now) (length old.o.sections) x some is.section_count
         (kept_few old.o k.removed.now)
         (subst (λ (l : List ℕ). AreKeptBy k old l x) at adds.ok);
+    read = record {
+      none = λ none. absurd (some none);
+      some = λ there. subst (λ (l : List ℕ). AreReadBy k old.o l x) at adds.read;
+    };
     passed = adds.passed;
     err = tt;
     asks = asks_as g (Ok (tt {0})) (Ok x) old new (sections_due k old.o numbers) tt adds.asks;
@@ -353,6 +399,7 @@ module _ {S : Type 0} (g : Ghosts S) (k : Keeper) (numbers : List ℕ) (old new 
       → KeepsSections g k numbers (Err e) old new x → KeepsContents g k numbers (Err e) old new
   none_kept_refused e x adds = record {
     ok = tt;
+    read = tt;
     passed = tt;
     err = adds.err;
     asks = asks_stop g {T = Unit {0}} {U = Contents} e old new (sections_due k old.o numbers)

@@ -1,7 +1,10 @@
 pub use Rattle.strip_tables.proofs.image_ranges
+pub use Rattle.strip_tables.proofs.object_making
 pub use Rattle.strip_laws.proofs as strip_laws
 pub use Rattle.strip_tables.proofs.strip_rebuild
 pub use Rattle.strip_tables.proofs.strip_stream
+pub use Rattle.strip_tables.proofs.update_plan
+pub mod ReadingLaws
 pub mod RangeLaws
 pub mod RowLaws
 pub mod KeepingLaws
@@ -12,7 +15,9 @@ pub mod CopyLaws
 pub mod GatherLaws
 pub mod ListLaws
 pub mod AnswerLaws
+pub mod TiedLaws
 pub mod DueLaws
+pub mod MakesLaws
 pub mod WholeLaws
 pub mod RemovedLaws
 pub mod StopLaws

@@ -1,5 +1,5 @@
 -- Where the bytes of a section are that is taken as it is, and of one that is made.
-use Rattle.std.proofs.Common.{◌≡◌, ◌==◌, ◌||◌, ◌<◌, ℕ, zero, suc, Bool, true, false, List, [], ◌++◌, length, take, drop, Option, None, Result, Ok, Err, if◌then◌else◌, refl, sym, ap, ◌∙◌, subst, arith}
+use Rattle.std.proofs.Common.{◌≡◌, ◌==◌, ◌||◌, ◌<◌, ◌≤◌, ℕ, zero, suc, Bool, true, false, List, [], ◌++◌, length, take, drop, Option, None, Result, Ok, Err, if◌then◌else◌, refl, sym, ap, ◌∙◌, subst, arith}
 use Rattle.std.specs.Prelude.{IsTrue, IfOk, IfErr}
 use Rattle.std.proofs.lemmas.Bool.{ne_eqb, or_parts}
 use Rattle.std.proofs.lemmas.List.{append-nil}
@@ -28,7 +28,7 @@ use Rattle.strip_tables.specs.object_making.Making.{reading}
 use Rattle.strip_tables.specs.object_making.Refused.{UnreadBy}
 use Rattle.strip_tables.proofs.object_making.MakingLaws.{memory_unread, passes_on, one_read, one_unread}
 use Rattle.strip_tables.specs.image_ranges.declared.ranges.ByteRange.{ByteRange}
-use Rattle.strip_tables.specs.image_ranges.Ranges.{range_bytes}
+use Rattle.strip_tables.specs.image_ranges.Ranges.{range_bytes, range_due}
 use Rattle.strip_tables.specs.strip_rebuild.declared.naming.Names.{Names}
 use Rattle.strip_tables.specs.strip_rebuild.declared.naming.Names.TheVariants.{Stay, Anew, TooLarge}
 use Rattle.strip_tables.specs.strip_rebuild.declared.keepers.Keeper.{Keeper}
@@ -40,7 +40,8 @@ use Rattle.strip_tables.proofs.strip_rebuild.HomeLaws.{raw_there}
 use Rattle.strip_tables.specs.strip_stream.Fronts.{HoldsMore}
 use Rattle.strip_tables.proofs.strip_stream.FrontLaws.{held_bytes_stay}
 use Rattle.strip_tables.proofs.strip_stream.HomeLaws.{homes_stand}
-use Rattle.strip_contents.specs.Ranges.{base_place, home_range, FindsHome, bytes_by, IsRangeOf, making_due, FindsRange}
+use Rattle.strip_contents.specs.Ranges.{base_place, home_range, FindsHome, bytes_by, IsRangeOf, making_due, base_due_by, FindsRange}
+use Rattle.strip_contents.proofs.ReadingLaws.{held_due, taken_due}
 
 -- ---- Homes
 
@@ -139,6 +140,7 @@ module _ {S : Type 0} (g : Ghosts S) (k : Keeper) (s : ℕ) (state : State S) (h
     ok = subst (λ (l : List ℕ). IsRangeOf state.told state.o.base l held held range)
         (sym (taken_bytes k state.o s taken is))
         (home_is state.o s state.told range held is clean tied inside at);
+    within = taken_due k state.o s range taken inside at;
     passed = taken_refusal k state.o s taken
         ∙ raw_there state.o s there
         ∙ ap (λ (b : Bool). refused_if b (OutOfFile s)) inside;
@@ -152,6 +154,7 @@ module _ {S : Type 0} (g : Ghosts S) (k : Keeper) (s : ℕ) (state : State S) (h
       subst (λ (d : ElfError). FindsRange g k s (Err d) state state held held) (sym at)
       (record {
         ok = tt;
+        within = tt;
         passed = tt;
         err = taken_refusal k state.o s taken
             ∙ raw_there state.o s there
@@ -219,6 +222,9 @@ module _ {S : Type 0} (g : Ghosts S) (k : Keeper) (s : ℕ) (old new : State S)
     made_found q passed looks holds only = record {
       ok = IfOk-weaker q (HoldsMore (encoded h.class h.order made) held next)
           (IsRangeOf old.told old.o.base (bytes_by k old.o s) held next) range_made holds;
+      within = IfOk-weaker q (HoldsMore (encoded h.class h.order made) held next)
+          (λ range. range_due range ≤ base_due_by k old.o s)
+          (λ range is. held_due range (base_due_by k old.o s) is.held) holds;
       passed = passes_on q (refusal_by k old.o s ≡ None) passed;
       err = memory_unread q (refusal_by k old.o s) only;
       asks = asks_made q (one_read g made q old new (λ o. reads_by k o s) only looks);
@@ -229,6 +235,7 @@ module _ {S : Type 0} (g : Ghosts S) (k : Keeper) (s : ℕ) (old new : State S)
       → FindsRange g k s (Err e) old new held held
   made_refused e by looks = record {
     ok = tt;
+    within = tt;
     passed = tt;
     err = by;
     asks = asks_made (Err e)
@@ -266,6 +273,9 @@ module _ {S : Type 0} (g : Ghosts S) (k : Keeper) (s : ℕ) (state : State S)
   table_found q holds only = record {
     ok = IfOk-weaker q (HoldsMore table held next)
         (IsRangeOf state.told state.o.base (bytes_by k state.o s) held next) range_of_table holds;
+    within = IfOk-weaker q (HoldsMore table held next)
+        (λ range. range_due range ≤ base_due_by k state.o s)
+        (λ range is. held_due range (base_due_by k state.o s) is.held) holds;
     passed = passes_on q (refusal_by k state.o s ≡ None) has.passed;
     err = memory_unread q (refusal_by k state.o s) only;
     asks = asks_nothing g q state (making_due k state.o s)

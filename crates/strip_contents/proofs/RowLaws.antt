@@ -22,7 +22,9 @@ use Rattle.strip_tables.proofs.strip_stream.FrontLaws.{appended, behind, held_by
 use Rattle.strip_tables.specs.declared.rows.FollowedRows.{FollowedRows}
 use Rattle.strip_tables.specs.Rows.{rows_made, tables_due, HoldsMade}
 use Rattle.strip_tables.specs.Finding.{AreRowsOf}
-use Rattle.strip_contents.specs.Ranges.{bytes_by, IsRangeOf, making_due, FindsRange}
+use Rattle.strip_tables.specs.image_ranges.Ranges.{range_due}
+use Rattle.strip_contents.specs.Ranges.{bytes_by, IsRangeOf, making_due, base_due_by, FindsRange}
+use Rattle.strip_contents.proofs.ReadingLaws.{held_due}
 
 -- ---- What was held
 
@@ -76,9 +78,9 @@ module _ {S : Type 0} (g : Ghosts S) (k : Keeper) (s : ℕ) (x : FollowedRows) (
   pub rows_found : (q : Result ByteRange ElfError) (held next : List ℕ)
       → IfOk q (IsRangeOf old.told old.o.base
       (encoded x.class x.order (rows_made k.numbering old.o.base x)) held next)
-      → AsksFor g q old new (tables_due x) → IfErr q (λ e. (e ≡ Memory) ⊎ (e ≡ Read))
-      → FindsRange g k s q old new held next
-  rows_found q held next ranges asks only = record {
+      → IfOk q (λ range. range.held ≡ true) → AsksFor g q old new (tables_due x)
+      → IfErr q (λ e. (e ≡ Memory) ⊎ (e ≡ Read)) → FindsRange g k s q old new held next
+  rows_found q held next ranges are_held asks only = record {
     ok = IfOk-weaker q (IsRangeOf old.told old.o.base
         (encoded x.class x.order (rows_made k.numbering old.o.base x)) held next)
         (IsRangeOf old.told old.o.base (bytes_by k old.o s) held next)
@@ -88,6 +90,9 @@ module _ {S : Type 0} (g : Ghosts S) (k : Keeper) (s : ℕ) (x : FollowedRows) (
           long = λ t. is.long t ∙ ap (λ (l : List ℕ). length l) (rows_bytes t);
           is = λ t later. is.is t later ∙ rows_bytes t;
         }) ranges;
+    within = IfOk-weaker q (λ (range : ByteRange). range.held ≡ true)
+        (λ range. range_due range ≤ base_due_by k old.o s)
+        (λ range is. held_due range (base_due_by k old.o s) is) are_held;
     passed = passes_on q (refusal_by k old.o s ≡ None) are.passed;
     err = IfErr-weaker q (λ e. (e ≡ Memory) ⊎ (e ≡ Read)) (UnreadBy (refusal_by k old.o s))
         (free_unread (refusal_by k old.o s)) only;

@@ -1,6 +1,6 @@
 -- The whole step, one part after another.
 use Rattle.std.proofs.Common.{◌≡◌, ◌⊎◌, inl, inr, ◌+◌, ℕ, Bool, true, false, List, [], length, map, None, Result, Ok, Err, refl, sym, ap, ◌∙◌, subst}
-use Rattle.std.specs.Prelude.{IsTrue, IfSome, nat_le}
+use Rattle.std.specs.Prelude.{IsTrue, IfSome, IfOk, IfErr, nat_le}
 use Rattle.elf_types.specs.declared.constants.TheConstants.{PN_XNUM}
 use Rattle.elf_types.specs.declared.errors.ElfError.{ElfError}
 use Rattle.elf_types.specs.declared.errors.ElfError.TheVariants.{Memory, Read, TooMany}
@@ -20,19 +20,20 @@ use Rattle.strip_tables.proofs.object_making.RefusedLaws.{answer_refused}
 use Rattle.strip_tables.specs.strip_removed.Calls.{names_home}
 use Rattle.strip_tables.specs.strip_removed.Steps.{IsRemovable}
 use Rattle.strip_tables.specs.strip_rebuild.declared.keepers.Keeper.{Keeper}
-use Rattle.strip_tables.specs.strip_rebuild.Answers.{sections_of}
+use Rattle.strip_tables.specs.strip_rebuild.Answers.{EarlyBy, early_refusal, sections_of}
 use Rattle.strip_tables.specs.strip_rebuild.Keepers.{KeepsFor, header_by, refusal_by, index_by}
 use Rattle.strip_tables.specs.strip_rebuild.Makes.{AsksFor}
 use Rattle.strip_tables.proofs.strip_rebuild.AskLaws.{asks_as, asks_stop, asks_more, asks_nothing, asks_twice}
 use Rattle.strip_tables.proofs.strip_rebuild.FillLaws.{segments_refused, sections_refused}
 use Rattle.strip_tables.proofs.strip_rebuild.MakeLaws.{refused_quiet, quiet_rose}
+use Rattle.strip_tables.proofs.strip_rebuild.RebuildLaws.{faults_early}
 use Rattle.strip_contents.specs.declared.arranged.Arranged.{Arranged}
 use Rattle.strip_contents.specs.declared.contents.Contents.{Contents}
 use Rattle.strip_contents.specs.declared.plans.RangedPlan.{RangedPlan}
-use Rattle.strip_contents.specs.Contents.{AreKept, HasContents, KeepsContents, sections_due}
+use Rattle.strip_contents.specs.Contents.{AreKept, HasContents, IsReadBy, KeepsContents, sections_due}
 use Rattle.strip_contents.specs.Ranges.{bytes_by}
-use Rattle.strip_contents.specs.Plans.{PlansCopied, ArrangedAnswers, ArrangesKept, ArrangesRebuilt, StreamsRebuilt, stream_due}
-use Rattle.strip_contents.proofs.AnswerLaws.{arranged_as_file, arranged_planned, early_answer}
+use Rattle.strip_contents.specs.Plans.{PlansCopied, ArrangedAnswers, MakesRebuilt, ArrangesKept, ArrangesRebuilt, StreamsRebuilt, stream_due}
+use Rattle.strip_contents.proofs.AnswerLaws.{arranged_as_file, arranged_planned, early_answer, early_stated}
 use Rattle.strip_contents.proofs.DueLaws.{all_less, names_due_less}
 
 -- ---- What is known of an object that was read
@@ -45,6 +46,10 @@ module _ {S : Type 0} (old mid : State S) (object : mid.o ≡ old.o) (told : mid
 
     pub fits_stays : FitsClass old.o → FitsClass mid.o
     fits_stays fit = subst FitsClass (sym object) fit
+
+    pub fits_told : (IsTrue old.told → FitsClass old.o) → IsTrue mid.told → FitsClass mid.o
+    fits_told fit t =
+        subst FitsClass (sym object) (fit (subst (λ (b : Bool). IsTrue b) told t))
 
     pub segments_stay : (n : ℕ) → n ≡ length old.o.phdrs → newphdr_refusal n ≡ None
         → newphdr_refusal (length mid.o.phdrs) ≡ None
@@ -75,6 +80,9 @@ module _ {S : Type 0} (old mid : State S) (object : mid.o ≡ old.o) (told : mid
           (has.some (λ none. some (ap (λ (o : Object). length o.sections) object ∙ none))));
     }
 
+    pub read_stays : (k : Keeper) (x : Contents) → IsReadBy k old.o x → IsReadBy k mid.o x
+    read_stays k x read = subst (λ (o : Object). IsReadBy k o x) (sym object) read
+
 -- ---- By a keeper
 
 pub segments_state : (n : ℕ) → IfSome (newphdr_refusal n) IsRefusal
@@ -103,6 +111,12 @@ module _ {S : Type 0} (g : Ghosts S) (k : Keeper) (old new : State S) (is : IsOb
             (segments_refused old.o (refusal_by k old.o) (kept_from_1 old.o k.removed.now)
             (sections_of k old.o) (index_by k old.o) e
             (subst (λ (m : ℕ). RefusedBy (newphdr_refusal m) e) at by));
+        early =
+            early_stated g old k is clean removable keeps e
+            (segments_refused old.o (refusal_by k old.o) (kept_from_1 old.o k.removed.now)
+            (sections_of k old.o) (index_by k old.o) e
+            (subst (λ (m : ℕ). RefusedBy (newphdr_refusal m) e) at by));
+        makes = tt;
         small = tt;
         asks = asks_nothing g (Err e) old (sections_due k old.o numbers)
             (quiet_rose Arranged e (g.faults old.source) (g.faults old.source)
@@ -119,6 +133,13 @@ module _ {S : Type 0} (g : Ghosts S) (k : Keeper) (old new : State S) (is : IsOb
         (sections_of k old.o) (index_by k old.o) segments e
         (subst (λ (l : List ℕ). UnreadBy (first_refusal (map (refusal_by k old.o) l)) e) at
         keeping.err));
+    early =
+        early_stated g old k is clean removable keeps e
+        (sections_refused old.o (refusal_by k old.o) (kept_from_1 old.o k.removed.now)
+        (sections_of k old.o) (index_by k old.o) segments e
+        (subst (λ (l : List ℕ). UnreadBy (first_refusal (map (refusal_by k old.o) l)) e) at
+        keeping.err));
+    makes = tt;
     small = tt;
     asks = asks_stop g {T = Contents} {U = Arranged} e old new (sections_due k old.o numbers)
         keeping.asks;
@@ -132,6 +153,10 @@ module _ {S : Type 0} (g : Ghosts S) (k : Keeper) (old new : State S) (is : IsOb
         subst (λ (o : Object). ArrangedAnswers o r (rebuilt o k.removed.now))
         keeping.asks.object
         (arranges.answer (subst (λ (b : Bool). IsTrue b) (sym keeping.asks.told) t));
+    early = subst (λ (o : Object). IfErr r (EarlyBy (early_refusal o k.removed.now)))
+        keeping.asks.object arranges.early;
+    makes = subst (λ (o : Object). IfOk r (MakesRebuilt o k.removed.now)) keeping.asks.object
+        arranges.makes;
     small = arranges.small;
     asks = asks_as g (Ok x) r old new (sections_due k old.o numbers)
         (arranges.unread (g.faults old.source) (g.faults new.source)) keeping.asks;
@@ -145,6 +170,8 @@ module _ {S : Type 0} (g : Ghosts S) (removed : List ℕ) (old mid : State S) wh
       → ArrangesRebuilt g removed (Err e) (stream_due old.o removed) old mid
   stops_early e only asks = record {
     answer = λ t. free e only (rebuilt old.o removed);
+    early = faults_early e (early_refusal old.o removed) only;
+    makes = tt;
     small = tt;
     asks = asks_more g (Err e) old mid (homes_due old.o [] (names_home old.o))
         (stream_due old.o removed) (names_due_less old.o removed) asks;
@@ -192,6 +219,10 @@ module _ {S : Type 0} (g : Ghosts S) (removed : List ℕ) (old mid : State S) wh
         answer = λ t.
             subst (λ (o : Object). ArrangedAnswers o r (rebuilt o k.removed.now)) object
             (second.answer (subst (λ (b : Bool). IsTrue b) (sym first.told) t));
+        early = subst (λ (o : Object). IfErr r (EarlyBy (early_refusal o k.removed.now))) object
+            second.early;
+        makes = subst (λ (o : Object). IfOk r (MakesRebuilt o k.removed.now)) object
+            second.makes;
         small = second.small;
         asks = asks_more g r old new
             (homes_due old.o [] (names_home old.o)

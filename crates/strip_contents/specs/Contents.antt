@@ -3,6 +3,7 @@
 use Rattle.std.specs.Prelude.{◌≡◌, ℕ, ◌+◌, ◌<◌, ◌≤◌, ◌^◌, Bool, List, [], ◌∷◌, ◌++◌, length, map, sum_by, All, None, Result, IsTrue, IfOk, IfErr, OnOk, if◌then◌else◌}
 use Rattle.elf_types.specs.Answers.{first_refusal}
 use Rattle.elf_types.specs.declared.constants.TheConstants.{MAX_SECTIONS}
+use Rattle.elf_types.specs.declared.records.Kind.{Kind}
 use Rattle.elf_types.specs.declared.records.Shdr.{Shdr}
 use Rattle.elf_types.specs.declared.errors.ElfError.{ElfError}
 use Rattle.elf_outside.specs.declared.sources.Source.{Ghosts}
@@ -14,10 +15,11 @@ use Rattle.strip_tables.specs.object_making.Refused.{UnreadBy}
 use Rattle.strip_tables.specs.image_ranges.declared.ranges.ByteRange.{ByteRange}
 use Rattle.strip_tables.specs.image_ranges.Ranges.{range_bytes}
 use Rattle.strip_tables.specs.strip_rebuild.declared.keepers.Keeper.{Keeper}
-use Rattle.strip_tables.specs.strip_rebuild.Keepers.{header_by, refusal_by}
+use Rattle.strip_tables.specs.strip_rebuild.Keepers.{header_by, kind_by, refusal_by}
 use Rattle.strip_tables.specs.strip_rebuild.Makes.{AsksFor}
 use Rattle.strip_contents.specs.declared.contents.Contents.{Contents}
-use Rattle.strip_contents.specs.Ranges.{bytes_by, IsRangeOf, making_due}
+use Rattle.strip_contents.specs.Ranges.{bytes_by, making_due, base_due_by, IsRangeOf}
+use Rattle.strip_contents.specs.Reading.{IsReadAs, AreReadAs, IsReadOf}
 
 -- how many of so many bytes a section with a header has in the file
 abbrev pub kept_size : Shdr → ℕ → ℕ
@@ -25,11 +27,13 @@ kept_size h len = if occupies_file h then len else 0
 
 -- ---- One section more
 
--- a header, a size and a range were put behind the others
-pub record IsPushed (h : Shdr) (size : ℕ) (range : ByteRange) (old new : Contents) : Type 0 where
+-- a header, a size, a range and a kind were put behind the others
+pub record IsPushed (h : Shdr) (size : ℕ) (range : ByteRange) (kind : Kind) (old new : Contents)
+    : Type 0 where
   pub headers : new.headers ≡ old.headers ++ h ∷ []
   pub sizes : new.sizes ≡ old.sizes ++ size ∷ []
   pub ranges : new.ranges ≡ old.ranges ++ range ∷ []
+  pub kinds_are : new.kinds ≡ old.kinds ++ kind ∷ []
   pub held : new.held ≡ old.held
   pub small : size < 2 ^ 64
 
@@ -60,6 +64,7 @@ pub record KeepsSection {S : Type 0} (g : Ghosts S) (k : Keeper) (s : ℕ)
     : Type 0 where
   pub ok : OnOk result
       (HasOneMore old.told old.o.base (header_by k old.o s) (bytes_by k old.o s) contents next)
+  pub read : OnOk result (IsReadAs (kind_by k old.o s) (base_due_by k old.o s) contents next)
   pub passed : OnOk result (refusal_by k old.o s ≡ None)
   pub err : IfErr result (UnreadBy (refusal_by k old.o s))
   pub asks : AsksFor g result old new (making_due k old.o s)
@@ -89,6 +94,10 @@ abbrev pub AreKeptBy : {S : Type 0} → Keeper → State S → List ℕ → Cont
 AreKeptBy k s numbers x =
     AreKept s.told s.o.base (header_by k s.o) (bytes_by k s.o) numbers x
 
+-- as what they are read
+abbrev pub AreReadBy : Keeper → Object → List ℕ → Contents → Type 0
+AreReadBy k o numbers x = AreReadAs (kind_by k o) (base_due_by k o) numbers x
+
 -- what is asked for
 abbrev pub sections_due : Keeper → Object → List ℕ → ℕ
 sections_due k o numbers = sum_by (making_due k o) numbers
@@ -97,6 +106,7 @@ sections_due k o numbers = sum_by (making_due k o) numbers
 pub record KeepsSections {S : Type 0} (g : Ghosts S) (k : Keeper) (numbers : List ℕ)
     (result : Result (Unit {0}) ElfError) (old new : State S) (next : Contents) : Type 0 where
   pub ok : OnOk result (AreKeptBy k old numbers next)
+  pub read : OnOk result (AreReadBy k old.o numbers next)
   pub passed : OnOk result (first_refusal (map (refusal_by k old.o) numbers) ≡ None)
   pub err : IfErr result (UnreadBy (first_refusal (map (refusal_by k old.o) numbers)))
   pub asks : AsksFor g result old new (sections_due k old.o numbers)
@@ -115,10 +125,15 @@ HasContents k s x =
     HasKept s.told s.o.base (header_by k s.o) (bytes_by k s.o) (kept_from_1 s.o k.removed.now)
     (length s.o.sections) x
 
+abbrev pub IsReadBy : Keeper → Object → Contents → Type 0
+IsReadBy k o x =
+    IsReadOf (kind_by k o) (base_due_by k o) (kept_from_1 o k.removed.now) (length o.sections) x
+
 -- a step keeps what a keeper makes of all sections that are kept, and leaves the object
 pub record KeepsContents {S : Type 0} (g : Ghosts S) (k : Keeper) (numbers : List ℕ)
     (result : Result Contents ElfError) (old new : State S) : Type 0 where
   pub ok : IfOk result (HasContents k old)
+  pub read : IfOk result (IsReadBy k old.o)
   pub passed : OnOk result (first_refusal (map (refusal_by k old.o) numbers) ≡ None)
   pub err : IfErr result (UnreadBy (first_refusal (map (refusal_by k old.o) numbers)))
   pub asks : AsksFor g result old new (sections_due k old.o numbers)

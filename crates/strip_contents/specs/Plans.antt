@@ -21,7 +21,7 @@ use Rattle.strip_tables.specs.update_plan.Placing.{IsRefused}
 use Rattle.strip_laws.specs.command_objects.Arranged.{Rebuilt, placed_from}
 use Rattle.strip_laws.specs.command_objects.Files.{file_made}
 use Rattle.strip_laws.specs.command_objects.Followed.{kept_from_1}
-use Rattle.strip_laws.specs.command_objects.Rebuilt.{rebuilt, renews_names, items_follow}
+use Rattle.strip_laws.specs.command_objects.Rebuilt.{rebuilt, rebuilt_tail, renews_names, items_follow}
 use Rattle.strip_tables.specs.object_making.Placing.{arranged_refusal}
 use Rattle.strip_tables.specs.listed_layout.declared.listed.Listed.{Listed}
 use Rattle.strip_tables.specs.listed_layout.Listing.{IsListed}
@@ -29,13 +29,14 @@ use Rattle.strip_tables.specs.image_ranges.declared.ranges.ByteRange.{ByteRange}
 use Rattle.strip_tables.specs.image_ranges.Ranges.{KeptSource, KeptRanges, pieces_at}
 use Rattle.strip_tables.specs.image_ranges.Images.{AreRangesOf, ranged_text}
 use Rattle.strip_tables.specs.strip_removed.Calls.{names_home}
-use Rattle.strip_tables.specs.strip_rebuild.Answers.{kept_reads}
+use Rattle.strip_tables.specs.strip_rebuild.Answers.{EarlyBy, early_refusal, kept_reads, rebuild_due}
 use Rattle.strip_tables.specs.strip_rebuild.Makes.{AsksFor}
 use Rattle.strip_tables.specs.strip_stream.declared.streaming.Streamed.{Streamed}
 use Rattle.strip_tables.specs.strip_stream.Planning.{IsLaidOut}
 use Rattle.strip_contents.specs.declared.arranged.Arranged.{Arranged}
 use Rattle.strip_contents.specs.declared.contents.Contents.{Contents}
 use Rattle.strip_contents.specs.declared.plans.RangedPlan.{RangedPlan}
+use Rattle.strip_contents.specs.Reading.{ranges_due, rebuilt_kinds}
 
 -- ---- The header
 
@@ -62,9 +63,10 @@ pub record IsArrangedTo (p : Object) (tail : Option ℕ) (next : Listed) : Type 
   pub passed : arranged_refusal p tail ≡ None
   pub listed : IsListed (arranged_object p tail) next
 
--- it is refused
+-- it is refused, which comes behind a tail alone
 pub record IsRefusedTo (x : Listed) (tail : Option ℕ) (e : ElfError) : Type 0 where
   pub error : e ≡ TooLarge
+  pub behind : is_some tail ≡ true
   pub refused : (p : Object) → IsListed p x → arranged_refusal p tail ≡ Some TooLarge
 
 -- listed headers are arranged, as many as before, or their places are refused
@@ -179,18 +181,26 @@ pub record IsArrangedAs (phdrs : List Phdr) (base : List ℕ) (p : Object) (tail
   pub ranges : MayBeWritten (arranged_object p tail)
       → IsRangedBy phdrs base (arranged_object p tail) next
 
--- they are refused
+-- they are refused, behind a tail alone
 pub record IsUnarranged (o : Object) (index : ℕ) (x : Contents) (tail : Option ℕ) (e : ElfError)
     : Type 0 where
   pub error : e ≡ TooLarge
+  pub behind : is_some tail ≡ true
   pub refused : (base : List ℕ) (p : Object) → IsGatheredOf o index x tail base p
       → arranged_refusal p tail ≡ Some TooLarge
+
+-- the ranges and the kinds stay, over a base up to a tail
+pub record KeepsRanges (x : Contents) (tail : Option ℕ) (next : Arranged) : Type 0 where
+  pub ranges : next.ranges ≡ x.ranges
+  pub kinds_are : next.kinds ≡ x.kinds
+  pub tail_is : next.tail ≡ tail
 
 -- what is arranged of the object that has what was kept, whatever the base is; nothing is read
 pub record ArrangesContents (o : Object) (index : ℕ) (x : Contents) (tail : Option ℕ)
     (result : Result Arranged ElfError) : Type 0 where
   pub ok : IfOk result (λ next. (base : List ℕ) (p : Object)
       → IsGatheredOf o index x tail base p → IsArrangedAs o.phdrs base p tail next)
+  pub kept : IfOk result (KeepsRanges x tail)
   pub small : IfOk result IsListable
   pub err : IfErr result (λ e. (e ≡ Memory) ⊎ IsUnarranged o index x tail e)
   pub unread : (a b : ℕ) → ReadRose result a b
@@ -220,14 +230,6 @@ ArrangedAnswers o (Err Read) stated = Unit {0}
 ArrangedAnswers o (Err Write) stated = ⊥
 ArrangedAnswers o (Err e) stated = stated ≡ Err e
 
--- a step arranges what is kept without the removed sections, where the source tells its bytes; it
--- reads nothing
-pub record ArrangesKept {S : Type 0} (s : State S) (removed : List ℕ)
-    (result : Result Arranged ElfError) : Type 0 where
-  pub answer : IsTrue s.told → ArrangedAnswers s.o result (rebuilt s.o removed)
-  pub small : IfOk result IsListable
-  pub unread : (a b : ℕ) → ReadRose result a b
-
 -- the section of a kept number is made: its items follow, or it has the names that are made anew
 abbrev pub is_made : Object → List ℕ → ℕ → Bool
 is_made o removed s =
@@ -243,10 +245,31 @@ unfoldable pub stream_due : Object → List ℕ → ℕ
 stream_due o removed =
     homes_due o [] (names_home o) + sum_by (kept_due o removed) (kept_from_1 o removed)
 
+-- what was arranged is over the stated base and of the stated kinds; and what is read when an
+-- object is made of it, the base before the tail and the ranges of the base, is within what a
+-- whole rebuilding may ask for
+pub record MakesRebuilt (o : Object) (removed : List ℕ) (x : Arranged) : Type 0 where
+  pub tail_is : x.tail ≡ rebuilt_tail o removed
+  pub kinds_are : x.kinds ≡ rebuilt_kinds o removed
+  pub within : stream_due o removed + (unwrap_or x.tail 0 + ranges_due x.ranges)
+      ≤ rebuild_due o removed
+
+-- a step arranges what is kept without the removed sections: as is stated where the source tells
+-- its bytes, and what is refused early over every source; it reads nothing
+pub record ArrangesKept {S : Type 0} (s : State S) (removed : List ℕ)
+    (result : Result Arranged ElfError) : Type 0 where
+  pub answer : IsTrue s.told → ArrangedAnswers s.o result (rebuilt s.o removed)
+  pub early : IfErr result (EarlyBy (early_refusal s.o removed))
+  pub makes : IfOk result (MakesRebuilt s.o removed)
+  pub small : IfOk result IsListable
+  pub unread : (a b : ℕ) → ReadRose result a b
+
 -- a step that reads besides arranges it so, and leaves the object
 pub record ArrangesRebuilt {S : Type 0} (g : Ghosts S) (removed : List ℕ)
     (result : Result Arranged ElfError) (due : ℕ) (old new : State S) : Type 0 where
   pub answer : IsTrue old.told → ArrangedAnswers old.o result (rebuilt old.o removed)
+  pub early : IfErr result (EarlyBy (early_refusal old.o removed))
+  pub makes : IfOk result (MakesRebuilt old.o removed)
   pub small : IfOk result IsListable
   pub asks : AsksFor g result old new due
 

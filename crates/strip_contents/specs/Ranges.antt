@@ -1,17 +1,17 @@
 -- Where the bytes of a section of the new image are: in the home of the old section, which is a
 -- range of the base (gABI chapter 4, "Section Header", sh_offset and sh_size), or among bytes that
 -- are held.
-use Rattle.std.specs.Prelude.{◌≡◌, ℕ, ◌==◌, Bool, true, false, List, [], ◌++◌, length, None, Result, Ok, Err, IsTrue, IfOk, IfErr, OnOk, if◌then◌else◌}
+use Rattle.std.specs.Prelude.{◌≡◌, ℕ, ◌==◌, ◌≤◌, Bool, true, false, List, [], ◌++◌, length, None, Result, Ok, Err, IsTrue, IfOk, IfErr, OnOk, if◌then◌else◌}
 use Rattle.elf_types.specs.declared.errors.ElfError.{ElfError}
 use Rattle.elf_types.specs.declared.errors.ElfError.TheVariants.{OutOfFile}
 use Rattle.elf_outside.specs.declared.sources.Source.{Ghosts}
 use Rattle.elf_xlate.specs.Translation.{encoded}
 use Rattle.strip_laws.specs.elf_object.Object.{Object, section_at}
-use Rattle.strip_laws.specs.elf_object.Due.{homes_due}
+use Rattle.strip_laws.specs.elf_object.Due.{home_due, homes_due}
 use Rattle.strip_tables.specs.elf_descriptor.State.{State}
 use Rattle.strip_tables.specs.object_making.Refused.{UnreadBy}
 use Rattle.strip_tables.specs.image_ranges.declared.ranges.ByteRange.{ByteRange}
-use Rattle.strip_tables.specs.image_ranges.Ranges.{range_bytes}
+use Rattle.strip_tables.specs.image_ranges.Ranges.{range_bytes, range_due}
 use Rattle.strip_tables.specs.strip_rebuild.declared.keepers.Keeper.{Keeper}
 use Rattle.strip_tables.specs.strip_rebuild.Keepers.{items_by, makes_by, refusal_by, reads_by}
 use Rattle.strip_tables.specs.strip_rebuild.Makes.{AsksFor}
@@ -53,11 +53,16 @@ pub record IsRangeOf (told : Bool) (base bytes old new : List ℕ) (range : Byte
 abbrev pub making_due : Keeper → Object → ℕ → ℕ
 making_due k o s = if makes_by k o s then homes_due o [] (reads_by k o s) else 0
 
+-- how many bytes of the base its range has: its home where it is taken as it is
+abbrev pub base_due_by : Keeper → Object → ℕ → ℕ
+base_due_by k o s = if makes_by k o s then 0 else home_due o [] s
+
 -- a step finds the range of a section of the new image, and leaves the object
 pub record FindsRange {S : Type 0} (g : Ghosts S) (k : Keeper) (s : ℕ)
     (result : Result ByteRange ElfError) (old new : State S) (held next : List ℕ)
     : Type 0 where
   pub ok : IfOk result (IsRangeOf old.told old.o.base (bytes_by k old.o s) held next)
+  pub within : IfOk result (λ range. range_due range ≤ base_due_by k old.o s)
   pub passed : OnOk result (refusal_by k old.o s ≡ None)
   pub err : IfErr result (UnreadBy (refusal_by k old.o s))
   pub asks : AsksFor g result old new (making_due k old.o s)

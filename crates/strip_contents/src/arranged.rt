@@ -1,6 +1,6 @@
 //! Listed headers with their places, and where the bytes of the sections are.
 
-use elf_types::List;
+use elf_types::{Kind, List};
 use strip_tables::prelude::{ByteRange, SharedBytes, listed_layout_Listed as Listed};
 
 /// What was kept of sections, with the places of what stands behind the base of a program.
@@ -10,6 +10,8 @@ pub struct Arranged {
     pub listed: Listed,
     /// The range of each section.
     pub ranges: List<ByteRange>,
+    /// As items of which kind the bytes of each section are read.
+    pub kinds: List<Kind>,
     /// The bytes that are held.
     pub held: SharedBytes,
     /// The place from which on what is not loaded stands, where there is one.

@@ -2,9 +2,12 @@
 
 ghost use Rattle.std.specs.Prelude.{◌≡◌, [], OnOk, IfOk, IfErr};
 ghost use Rattle.elf_types.specs.declared.errors.ElfError.TheVariants.{Memory};
+ghost use Rattle.elf_types.specs.declared.records.Kind.TheVariants as kinds;
 ghost use Rattle.strip_contents.specs.Contents.{IsPushed, IsPutBehind, HasFirst, kept_size};
+ghost use Rattle.strip_contents.specs.Reading.{IsFirstRead, IsReadAs};
+ghost use Rattle.strip_tables.specs.image_ranges.Ranges.{range_due};
 
-use elf_types::{Addrs, ElfError, List, NULL_SECTION, Shdr, Shdrs};
+use elf_types::{Addrs, ElfError, Kind, List, NULL_SECTION, Shdr, Shdrs};
 use std::alloc::Global;
 use strip_laws::prelude::occupies_file;
 use strip_tables::prelude::{ByteRange, SharedBytes};
@@ -19,6 +22,8 @@ pub struct Contents {
     pub sizes: Addrs,
     /// The range of each.
     pub ranges: List<ByteRange>,
+    /// As items of which kind the bytes of each are read.
+    pub kinds: List<Kind>,
     /// The bytes that are held.
     pub held: SharedBytes,
 }
@@ -29,25 +34,34 @@ impl Contents {
         ensures headers { result.headers ≡ [] }
         ensures sizes { result.sizes ≡ [] }
         ensures ranges { result.ranges ≡ [] }
+        ensures kinds { result.kinds ≡ [] }
         ensures held { result.held ≡ [] }
     {
         Contents {
             headers: List::new(alloc),
             sizes: List::new(alloc),
             ranges: List::new(alloc),
+            kinds: List::new(alloc),
             held: SharedBytes::new(alloc),
         }
     }
 
-    /// Adds a section with a header, so many bytes in the file, and a range. It refuses `Memory`
-    /// alone; what a refusal leaves is not stated.
-    pub(crate) fn push(&mut self, h: Shdr, size: u64, range: ByteRange) -> Result<(), ElfError>
-        ensures pushed { OnOk result (IsPushed h size range self.old self.new) }
+    /// Adds a section with a header, so many bytes in the file, and a range that is read as items
+    /// of a kind. It refuses `Memory` alone; what a refusal leaves is not stated.
+    pub(crate) fn push(
+        &mut self,
+        h: Shdr,
+        size: u64,
+        range: ByteRange,
+        kind: Kind,
+    ) -> Result<(), ElfError>
+        ensures pushed { OnOk result (IsPushed h size range kind self.old self.new) }
         ensures err { IfErr result (λ e. e ≡ Memory) }
     {
         self.headers.push(h)?;
         self.sizes.push(size)?;
         self.ranges.push(range)?;
+        self.kinds.push(kind)?;
         Ok(())
     }
 
@@ -56,10 +70,12 @@ impl Contents {
         requires headers { self.old.headers ≡ [] }
         requires sizes { self.old.sizes ≡ [] }
         requires ranges { self.old.ranges ≡ [] }
+        requires kinds { self.old.kinds ≡ [] }
         ensures first { OnOk result (HasFirst self.new) }
+        ensures read { OnOk result (IsFirstRead self.new) }
         ensures err { IfErr result (λ e. e ≡ Memory) }
     {
-        self.push(NULL_SECTION, 0, NOTHING)
+        self.push(NULL_SECTION, 0, NOTHING, Kind::Empty)
     }
 
     /// Those of section 0 alone, whose header has zeros alone, and which has no bytes. It refuses
@@ -68,6 +84,7 @@ impl Contents {
     /// Source: gABI chapter 4, "Section Header", the entry of index 0.
     pub fn first(alloc: Global) -> Result<Contents, ElfError>
         ensures first { IfOk result HasFirst }
+        ensures read { IfOk result IsFirstRead }
         ensures err { IfErr result (λ e. e ≡ Memory) }
     {
         let mut contents = Contents::new(alloc);
@@ -77,13 +94,14 @@ impl Contents {
         }
     }
 
-    /// Adds a section with a header whose bytes are a range. It refuses `Memory` alone; what a
-    /// refusal leaves is not stated.
+    /// Adds a section with a header whose bytes are a range, and are read as bytes. It refuses
+    /// `Memory` alone; what a refusal leaves is not stated.
     pub fn add(&mut self, h: Shdr, range: ByteRange) -> Result<(), ElfError>
         ensures added { OnOk result (IsPutBehind h range self.old self.new) }
+        ensures read { OnOk result (IsReadAs kinds.Bytes (range_due range) self.old self.new) }
         ensures err { IfErr result (λ e. e ≡ Memory) }
     {
-        self.push(h, kept_size(&h, range.len), range)
+        self.push(h, kept_size(&h, range.len), range, Kind::Bytes)
     }
 }
 

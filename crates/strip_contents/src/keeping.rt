@@ -4,14 +4,14 @@ ghost use Rattle.std.specs.Prelude.{◌≡◌, ◌<◌, [], length, false, All, 
 ghost use Rattle.strip_laws.specs.elf_object.Object.{is_dirty};
 ghost use Rattle.strip_laws.specs.elf_object.Valid.{IsObject, IsTied};
 ghost use Rattle.strip_laws.specs.command_objects.Followed.{kept_from_1};
-ghost use Rattle.strip_contents.specs.Contents.{KeepsSection, KeepsSections, AreKeptBy, KeepsContents};
+ghost use Rattle.strip_contents.specs.Contents.{KeepsSection, KeepsSections, AreKeptBy, AreReadBy, KeepsContents};
 
 use crate::contents::{Contents, kept_size};
 use crate::ranges::find_range;
 use elf_outside::Source;
 use elf_types::{ElfError, ScnId};
 use std::alloc::Global;
-use strip_tables::prelude::{Elf, Keeper, SectionMaker};
+use strip_tables::prelude::{Elf, Keeper};
 
 /// Adds what is made of a section that is there.
 fn add_section<S: Source>(
@@ -28,8 +28,9 @@ fn add_section<S: Source>(
         contents.old contents.new }
 {
     let header = keeper.header(elf, s);
+    let kind = keeper.kind(elf, s);
     match find_range(keeper, elf, s, &mut contents.held) {
-        Ok(range) => contents.push(header, kept_size(&header, range.len), range),
+        Ok(range) => contents.push(header, kept_size(&header, range.len), range, kind),
         Err(e) => Err(e),
     }
 }
@@ -46,6 +47,7 @@ fn add_sections<S: Source>(
     requires clean { is_dirty elf.old.o ≡ false }
     requires tied { IsTrue elf.old.told → IsTied elf.old.o }
     requires first { AreKeptBy keeper.now elf.old [] contents.old }
+    requires read { AreReadBy keeper.now elf.old.o [] contents.old }
     ensures { KeepsSections S.Source keeper.now numbers.now result elf.old elf.new contents.new }
 {
     for s in numbers {
@@ -71,6 +73,7 @@ fn fill_contents<S: Source>(
     requires headers { contents.old.headers ≡ [] }
     requires sizes { contents.old.sizes ≡ [] }
     requires ranges { contents.old.ranges ≡ [] }
+    requires kinds { contents.old.kinds ≡ [] }
     ensures { KeepsSections S.Source keeper.now numbers.now result elf.old elf.new contents.new }
 {
     if let Err(e) = contents.push_first() {

@@ -108,6 +108,7 @@ pub fn arrange_contents<S: Source>(
         Ok(listed) => Ok(Arranged {
             listed,
             ranges: contents.ranges,
+            kinds: contents.kinds,
             held: contents.held,
             tail,
         }),

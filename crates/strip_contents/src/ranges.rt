@@ -14,7 +14,7 @@ use crate::homes::home_range;
 use elf_outside::Source;
 use elf_types::{ElfError, ScnId};
 use strip_tables::prelude::{
-    ByteRange, Elf, Keeper, Numbering, SectionMaker, SharedBytes, hold_items, hold_shared,
+    ByteRange, Elf, Keeper, Numbering, SharedBytes, hold_items, hold_shared,
 };
 use strip_tables::{FollowedRows, find_rows, hold_rows};
 
@@ -95,6 +95,7 @@ fn rows_range<S: Source>(
     requires inside { AreInBase elf.old.o.base x }
     ensures ok { IfOk result (IsRangeOf elf.old.told elf.old.o.base
         (encoded x.class x.order (rows_made numbering.now elf.old.o.base x)) held.old held.new) }
+    ensures held { IfOk result (λ range. range.held ≡ true) }
     ensures asks { AsksFor S.Source result elf.old elf.new (tables_due x) }
     ensures err { IfErr result (λ e. (e ≡ Memory) ⊎ (e ≡ Read)) }
 {

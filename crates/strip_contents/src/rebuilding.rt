@@ -9,7 +9,7 @@ ghost use Rattle.strip_laws.specs.command_objects.Followed.{kept_from_1};
 ghost use Rattle.strip_laws.specs.Made.{FitsClass};
 ghost use Rattle.strip_tables.specs.strip_removed.Steps.{IsRemovable};
 ghost use Rattle.strip_tables.specs.strip_rebuild.Keepers.{KeepsFor, refusal_by};
-ghost use Rattle.strip_contents.specs.Contents.{HasContents, sections_due};
+ghost use Rattle.strip_contents.specs.Contents.{HasContents, IsReadBy, sections_due};
 ghost use Rattle.strip_contents.specs.Plans.{ArrangesKept, ArrangesRebuilt, StreamsRebuilt, stream_due};
 
 use crate::arranged::Arranged;
@@ -32,10 +32,11 @@ fn arrange_kept<S: Source>(
 ) -> Result<Arranged, ElfError>
     requires object { IsObject elf.now.o }
     requires clean { is_dirty elf.now.o ≡ false }
-    requires fits { FitsClass elf.now.o }
+    requires fits { IsTrue elf.now.told → FitsClass elf.now.o }
     requires removable { IsRemovable elf.now.o keeper.now.removed.now }
     requires keeps { KeepsFor elf.now.told elf.now.o keeper.now }
     requires contents { HasContents keeper.now elf.now contents }
+    requires read { IsReadBy keeper.now elf.now.o contents }
     requires segments { newphdr_refusal (length elf.now.o.phdrs) ≡ None }
     requires sections { first_refusal (map (refusal_by keeper.now elf.now.o)
         (kept_from_1 elf.now.o keeper.now.removed.now)) ≡ None }
@@ -62,7 +63,7 @@ fn arrange_by<S: Source>(
     requires object { IsObject elf.old.o }
     requires clean { is_dirty elf.old.o ≡ false }
     requires tied { IsTrue elf.old.told → IsTied elf.old.o }
-    requires fits { FitsClass elf.old.o }
+    requires fits { IsTrue elf.old.told → FitsClass elf.old.o }
     requires removable { IsRemovable elf.old.o keeper.now.removed.now }
     requires keeps { KeepsFor elf.old.told elf.old.o keeper.now }
     requires numbers { numbers.now ≡ kept_from_1 elf.old.o keeper.now.removed.now }
@@ -81,7 +82,7 @@ fn arrange_by<S: Source>(
 /// What is kept of an object without the removed sections, with its places: a section that is taken
 /// as it is is a range of the base, and is not read; the items that follow are held in their file
 /// form. Nothing of the object is dirty, and only sections are removed that may be. It refuses as
-/// `rebuild` of strip_rebuild, and `Memory` and `Read`. It asks for at most the names, and the
+/// `rebuild` of rebuild_object, and `Memory` and `Read`. It asks for at most the names, and the
 /// homes of the sections whose items follow, that of a symbol table once more for its extended
 /// indexes.
 ///
@@ -92,8 +93,6 @@ pub fn arrange_rebuilt<S: Source>(
     removed: &SectionSet,
 ) -> Result<Arranged, ElfError>
     requires clean { is_dirty elf.old.o ≡ false }
-    requires tied { IsTrue elf.old.told → IsTied elf.old.o }
-    requires fits { FitsClass elf.old.o }
     requires removable { IsRemovable elf.old.o removed.now }
     ensures { ArrangesRebuilt S.Source removed.now result (stream_due elf.old.o removed.now)
         elf.old elf.new }
@@ -123,8 +122,6 @@ pub fn plan_rebuilt<S: Source>(
     removed: &SectionSet,
 ) -> Result<RangedPlan, ElfError>
     requires clean { is_dirty elf.old.o ≡ false }
-    requires tied { IsTrue elf.old.told → IsTied elf.old.o }
-    requires fits { FitsClass elf.old.o }
     requires removable { IsRemovable elf.old.o removed.now }
     ensures { StreamsRebuilt S.Source removed.now result (stream_due elf.old.o removed.now)
         elf.old elf.new }

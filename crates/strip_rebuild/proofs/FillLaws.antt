@@ -1,19 +1,15 @@
 -- An object that was created gets its program headers, its sections and its header.
-use Rattle.std.proofs.Common.{◌≡◌, ◌⊎◌, inl, inr, ◌+◌, ◌-◌, ◌<◌, ◌≤◌, ◌==◌, ◌&&◌, ℕ, suc, Bool, true, false, not, List, [], ◌∷◌, length, map, Option, Some, None, Result, Ok, Err, if◌then◌else◌, refl, sym, ap, ◌∙◌, subst, arith}
-use Rattle.std.specs.Prelude.{IfErr, IfSome, OnOk, nat_le}
-use Rattle.std.proofs.lemmas.Bool.{and_cases, eq-eqb, eqb-true, ne_eqb, leb-false, not-false}
-use Rattle.std.proofs.lemmas.List.{length-map}
-use Rattle.elf_types.specs.declared.constants.TheConstants.{MAX_SECTIONS}
+use Rattle.std.proofs.Common.{◌≡◌, ◌⊎◌, inl, inr, ◌-◌, ◌<◌, ◌≤◌, ◌==◌, ◌&&◌, ℕ, Bool, true, false, not, List, [], ◌∷◌, length, map, Option, Some, None, Result, Ok, Err, if◌then◌else◌, refl, sym, ap, ◌∙◌, subst, arith}
+use Rattle.std.specs.Prelude.{IfSome, OnOk, nat_le}
+use Rattle.std.proofs.lemmas.Bool.{and_cases, eq-eqb, eqb-true, leb-false, not-false}
 use Rattle.elf_types.specs.declared.records.Class.{Class}
 use Rattle.elf_types.specs.declared.records.Ehdr.{Ehdr}
 use Rattle.elf_types.specs.declared.records.Phdr.{Phdr}
-use Rattle.elf_types.specs.declared.records.Shdr.{Shdr}
 use Rattle.elf_types.specs.declared.records.Part.TheVariants as part
 use Rattle.elf_types.specs.declared.errors.ElfError.{ElfError}
 use Rattle.elf_types.specs.declared.errors.ElfError.TheVariants.{Memory, Read, Write, NoSection, Unfit}
 use Rattle.elf_types.specs.Answers.{refused_if, first_refusal, answered, IsRefusal}
 use Rattle.object_making.specs.elf_outside.Asks.{ReadRose}
-use Rattle.strip_names.specs.elf_xlate.declared.content.Items.{Items}
 use Rattle.strip_names.specs.elf_xlate.Fields.{fits}
 use Rattle.strip_names.specs.elf_xlate.Headers.{ehdr_fits}
 use Rattle.object_making.specs.elf_object.Object.{Object, Section, new_section}
@@ -21,21 +17,15 @@ use Rattle.object_making.specs.elf_object.Words.{Edits}
 use Rattle.object_making.specs.elf_object.Steps.{stored_ehdr, with_ehdr, with_phdrs, with_sections, with_null_section}
 use Rattle.object_making.specs.elf_object.Calls.{newphdr_refusal, update_ehdr_refusal}
 use Rattle.object_making.specs.elf_object.Calls as calls
-use Rattle.object_making.specs.elf_object.Valid.{IsObject}
 use Rattle.object_making.proofs.elf_object.AnswerLaws.{answered_value, answered_refusal}
 use Rattle.object_making.proofs.elf_object.PassedLaws.{none_first, not_refused}
 use Rattle.update_plan.specs.elf_descriptor.State.{State}
 use Rattle.update_plan.specs.elf_descriptor.Edits.{StepsTo, stepped, grown, nulled}
-use Rattle.object_making.specs.command_objects.Followed.{kept_from_1}
-use Rattle.object_making.specs.command_objects.Rebuilt.{made_section, assembled, index_refusal}
-use Rattle.object_making.specs.Making.{made_sections, sections_by, AddsMade}
-use Rattle.object_making.specs.Made.{with_more}
+use Rattle.object_making.specs.command_objects.Rebuilt.{assembled, index_refusal}
 use Rattle.object_making.specs.Refused.{RefusedBy, UnreadBy}
 use Rattle.object_making.proofs.RefusedLaws.{alone}
-use Rattle.strip_rebuild.specs.declared.keepers.Keeper.{Keeper}
-use Rattle.strip_rebuild.specs.Keepers.{header_by, items_by, refusal_by, index_by}
-use Rattle.strip_rebuild.specs.Answers.{filled_sections, filled_refusal, sections_of, refusal_of, HasSections, IsFilled}
-use Rattle.strip_rebuild.proofs.MakeLaws.{refused_unread, unread_stated, stated_quiet, quiet_rose}
+use Rattle.strip_rebuild.specs.Answers.{filled_refusal, HasSections, IsFilled}
+use Rattle.strip_rebuild.proofs.MakeLaws.{refused_unread, stated_quiet, quiet_rose}
 
 -- ---- No sections
 
@@ -53,13 +43,6 @@ same_object m empty count =
     ap (λ (l : List Section). record m { sections = l }) empty
     ∙ ap (λ (n : ℕ). record m { header = record m.header { shnum = n }; sections = [] }) count
 
-none_made : (o : Object) (header : ℕ → Shdr) (items : ℕ → Items) (numbers : List ℕ)
-    → length o.sections ≡ 0 → filled_sections o header items numbers ≡ []
-unfolding filled_sections
-none_made o header items numbers none =
-    ap (λ (b : Bool). if b then [] else new_section ∷ sections_by header items numbers)
-    (eq-eqb (length o.sections) 0 none)
-
 pub has_none : {S : Type 0} (told : Bool) (stated : List Section) (made : State S) → stated ≡ []
     → made.o.sections ≡ [] → made.o.header.shnum ≡ 0 → HasSections told stated made made
 has_none told stated made none empty count = record {
@@ -69,14 +52,6 @@ has_none told stated made none empty count = record {
   exact = λ t. sym none;
   told_is = refl;
 }
-
-pub no_sections : {S : Type 0} (told : Bool) (o : Object) (header : ℕ → Shdr) (items : ℕ → Items)
-    (numbers : List ℕ) (made : State S) → length o.sections ≡ 0 → made.o.sections ≡ []
-    → made.o.header.shnum ≡ 0
-    → HasSections told (filled_sections o header items numbers) made made
-no_sections told o header items numbers made none empty count =
-    has_none told (filled_sections o header items numbers) made
-    (none_made o header items numbers none) empty count
 
 pub none_passed : (o : Object) (refusal : ℕ → Option ElfError) (numbers : List ℕ)
     → length o.sections ≡ 0 → length numbers ≤ length o.sections - 1
@@ -112,82 +87,8 @@ module _ {S : Type 0} (made mid : State S) (empty : made.o.sections ≡ [])
   pub null_told : mid.told ≡ made.told
   null_told = ap (λ (s : State S). s.told) null_state
 
-  pub null_some : 0 < length mid.o.sections
-  null_some =
-      let one : length mid.o.sections ≡ 1 = ap (λ (o : Object). length o.sections) null_made in
-      omega (arith, one)
-
   pub null_class : mid.o.header.class ≡ made.o.header.class
   null_class = ap (λ (o : Object). o.header.class) null_made
-
-  pub null_room : (o : Object) (numbers : List ℕ) → IsObject o → (length o.sections ≡ 0 → ⊥)
-      → length numbers ≤ length o.sections - 1
-      → length mid.o.sections + length numbers ≤ MAX_SECTIONS
-  null_room o numbers ok some few =
-      let one : length mid.o.sections ≡ 1 = ap (λ (o : Object). length o.sections) null_made in
-      omega (arith, one, few, ok.section_count, some)
-
--- ---- The others
-
-made_long : (hs : List Shdr) (a : List Items) → length a ≡ length hs
-    → length (made_sections hs a) ≡ length hs
-unfolding made_sections
-made_long [] a same = refl
-made_long (h ∷ hs) [] same = absurd (omega (arith, same))
-made_long (h ∷ hs) (x ∷ a) same =
-    let later = made_long hs a (omega (arith, same)) in omega (arith, later)
-
-made_stated : (header : ℕ → Shdr) (items : ℕ → Items) (numbers : List ℕ)
-    → made_sections (map header numbers) (map items numbers) ≡ sections_by header items numbers
-unfolding made_sections sections_by
-made_stated header items [] = refl
-made_stated header items (s ∷ numbers) =
-    ap (λ (l : List Section). made_section (header s) (items s) ∷ l)
-    (made_stated header items numbers)
-
-stated_long : (header : ℕ → Shdr) (items : ℕ → Items) (numbers : List ℕ)
-    → length (sections_by header items numbers) ≡ length numbers
-unfolding sections_by
-stated_long header items numbers =
-    length-map numbers (λ s. made_section (header s) (items s))
-
-some_made : (o : Object) (header : ℕ → Shdr) (items : ℕ → Items) (numbers : List ℕ)
-    → (length o.sections ≡ 0 → ⊥)
-    → filled_sections o header items numbers ≡ new_section ∷ sections_by header items numbers
-unfolding filled_sections
-some_made o header items numbers some =
-    ap (λ (b : Bool). if b then [] else new_section ∷ sections_by header items numbers)
-    (ne_eqb (length o.sections) 0 some)
-
-more_made : (m : Object) (l : List Section)
-    → with_more (with_sections m (new_section ∷ [])) l ≡ with_sections m (new_section ∷ l)
-more_made m l = refl
-
-pub all_sections_made : {S : Type 0} (told : Bool) (o : Object) (header : ℕ → Shdr)
-    (items : ℕ → Items) (numbers : List ℕ) (made mid new : State S) → (length o.sections ≡ 0 → ⊥)
-    → mid.o ≡ with_sections made.o (new_section ∷ []) → mid.told ≡ made.told
-    → AddsMade told header items numbers mid new
-    → HasSections told (filled_sections o header items numbers) made new
-all_sections_made {S} told o header items numbers made mid new some mid_is mid_told adds =
-    let rest = made_sections (map header numbers) adds.contents in
-    let stated = some_made o header items numbers some in
-    record {
-      sections = new_section ∷ rest;
-      object = adds.state.object
-          ∙ ap (λ (m : Object). with_more m rest) mid_is
-          ∙ more_made made.o rest;
-      long = ap suc (made_long (map header numbers) adds.contents
-          (adds.long ∙ sym (length-map numbers header))
-          ∙ length-map numbers header
-          ∙ sym (stated_long header items numbers))
-          ∙ ap (λ (l : List Section). length l) (sym stated);
-      exact = λ t.
-          ap (λ (l : List Section). new_section ∷ l)
-          (ap (made_sections (map header numbers)) (adds.exact t)
-          ∙ made_stated header items numbers)
-          ∙ sym stated;
-      told_is = adds.state.told ∙ mid_told;
-    }
 
 -- ---- Refusals, one after another
 
@@ -370,11 +271,7 @@ module _ {S : Type 0} (told : Bool) (o : Object) (index : ℕ) (stated : List Se
       (sym answer)).0) steps
   filled_on (Err e) answer steps = tt
 
--- ---- Of a result
-
-pub on_ok : {T A B : Type 0} (r : Result T ElfError) → (A → B) → OnOk r A → OnOk r B
-on_ok (Ok x) f is = f is
-on_ok (Err e) f is = tt
+-- ---- The program headers
 
 module _ {S : Type 0} (o : Object) (made mid : State S)
     (is : mid ≡ stepped (calls.phdrs_mut o.phdrs) made) where
@@ -416,47 +313,3 @@ module _ (q : Option ElfError) (states : IfSome q IsRefusal) where
   rose_on (Ok u) a b answer = tt
   rose_on (Err e) a b answer =
       quiet_rose (Unit {0}) e a b (stated_quiet e (stated_answer e answer))
-
--- the refusal of the header is the last one
-module _ (o : Object) (refusal : ℕ → Option ElfError) (numbers : List ℕ) (sections : List Section)
-    (index : ℕ) (segments : newphdr_refusal (length o.phdrs) ≡ None)
-    (before : first_refusal (map refusal numbers) ≡ None) (q : Option ElfError)
-    (states : IfSome q IsRefusal) (same : q ≡ index_refusal o sections index) where
-  index_last : q ≡ filled_refusal o refusal numbers sections index
-  index_last = same ∙ sym (filled_third o refusal numbers sections index segments before)
-
-  pub passed_on : (r : Result (Unit {0}) ElfError) → r ≡ answered q tt
-      → OnOk r (filled_refusal o refusal numbers sections index ≡ None)
-  passed_on (Ok u) answer = sym index_last ∙ (answered_value q tt u (sym answer)).0
-  passed_on (Err e) answer = tt
-
-  pub refused_on : (r : Result (Unit {0}) ElfError) → r ≡ answered q tt
-      → IfErr r (UnreadBy (filled_refusal o refusal numbers sections index))
-  refused_on (Ok u) answer = tt
-  refused_on (Err e) answer =
-      unread_stated (filled_refusal o refusal numbers sections index) e
-      (stated_answer q states e answer)
-      (sym index_last ∙ answered_refusal q tt e (sym answer))
-
--- ---- By a keeper
-
-module _ (k : Keeper) (o : Object) (numbers : List ℕ) (index : ℕ)
-    (at : numbers ≡ kept_from_1 o k.removed.now) (index_is : index ≡ index_by k o) where
-  pub refusal_kept : filled_refusal o (refusal_by k o) numbers
-      (filled_sections o (header_by k o) (items_by k o) numbers) index
-      ≡ refusal_of k o
-  refusal_kept =
-      ap (λ (l : List ℕ). filled_refusal o (refusal_by k o) l
-      (filled_sections o (header_by k o) (items_by k o) l) index) at
-      ∙ ap (filled_refusal o (refusal_by k o) (kept_from_1 o k.removed.now) (sections_of k o))
-      index_is
-
-  pub filled_kept : {S : Type 0} (told : Bool) (made new : State S)
-      (r : Result (Unit {0}) ElfError)
-      → OnOk r (IsFilled told o index (filled_sections o (header_by k o) (items_by k o) numbers)
-      made new)
-      → OnOk r (IsFilled told o (index_by k o) (sections_of k o) made new)
-  filled_kept told made new r is =
-      subst (λ (i : ℕ). OnOk r (IsFilled told o i (sections_of k o) made new)) index_is
-      (subst (λ (l : List ℕ). OnOk r (IsFilled told o index
-      (filled_sections o (header_by k o) (items_by k o) l) made new)) at is)

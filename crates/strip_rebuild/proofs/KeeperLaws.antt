@@ -10,15 +10,12 @@ use Rattle.elf_types.specs.declared.errors.ElfError.{ElfError}
 use Rattle.elf_types.specs.declared.errors.ElfError.TheVariants.{Memory}
 use Rattle.elf_types.specs.declared.constants.TheConstants.{SHT_SYMTAB, SHT_GROUP}
 use Rattle.object_making.specs.elf_outside.declared.sources.Source.{Ghosts}
-use Rattle.strip_names.specs.elf_xlate.Headers.{shdr_fits}
 use Rattle.strip_names.specs.elf_xlate.declared.content.Items.{Items}
 use Rattle.strip_names.specs.elf_xlate.declared.content.Items.TheVariants as items
 use Rattle.strip_names.specs.elf_xlate.Translation.{first_unfit}
 use Rattle.object_making.specs.elf_object.Object.{Object}
 use Rattle.object_making.specs.elf_object.Answers.{raw_refusal, words_of, syms_of}
-use Rattle.object_making.specs.elf_object.Valid.{IsObject}
 use Rattle.update_plan.specs.elf_descriptor.State.{State}
-use Rattle.update_plan.proofs.object_laws.KeepLaws.{section_at_is}
 use Rattle.object_making.specs.elf_object.Sections.{header_at, is_among, is_loose}
 use Rattle.object_making.specs.command_objects.Followed.{Renumbering, kept_from_1, followed_header, followed_group, followed_syms, followed_words, symbols_follow, members_follow}
 use Rattle.strip_names.specs.declared.building.NewNames.{NewNames}
@@ -27,7 +24,7 @@ use Rattle.strip_rebuild.specs.declared.naming.Names.TheVariants.{Anew}
 use Rattle.strip_rebuild.specs.declared.keepers.Keeper.{Keeper}
 use Rattle.strip_rebuild.specs.Makes.{Makes, FitsAs, FitsAny, SymsFit}
 use Rattle.strip_rebuild.specs.Homes.{home_items, home_refusal, bytes_at_home, words_found, syms_found}
-use Rattle.strip_rebuild.specs.Keepers.{name_by, header_by, serves, indexes_by, symbols_by, group_by, words_by, kept_by, items_or_names, items_by, follows_by, is_renewed, makes_by, kept_refusal_by, refusal_or_none, refusal_by, reads_by}
+use Rattle.strip_rebuild.specs.Keepers.{name_by, header_by, serves, indexes_by, symbols_by, group_by, words_by, kept_by, items_or_names, items_by, follows_by, is_renewed, makes_by, kind_by, kept_refusal_by, refusal_or_none, refusal_by, reads_by}
 use Rattle.strip_rebuild.proofs.FitLaws.{followed_fit}
 use Rattle.strip_rebuild.proofs.MakeLaws.{unread_any, makes_then, makes_as, makes_nothing, makes_both, makes_early}
 
@@ -48,14 +45,6 @@ module _ (k : Keeper) (o : Object) (s : ℕ) where
       ap (λ (x : Shdr). with_name x name) (is ∙ ap (followed_header k.numbering) at)
       ∙ ap (with_name (followed_header k.numbering (header_at o s)))
       (named ∙ ap (λ (x : Shdr). name_by k.names s x.name) at)
-
-  fits_too : (class : Class) → shdr_fits class (header_at o s) ≡ true
-      → shdr_fits class (header_by k o s) ≡ true
-  unfolding shdr_fits header_by followed_header
-  fits_too class fits = fits
-
-  pub header_fits : IsObject o → shdr_fits o.header.class (header_by k o s) ≡ true
-  header_fits is = fits_too o.header.class (section_at_is o s is).fitting
 
 -- ---- What a section is
 
@@ -107,6 +96,27 @@ module _ (k : Keeper) (o : Object) (s : ℕ) where
       → r ≡ follows_by k o s → r ≡ makes_by k o s
   unfolding makes_by
   makes_others r not_names is = is ∙ sym (ap (λ (b : Bool). b || follows_by k o s) not_names)
+
+  -- of which kind its items are
+  pub kind_renewed : is_renewed k.names (s == o.header.shstrndx) ≡ true
+      → kinds.Bytes ≡ kind_by k o s
+  unfolding kind_by
+  kind_renewed is = rw is refl
+
+  pub kind_symbols : is_renewed k.names (s == o.header.shstrndx) ≡ false
+      → symbols_follow o s ≡ true → kinds.Sym ≡ kind_by k o s
+  unfolding kind_by
+  kind_symbols not_names is = rw (not_names, is) refl
+
+  pub kind_words : is_renewed k.names (s == o.header.shstrndx) ≡ false
+      → symbols_follow o s ≡ false → follows_by k o s ≡ true → kinds.Word ≡ kind_by k o s
+  unfolding kind_by
+  kind_words not_names none is = rw (not_names, none, is) refl
+
+  pub kind_bytes : is_renewed k.names (s == o.header.shstrndx) ≡ false
+      → symbols_follow o s ≡ false → follows_by k o s ≡ false → kinds.Bytes ≡ kind_by k o s
+  unfolding kind_by
+  kind_bytes not_names none is = rw (not_names, none, is) refl
 
 -- ---- Items
 

@@ -1,13 +1,11 @@
 -- The object that is made anew: what it is answered with, and what is asked for.
 use Rattle.std.proofs.Common.{◌≡◌, ◌≢◌, ◌⊎◌, inl, inr, ◌≤◌, ◌==◌, ◌&&◌, ℕ, Bool, true, false, not, List, [], ◌∷◌, length, map, Option, Some, None, Result, Ok, Err, if◌then◌else◌, refl, sym, ap, ◌∙◌, subst, arith}
-use Rattle.std.specs.Prelude.{IsTrue, IfSome, OnOk, nat_le, min}
-use Rattle.std.specs.List.{flat_map}
+use Rattle.std.specs.Prelude.{IsTrue, IfSome, nat_le, min}
 use Rattle.elf_types.specs.declared.errors.ElfError.{ElfError}
 use Rattle.elf_types.specs.declared.errors.ElfError.TheVariants.{Memory, Read, Write, TooLarge, NoSection, NoData, OutOfFile, Ragged, TooMany, Unfit}
 use Rattle.elf_types.specs.declared.constants.TheConstants.{PN_XNUM}
 use Rattle.elf_types.specs.declared.records.Part.TheVariants as part
 use Rattle.elf_types.specs.Answers.{refused_if, first_refusal, answered, err_of, ◌>>=◌}
-use Rattle.object_making.specs.elf_outside.declared.sources.Source.{Ghosts}
 use Rattle.strip_names.specs.elf_xlate.declared.content.Items.{Items}
 use Rattle.strip_names.specs.elf_xlate.Headers.{ehdr_fits}
 use Rattle.strip_names.specs.elf_xlate.Translation.{decoded}
@@ -15,14 +13,11 @@ use Rattle.object_making.specs.elf_object.Object.{Object, Section, section_at, p
 use Rattle.object_making.specs.elf_object.Open.{created_over}
 use Rattle.object_making.specs.elf_object.Answers.{content, no_section, no_data, no_content, out_of_file, piece_count, raw_refusal, data_refusal}
 use Rattle.object_making.specs.elf_object.Calls.{newphdr_refusal, update_ehdr_refusal}
-use Rattle.object_making.specs.elf_object.Due.{homes_due}
 use Rattle.object_making.specs.elf_object.Steps.{stored_ehdr}
 use Rattle.object_making.specs.elf_object.Valid.{IsObject}
-use Rattle.object_making.specs.elf_object.Words.{result_map}
 use Rattle.object_making.proofs.elf_object.StepLaws.{first_refusal-met, first_refusal-more}
 use Rattle.update_plan.specs.elf_descriptor.State.{State}
-use Rattle.update_plan.specs.elf_descriptor.Edits.{StepsTo}
-use Rattle.object_making.specs.command_objects.Arranged.{Rebuilt, over_base, base_end, tail_of, tail_refusal, placed_from, arranged}
+use Rattle.object_making.specs.command_objects.Arranged.{over_base, base_end, tail_of, tail_refusal, placed_from, arranged}
 use Rattle.object_making.specs.elf_object.Sections.{is_among, is_program}
 use Rattle.object_making.specs.command_objects.Followed.{kept_from_1}
 use Rattle.object_making.specs.command_objects.Rebuilt.{assembled, rebuilt, rebuild_refusal, rebuilt_object, rebuilt_sections, rebuilt_index, rebuilt_tail, renews_names, kept_names, table_refusal, kept_refusal, items_follow, index_refusal}
@@ -33,12 +28,10 @@ use Rattle.strip_items.specs.strip_removed.Steps.{IsRemovable}
 use Rattle.strip_rebuild.specs.declared.naming.Names.{Names}
 use Rattle.strip_rebuild.specs.declared.naming.Names.TheVariants as names
 use Rattle.strip_rebuild.specs.declared.keepers.Keeper.{Keeper}
-use Rattle.strip_rebuild.specs.Makes.{AsksFor}
-use Rattle.strip_rebuild.specs.Keepers.{index_by, reads_by, RenewsAs, AreNames, KeepsFor}
-use Rattle.strip_rebuild.specs.Answers.{RebuildAnswers, EarlyBy, early_refusal, homes_asked, sections_of, refusal_of, IsFilled, ChecksNames, Rebuilds}
-use Rattle.strip_rebuild.proofs.AskLaws.{asks_as, asks_stop}
+use Rattle.strip_rebuild.specs.Keepers.{index_by, RenewsAs, AreNames, KeepsFor}
+use Rattle.strip_rebuild.specs.Answers.{RebuildAnswers, EarlyBy, early_refusal, sections_of, refusal_of, ChecksNames}
 use Rattle.strip_rebuild.proofs.NumberLaws.{zero_stays}
-use Rattle.strip_rebuild.proofs.KeptLaws.{none_among, among_any, homes_told, early_told, index_told}
+use Rattle.strip_rebuild.proofs.KeptLaws.{none_among, among_any, early_told, index_told}
 use Rattle.strip_rebuild.proofs.SectionLaws.{sections_told}
 
 -- ---- No early refusal is TooLarge
@@ -188,14 +181,11 @@ module _ (o : Object) (removed : List ℕ) where
   answers_early Write by = by
   answers_early e by = rebuilt_refused e (refused_early e by)
 
--- want of memory and failed reads are answered by anything
-pub faults_answer : {A : Type 0} (e : ElfError) (stated : Result A ElfError)
-    → (e ≡ Memory) ⊎ (e ≡ Read) → RebuildAnswers (Err e) stated
-faults_answer {A} e stated (inl is) =
-    subst (λ (x : ElfError). RebuildAnswers {A = A} (Err x) stated) (sym is) tt
-faults_answer {A} e stated (inr is) =
-    subst (λ (x : ElfError). RebuildAnswers {A = A} (Err x) stated) (sym is) tt
+  pub early_error : (e : ElfError) → UnreadBy (early_refusal o removed) e
+      → EarlyBy (early_refusal o removed) e
+  early_error e by = early_by (early_refusal o removed) e (small_early o removed) by
 
+-- want of memory and failed reads come at any time
 pub faults_early : (e : ElfError) (stated : Option ElfError) → (e ≡ Memory) ⊎ (e ≡ Read)
     → EarlyBy stated e
 faults_early e stated (inl is) = subst (λ (x : ElfError). EarlyBy stated x) (sym is) tt
@@ -256,71 +246,45 @@ placed_told s (Some n) = by (length s.o.sections == 0)
     by true = refl
     by false = refl
 
--- ---- The steps
+-- ---- By a keeper
 
-module _ {S : Type 0} (g : Ghosts S) (old new : State S) (k : Keeper) (is : IsObject old.o)
-    (clean : is_dirty old.o ≡ false) (removable : IsRemovable old.o k.removed.now)
-    (keeps : KeepsFor old.told old.o k) where
-  abbrev Whole : (T : Type 0) → Result Rebuilt ElfError → Result T ElfError → Type 0
-  Whole T seen r =
-      Rebuilds {T = T} g k.removed.now seen r (homes_asked old.o k.removed.now) old new
-
+module _ (told : Bool) (o : Object) (k : Keeper) (is : IsObject o) (clean : is_dirty o ≡ false)
+    (removable : IsRemovable o k.removed.now) (keeps : KeepsFor told o k) where
   stays : is_among k.removed.now 0 ≡ false
-  stays = zero_stays old.o k.removed.now removable
+  stays = zero_stays o k.removed.now removable
 
-  early_is : refusal_of k old.o ≡ early_refusal old.o k.removed.now
-  early_is = early_told old.told old.o k keeps stays is clean
+  pub early_is : refusal_of k o ≡ early_refusal o k.removed.now
+  early_is = early_told told o k keeps stays is clean
 
-  pub homes_are : {T : Type 0} (r : Result T ElfError) (numbers : List ℕ)
-      → numbers ≡ kept_from_1 old.o k.removed.now
-      → AsksFor g r old new (homes_due old.o [] (flat_map (reads_by k old.o) numbers))
-      → AsksFor g r old new (homes_asked old.o k.removed.now)
-  homes_are r numbers at asks =
-      subst (λ (l : List ℕ). AsksFor g r old new (homes_due old.o [] l))
-      (ap (flat_map (reads_by k old.o)) at ∙ homes_told old.told old.o k keeps is clean) asks
-
-  -- it can not be filled
-  pub fill_refused : {T : Type 0} (e : ElfError) → UnreadBy (refusal_of k old.o) e
-      → AsksFor {T = Unit {0}} g (Err e) old new (homes_asked old.o k.removed.now)
-      → Whole T (Err e) (Err e)
-  fill_refused {T} e by asks =
-      let early = subst (λ (r : Option ElfError). UnreadBy r e) early_is by in
-      record {
-        answer = λ t. answers_early old.o k.removed.now e early;
-        early = early_by (early_refusal old.o k.removed.now) e
-            (small_early old.o k.removed.now) early;
-        asks = asks_stop g {T = Unit {0}} {U = T} e old new (homes_asked old.o k.removed.now) asks;
-      }
-
-  module _ (passed : refusal_of k old.o ≡ None)
-      (asked : AsksFor {T = Unit {0}} g (Ok tt) old new (homes_asked old.o k.removed.now)) where
-    passes : early_refusal old.o k.removed.now ≡ None
+  -- nothing is refused before the names are
+  module _ (passed : refusal_of k o ≡ None) (t : IsTrue told) where
+    passes : early_refusal o k.removed.now ≡ None
     passes = sym early_is ∙ passed
 
     -- by what becomes of the names
-    large_refused : (n : Names) → RenewsAs (renews_names old.o k.removed.now) n
-        → AreNames old.o k.removed.now n → n ≡ names.TooLarge
-        → rebuild_refusal old.o k.removed.now ≡ Some TooLarge
+    large_refused : (n : Names) → RenewsAs (renews_names o k.removed.now) n
+        → AreNames o k.removed.now n → n ≡ names.TooLarge
+        → rebuild_refusal o k.removed.now ≡ Some TooLarge
     large_refused names.TooLarge renews are same =
-        refused_late old.o k.removed.now passes
+        refused_late o k.removed.now passes
         ∙ ap (λ (b : Bool). first_refusal
-        ((if b then table_refusal (kept_names old.o k.removed.now) else None) ∷ [])) renews
+        ((if b then table_refusal (kept_names o k.removed.now) else None) ∷ [])) renews
         ∙ ap (λ (r : Option ElfError). first_refusal (r ∷ [])) are
     large_refused names.Stay renews are same = cc
     large_refused (names.Anew n) renews are same = cc
 
-    names_passed : (n : Names) → RenewsAs (renews_names old.o k.removed.now) n
-        → AreNames old.o k.removed.now n → n ≢ names.TooLarge
-        → rebuild_refusal old.o k.removed.now ≡ None
+    names_passed : (n : Names) → RenewsAs (renews_names o k.removed.now) n
+        → AreNames o k.removed.now n → n ≢ names.TooLarge
+        → rebuild_refusal o k.removed.now ≡ None
     names_passed names.TooLarge renews are fits = absurd (fits refl)
     names_passed names.Stay renews are fits =
-        refused_late old.o k.removed.now passes
+        refused_late o k.removed.now passes
         ∙ ap (λ (b : Bool). first_refusal
-        ((if b then table_refusal (kept_names old.o k.removed.now) else None) ∷ [])) renews
+        ((if b then table_refusal (kept_names o k.removed.now) else None) ∷ [])) renews
     names_passed (names.Anew n) renews are fits =
-        refused_late old.o k.removed.now passes
+        refused_late o k.removed.now passes
         ∙ ap (λ (b : Bool). first_refusal
-        ((if b then table_refusal (kept_names old.o k.removed.now) else None) ∷ [])) renews
+        ((if b then table_refusal (kept_names o k.removed.now) else None) ∷ [])) renews
         ∙ ap (λ (r : Option ElfError). first_refusal (r ∷ [])) are.0
 
     checked_large : (n : Names) (e : ElfError) → ChecksNames n (Err e)
@@ -329,97 +293,58 @@ module _ {S : Type 0} (g : Ghosts S) (old new : State S) (k : Keeper) (is : IsOb
     checked_large (names.Anew n) e came = cc
     checked_large names.TooLarge e came = (refl, let same : e ≡ TooLarge = cc in same)
 
-    checked_fits : (n : Names) (x : Unit {0}) → ChecksNames n (Ok x) → n ≢ names.TooLarge
-    checked_fits n x came large =
-        let clash : ◌≡◌ {A = Result (Unit {0}) ElfError} (Ok x) (Err TooLarge) =
-        subst (λ (m : Names). ChecksNames m (Ok x)) large came in cc
+    checked_fits : (n : Names) → ChecksNames n (Ok tt) → n ≢ names.TooLarge
+    checked_fits n came large =
+        let clash : ◌≡◌ {A = Result (Unit {0}) ElfError} (Ok tt) (Err TooLarge) =
+        subst (λ (m : Names). ChecksNames m (Ok tt)) large came in cc
 
     -- their table is too large
-    pub names_refused : {T : Type 0} (e : ElfError) → ChecksNames k.names (Err e)
-        → Whole T (Err e) (Err e)
-    names_refused {T} e came =
-        let large = checked_large k.names e came in
-        subst (λ (x : ElfError). Whole T (Err x) (Err x)) (sym large.1) (record {
-          answer = λ t. rebuilt_refused old.o k.removed.now TooLarge
-              (large_refused k.names keeps.renews (keeps.names_are t) large.0);
-          early = passes;
-          asks = asks_as g {T = Unit {0}} {U = T} (Ok tt) (Err TooLarge) old new
-              (homes_asked old.o k.removed.now) tt asked;
-        })
+    pub names_refused : (e : ElfError) → ChecksNames k.names (Err e)
+        → (e ≡ TooLarge) × (rebuilt o k.removed.now ≡ Err TooLarge)
+    names_refused e came =
+        let large = checked_large k.names e came in (
+          large.1,
+          rebuilt_refused o k.removed.now TooLarge
+              (large_refused k.names keeps.renews (keeps.names_are t) large.0),
+        )
 
-    -- ---- What was filled is the stated object
+    -- ---- What is stated, by what the keeper makes
 
-    module _ {M : Type 0} (tail : Option ℕ) (made filled placed : State M) (x : Unit {0})
-        (tail_is : tail ≡ rebuilt_tail old.o k.removed.now)
-        (created : IsMadeOver old.told old.o tail made)
-        (is_filled : IsFilled old.told old.o (index_by k old.o) (sections_of k old.o) made filled)
-        (checked : ChecksNames k.names (Ok x)) where
-      kept_pass : (t : ℕ) → is_among (kept_from_1 old.o k.removed.now) t ≡ true
-          → kept_refusal old.o k.removed.now t ≡ None
-      unfolding early_refusal
-      kept_pass t kept =
-          none_among (kept_refusal old.o k.removed.now) (kept_from_1 old.o k.removed.now) t
-          (second_none (newphdr_refusal (length old.o.phdrs))
-          (first_refusal (map (kept_refusal old.o k.removed.now)
-          (kept_from_1 old.o k.removed.now))) _ passes)
-          (among_any old.o k.removed.now t ∙ kept)
-        where
-          second_none : (a b : Option ElfError) (rest : List (Option ElfError))
-              → first_refusal (a ∷ b ∷ rest) ≡ None → b ≡ None
-          second_none None None rest none = refl
-          second_none None (Some e) rest none = cc
-          second_none (Some e) b rest none = cc
+    kept_pass : (s : ℕ) → is_among (kept_from_1 o k.removed.now) s ≡ true
+        → kept_refusal o k.removed.now s ≡ None
+    unfolding early_refusal
+    kept_pass s kept =
+        none_among (kept_refusal o k.removed.now) (kept_from_1 o k.removed.now) s
+        (second_none (newphdr_refusal (length o.phdrs))
+        (first_refusal (map (kept_refusal o k.removed.now)
+        (kept_from_1 o k.removed.now))) _ passes)
+        (among_any o k.removed.now s ∙ kept)
+      where
+        second_none : (a b : Option ElfError) (rest : List (Option ElfError))
+            → first_refusal (a ∷ b ∷ rest) ≡ None → b ≡ None
+        second_none None None rest none = refl
+        second_none None (Some e) rest none = cc
+        second_none (Some e) b rest none = cc
 
-      made_sections_are : (told : Bool) → IsTrue told → KeepsFor told old.o k
-          → sections_of k old.o ≡ rebuilt_sections old.o k.removed.now
-      made_sections_are true t keeps_too =
-          sections_told old.o k keeps_too is clean kept_pass stays
-          (checked_fits k.names x checked)
-      made_sections_are false t keeps_too = cc
+    made_sections_are : ChecksNames k.names (Ok tt) → (b : Bool) → IsTrue b → KeepsFor b o k
+        → sections_of k o ≡ rebuilt_sections o k.removed.now
+    made_sections_are checked true tells keeps_too =
+        sections_told o k keeps_too is clean kept_pass stays (checked_fits k.names checked)
+    made_sections_are checked false tells keeps_too = cc
 
-      object_is : IsTrue old.told → filled.o ≡ rebuilt_object old.o k.removed.now
-      unfolding rebuilt_object
-      object_is t =
-          is_filled.object
-          ∙ ap (λ (m : Object). assembled m old.o (index_by k old.o) is_filled.sections)
-          (created.exact t ∙ ap (over_base old.o) tail_is)
-          ∙ ap (λ (i : ℕ). assembled (over_base old.o (rebuilt_tail old.o k.removed.now)) old.o i
-          is_filled.sections) (index_told old.told old.o k keeps stays)
-          ∙ ap (assembled (over_base old.o (rebuilt_tail old.o k.removed.now)) old.o
-          (rebuilt_index old.o k.removed.now))
-          (is_filled.exact t ∙ made_sections_are old.told t keeps)
-
-      stated_is : IsTrue old.told
-          → rebuilt old.o k.removed.now ≡ arranged (made_of filled.o tail)
-      stated_is t =
-          rebuilt_passed old.o k.removed.now
-          (names_passed k.names keeps.renews (keeps.names_are t) (checked_fits k.names x checked))
-          ∙ ap (λ (m : Object). arranged (made_of m (rebuilt_tail old.o k.removed.now)))
-          (sym (object_is t))
-          ∙ ap (λ (n : Option ℕ). arranged (made_of filled.o n)) (sym tail_is)
-
-      pub placed_whole : (r : Result (Unit {0}) ElfError)
-          → result_map (λ u. made_of placed.o tail) r ≡ arranged (made_of filled.o tail)
-          → r ≡ answered (arranged_refusal filled.o tail) tt
-          → Whole (Unit {0}) (result_map (λ u. made_of placed.o tail) r) r
-      placed_whole (Ok u) came answer = record {
-        answer = λ t. stated_is t ∙ sym came;
-        early = tt;
-        asks = asked;
-      }
-      placed_whole (Err e) came answer =
-          let large = arrange_large filled.o tail e answer in
-          subst (λ (d : ElfError). Whole (Unit {0}) (Err d) (Err d)) (sym large) (record {
-            answer = λ t. stated_is t ∙ sym came ∙ ap (λ (d : ElfError). Err d) large;
-            early = passes;
-            asks = asks_as g {T = Unit {0}} {U = Unit {0}} (Ok tt) (Err TooLarge) old new
-                (homes_asked old.o k.removed.now) tt asked;
-          })
-
-      pub placed_made : (r : Result (Unit {0}) ElfError)
-          → StepsTo r filled placed (arranged_state filled tail)
-          → OnOk r (placed.told ≡ true)
-      placed_made (Ok u) steps =
-          ap (λ (s : State M). s.told) steps
-          ∙ placed_told filled tail ∙ is_filled.told_is ∙ created.made_is.told
-      placed_made (Err e) steps = tt
+    pub stated_is : (tail : Option ℕ) → tail ≡ rebuilt_tail o k.removed.now
+        → ChecksNames k.names (Ok tt)
+        → rebuilt o k.removed.now
+        ≡ arranged (made_of (assembled (over_base o tail) o (index_by k o) (sections_of k o)) tail)
+    unfolding rebuilt_object
+    stated_is tail tail_is checked =
+        rebuilt_passed o k.removed.now
+        (names_passed k.names keeps.renews (keeps.names_are t) (checked_fits k.names checked))
+        ∙ ap (λ (l : List Section). arranged (made_of
+        (assembled (over_base o (rebuilt_tail o k.removed.now)) o (rebuilt_index o k.removed.now) l)
+        (rebuilt_tail o k.removed.now))) (sym (made_sections_are checked told t keeps))
+        ∙ ap (λ (i : ℕ). arranged (made_of
+        (assembled (over_base o (rebuilt_tail o k.removed.now)) o i (sections_of k o))
+        (rebuilt_tail o k.removed.now))) (sym (index_told told o k keeps stays))
+        ∙ ap (λ (n : Option ℕ). arranged (made_of
+        (assembled (over_base o n) o (index_by k o) (sections_of k o)) n)) (sym tail_is)

@@ -1,29 +1,26 @@
 -- How an object that is made anew is answered.
-use Rattle.std.specs.Prelude.{◌≡◌, ◌⊎◌, ◌<◌, ◌+◌, ℕ, ◌==◌, Bool, List, [], ◌∷◌, length, unwrap_or, if◌then◌else◌, map, Option, Some, None, Result, Ok, Err, IsTrue, IfErr}
+use Rattle.std.specs.Prelude.{◌≡◌, ◌⊎◌, ◌<◌, ◌+◌, ℕ, ◌==◌, Bool, List, [], ◌∷◌, length, unwrap_or, if◌then◌else◌, map, Option, Some, None, Result, Ok, Err, IsTrue}
 use Rattle.std.specs.List.{flat_map}
 use Rattle.elf_types.specs.Answers.{first_refusal}
 use Rattle.elf_types.specs.declared.records.Shdr.{Shdr}
 use Rattle.elf_types.specs.declared.errors.ElfError.{ElfError}
 use Rattle.elf_types.specs.declared.errors.ElfError.TheVariants as errors
 use Rattle.elf_types.specs.declared.errors.ElfError.TheVariants.{Memory, Read, Write}
-use Rattle.object_making.specs.elf_outside.declared.sources.Source.{Ghosts}
 use Rattle.strip_names.specs.elf_xlate.declared.content.Items.{Items}
 use Rattle.object_making.specs.elf_object.Object.{Object, Section, new_section}
 use Rattle.object_making.specs.elf_object.Calls.{newphdr_refusal}
 use Rattle.object_making.specs.elf_object.Due.{homes_due}
 use Rattle.object_making.specs.elf_object.Steps.{with_sections}
 use Rattle.update_plan.specs.elf_descriptor.State.{State}
-use Rattle.object_making.specs.command_objects.Arranged.{Rebuilt}
 use Rattle.object_making.specs.elf_object.Sections.{header_at, number_or_0}
 use Rattle.object_making.specs.command_objects.Followed.{kept_from_1, symbols_follow, members_follow, indexes_follow, extended_table}
-use Rattle.object_making.specs.command_objects.Rebuilt.{assembled, rebuilt, kept_refusal, index_refusal, rebuilt_sections, rebuilt_index, rebuilt_tail}
+use Rattle.object_making.specs.command_objects.Rebuilt.{assembled, kept_refusal, index_refusal, rebuilt_sections, rebuilt_index, rebuilt_tail}
 use Rattle.object_making.specs.Making.{sections_by}
 use Rattle.strip_items.specs.strip_removed.Calls.{names_home}
 use Rattle.strip_rebuild.specs.declared.naming.Names.{Names}
 use Rattle.strip_rebuild.specs.declared.naming.Names.TheVariants.{Stay, Anew, TooLarge}
 use Rattle.strip_rebuild.specs.declared.keepers.Keeper.{Keeper}
 use Rattle.strip_rebuild.specs.Keepers.{header_by, items_by, refusal_by, index_by}
-use Rattle.strip_rebuild.specs.Makes.{AsksFor}
 
 -- ---- Answers
 
@@ -68,13 +65,11 @@ kept_homes o removed = flat_map (kept_reads o removed) (kept_from_1 o removed)
 abbrev pub homes_asked : Object → List ℕ → ℕ
 homes_asked o removed = homes_due o [] (kept_homes o removed)
 
--- what may be asked for: the base before the tail, and these homes
-abbrev pub made_due : Object → List ℕ → ℕ
-made_due o removed = unwrap_or (rebuilt_tail o removed) 0 + homes_asked o removed
-
--- and before that the names
+-- what may be asked for: the names, the base before the tail, and these homes
 unfoldable pub rebuild_due : Object → List ℕ → ℕ
-rebuild_due o removed = homes_due o [] (names_home o) + made_due o removed
+rebuild_due o removed =
+    homes_due o [] (names_home o)
+    + (unwrap_or (rebuilt_tail o removed) 0 + homes_asked o removed)
 
 -- ---- What is filled in
 
@@ -124,13 +119,3 @@ abbrev pub ChecksNames : Names → Result (Unit {0}) ElfError → Type 0
 ChecksNames Stay result = result ≡ Ok tt
 ChecksNames (Anew names) result = result ≡ Ok tt
 ChecksNames TooLarge result = result ≡ Err errors.TooLarge
-
--- ---- The whole step
-
--- It answers as is stated of the object without the removed sections, and leaves that.
-pub record Rebuilds {S T : Type 0} (g : Ghosts S) (removed : List ℕ)
-    (seen : Result Rebuilt ElfError) (result : Result T ElfError) (due : ℕ) (old new : State S)
-    : Type 0 where
-  pub answer : IsTrue old.told → RebuildAnswers seen (rebuilt old.o removed)
-  pub early : IfErr result (EarlyBy (early_refusal old.o removed))
-  pub asks : AsksFor g result old new due

@@ -2,6 +2,8 @@
 -- the extended indexes of each table, and the names. Of an object that is opened it is what strip
 -- states (KeepsFor).
 use Rattle.std.specs.Prelude.{◌≡◌, ℕ, ◌==◌, ◌&&◌, ◌||◌, Bool, true, false, List, [], ◌∷◌, slice_index, Option, Some, None, Result, Ok, Err, IsTrue, if◌then◌else◌}
+use Rattle.elf_types.specs.declared.records.Kind.{Kind}
+use Rattle.elf_types.specs.declared.records.Kind.TheVariants as kinds
 use Rattle.elf_types.specs.declared.records.Shdr.{Shdr}
 use Rattle.elf_types.specs.declared.errors.ElfError.{ElfError}
 use Rattle.elf_types.specs.declared.errors.ElfError.TheVariants as errors
@@ -84,6 +86,13 @@ is_renewed TooLarge is_names = false
 -- what it has is made, and not taken as it is
 unfoldable pub makes_by : Keeper → Object → ℕ → Bool
 makes_by k o s = is_renewed k.names (s == o.header.shstrndx) || follows_by k o s
+
+-- of which kind its items are
+unfoldable pub kind_by : Keeper → Object → ℕ → Kind
+kind_by k o s =
+    if is_renewed k.names (s == o.header.shstrndx) then kinds.Bytes
+    else (if symbols_follow o s then kinds.Sym
+    else (if follows_by k o s then kinds.Word else kinds.Bytes))
 
 -- of the items that follow, or of the bytes
 unfoldable pub kept_refusal_by : Keeper → Object → ℕ → Option ElfError

@@ -7,13 +7,12 @@ ghost use Rattle.object_making.specs.elf_object.Sections.{header_at};
 ghost use Rattle.object_making.specs.command_objects.Followed.{followed_syms, followed_words};
 ghost use Rattle.strip_rebuild.specs.Homes.{home_items, home_refusal, syms_found};
 ghost use Rattle.strip_rebuild.specs.Makes.{Makes, FitsAs};
-ghost use Rattle.strip_rebuild.specs.Keepers.{header_by, items_by, kept_by, symbols_by, group_by, words_by, indexes_by, serves, name_by, items_or_names, follows_by, is_renewed, makes_by, kept_refusal_by, refusal_or_none, refusal_by, reads_by, IsTableIn, HasTable};
+ghost use Rattle.strip_rebuild.specs.Keepers.{header_by, items_by, kept_by, symbols_by, group_by, words_by, indexes_by, serves, name_by, items_or_names, follows_by, is_renewed, makes_by, kind_by, kept_refusal_by, refusal_or_none, refusal_by, reads_by, IsTableIn, HasTable};
 
 use crate::homes::{bytes_at_home, copy_shared, home_syms, home_words, own_syms, own_words};
 use crate::making::{group_items, index_items, symbol_items};
 use crate::naming::Names;
-use elf_types::{ElfError, ScnId, Shdr, Words};
-use object_making::SectionMaker;
+use elf_types::{ElfError, Kind, ScnId, Shdr, Words};
 use object_making::prelude::Source;
 use strip_items::prelude::SectionSet;
 use strip_items::{Numbering, followed_header};
@@ -80,6 +79,19 @@ fn is_renewed(names: &Names, is_names: bool) -> bool
 }
 
 impl Keeper<'_> {
+    /// The header that a section that is there has in the new image: its links follow, and its name
+    /// has its place. It reads nothing and takes no memory.
+    pub fn header<S: Source>(&self, elf: &Elf<S>, s: ScnId) -> Shdr
+        requires { s.0 < length elf.now.o.sections }
+        ensures { result ≡ header_by self.now elf.now.o s.0 }
+    {
+        let h = elf.section_header(s);
+        Shdr {
+            name: name_of(&self.names, s, h.name),
+            ..followed_header(&self.numbering, &h)
+        }
+    }
+
     /// Whether a table that is there is one of symbols that follow, whose extended indexes a
     /// section holds.
     #[tactic(auto, unfolding(object_making::specs::Passed::symbols_follow))]
@@ -129,6 +141,26 @@ impl Keeper<'_> {
             return true;
         }
         self.follows(elf, s)
+    }
+
+    /// The kind of the items that a section that is there has in the new image. It reads nothing and
+    /// takes no memory.
+    #[tactic(auto, unfolding(object_making::specs::Passed::symbols_follow))]
+    pub fn kind<S: Source>(&self, elf: &Elf<S>, s: ScnId) -> Kind
+        requires { s.0 < length elf.now.o.sections }
+        ensures { result ≡ kind_by self.now elf.now.o s.0 }
+    {
+        if is_renewed(&self.names, s.0 == elf.shstrndx()) {
+            return Kind::Bytes;
+        }
+        let h = elf.section_header(s);
+        if is_symbol_table(&h) {
+            return Kind::Sym;
+        }
+        if self.follows(elf, s) {
+            return Kind::Word;
+        }
+        Kind::Bytes
     }
 
     /// The table of the names that are made anew, where a section is the one that holds them: what
@@ -260,8 +292,10 @@ impl Keeper<'_> {
         self.kept(elf, s)
     }
 
-    /// The items of a section that is there.
-    fn made_items<S: Source>(&self, elf: &mut Elf<S>, s: ScnId) -> Result<Items, ElfError>
+    /// The items that a section that is there has in the new image; they fit the class. It refuses
+    /// in this order: `OutOfFile`, and where its items follow `NoData` and `Ragged`; and `Memory`
+    /// and `Read`. It leaves the object, and reads each home that it looks at at the first use.
+    pub fn items<S: Source>(&self, elf: &mut Elf<S>, s: ScnId) -> Result<Items, ElfError>
         requires { s.0 < length elf.old.o.sections }
         ensures { Makes S.Source (λ o. items_by self.now o s.0) FitsAs
             (λ o. refusal_by self.now o s.0) (λ o. reads_by self.now o s.0)
@@ -272,28 +306,5 @@ impl Keeper<'_> {
             Names::Stay => self.kept(elf, s),
             Names::TooLarge => self.kept(elf, s),
         }
-    }
-}
-
-impl SectionMaker for Keeper<'_> {
-    ghost header = { λ k. header_by k };
-
-    ghost items = { λ k. items_by k };
-
-    ghost refusal = { λ k. refusal_by k };
-
-    ghost reads = { λ k. reads_by k };
-
-    fn header<S: Source>(&self, elf: &Elf<S>, s: ScnId) -> Shdr {
-        let _sound = elf.is_out_of_file(s);
-        let h = elf.section_header(s);
-        Shdr {
-            name: name_of(&self.names, s, h.name),
-            ..followed_header(&self.numbering, &h)
-        }
-    }
-
-    fn items<S: Source>(&self, elf: &mut Elf<S>, s: ScnId) -> Result<Items, ElfError> {
-        self.made_items(elf, s)
     }
 }

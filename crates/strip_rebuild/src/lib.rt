@@ -1,9 +1,7 @@
-//! The image made anew with the sections that are kept: an object of the kept sections, whose
-//! links, group members, symbols and extended indexes follow the new numbers, over the base of a
-//! program.
+//! What is made of each section that is kept: links, group members, symbols and extended indexes
+//! follow the new numbers, and the names may be made anew. And where the base of a program ends.
 #![tactic(auto)]
 
-mod filling;
 mod homes;
 mod keepers;
 mod keeping;
@@ -15,11 +13,10 @@ pub mod prelude;
 mod rebuilding;
 mod tails;
 
-pub use filling::fill;
 pub use homes::bytes_at_home;
 pub use keepers::Keeper;
 pub use keeping::keep_sections;
 pub use naming::{Names, check_names};
 pub use numbers::kept_numbers;
-pub use rebuilding::{Rebuilt, rebuild};
+pub use rebuilding::Rebuilt;
 pub use tails::tail_of;

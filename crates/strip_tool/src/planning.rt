@@ -1,9 +1,7 @@
 //! The plan of what is kept.
 
-ghost use Rattle.std.specs.Prelude.{◌≡◌, false, IsTrue};
+ghost use Rattle.std.specs.Prelude.{◌≡◌, false};
 ghost use Rattle.command_outcomes.specs.elf_object.Object.{is_dirty};
-ghost use Rattle.command_outcomes.specs.elf_object.Valid.{IsTied};
-ghost use Rattle.strip_contents.specs.strip_laws.Made.{FitsClass};
 ghost use Rattle.strip_tool.specs.Steps.{PlansStripped};
 
 use elf_outside::Source;
@@ -26,8 +24,6 @@ pub fn plan_stripped<S: Source>(
     names: &Args,
 ) -> Result<RangedPlan, ElfError>
     requires clean { is_dirty elf.old.o ≡ false }
-    requires tied { IsTrue elf.old.told → IsTied elf.old.o }
-    requires fits { FitsClass elf.old.o }
     ensures { PlansStripped S.Source debug_only names.now result elf.old elf.new }
 {
     match removed(alloc, elf, debug_only, names) {

@@ -1,9 +1,7 @@
 //! The new file of an open one.
 
-ghost use Rattle.std.specs.Prelude.{◌≡◌, false, IsTrue, codes};
+ghost use Rattle.std.specs.Prelude.{◌≡◌, false, codes};
 ghost use Rattle.command_outcomes.specs.elf_object.Object.{is_dirty};
-ghost use Rattle.command_outcomes.specs.elf_object.Valid.{IsTied};
-ghost use Rattle.strip_contents.specs.strip_laws.Made.{FitsClass};
 ghost use Rattle.tool_output.specs.Made.{written_outcome};
 ghost use Rattle.object_writing.specs.Writes.{WritesFile};
 ghost use Rattle.strip_tool.specs.Copies.{IsOverSource};
@@ -31,8 +29,6 @@ pub(crate) fn write_stripped<S: Source, F: Files, O: Sink, E: Sink>(
 ) -> (S, Result<bool, Stop>)
     requires over { IsOverSource S.Source elf }
     requires clean { is_dirty elf.o ≡ false }
-    requires tied { IsTrue elf.told → IsTied elf.o }
-    requires fits { FitsClass elf.o }
     ensures { WritesFile S.Source F.Files O.Sink E.Sink
         (written_outcome (codes "strip") (object_done command.now.debug_only command.now.names.now
         file.now command.now.out.now elf.o))

@@ -13,9 +13,9 @@ use Rattle.tool_output.specs.Steps.{Writes, LeavesOutputs}
 use Rattle.tool_output.proofs.FileLemmas.{totals_then}
 use Rattle.strip_tool.proofs.object_output.SourceSteps.{leaves_then}
 use Rattle.strip_tool.proofs.object_files.WriteLemmas.{images_unput, first_stopped, both_done, second_stopped, order_none, order_first, order_second, order_done}
-use Rattle.debug_contents.specs.image_ranges.Ranges.{KeptSource}
-use Rattle.debug_contents.proofs.image_ranges.RangeLaws.{kept_same}
-use Rattle.debug_contents.specs.strip_contents.declared.plans.RangedPlan.{RangedPlan}
+use Rattle.debug_half.specs.image_ranges.Ranges.{KeptSource}
+use Rattle.debug_half.proofs.image_ranges.RangeLaws.{kept_same}
+use Rattle.debug_half.specs.strip_contents.declared.plans.RangedPlan.{RangedPlan}
 use Rattle.strip_tool.specs.Copies.{MakesPlan, text_with, plan_text, unrefused}
 use Rattle.strip_tool.proofs.CopyLemmas.{put_left, made_left}
 use Rattle.unstrip_tool.specs.declared.names.HalfNames.{HalfNames}

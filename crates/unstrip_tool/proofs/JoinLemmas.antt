@@ -22,9 +22,9 @@ use Rattle.tool_output.specs.Statuses.{refused_status}
 use Rattle.tool_output.proofs.UnderWayLemmas.{shown_none}
 use Rattle.strip_tool.specs.object_output.Refusals.{Refuses}
 use Rattle.strip_tool.proofs.object_writing.WriteLemmas.{DoesHere, outputs_leave, said_done, refused_does, refused_leaves}
-use Rattle.debug_contents.specs.image_ranges.Ranges.{bytes_of_source}
-use Rattle.debug_contents.specs.strip_contents.declared.plans.RangedPlan.{RangedPlan}
-use Rattle.debug_contents.specs.strip_contents.Plans.{CopiesAs}
+use Rattle.debug_half.specs.image_ranges.Ranges.{bytes_of_source}
+use Rattle.debug_half.specs.strip_contents.declared.plans.RangedPlan.{RangedPlan}
+use Rattle.debug_half.specs.strip_contents.Plans.{CopiesAs}
 use Rattle.strip_tool.specs.Copies.{IsOverSource}
 use Rattle.unstrip_join.specs.declared.faults.UnstripFault.{UnstripFault}
 use Rattle.unstrip_join.specs.declared.faults.UnstripFault.TheVariants as faults

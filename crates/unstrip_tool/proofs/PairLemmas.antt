@@ -9,11 +9,11 @@ use Rattle.source_pair.specs.Pairs.{bytes_of_pair, IsPair}
 use Rattle.source_pair.proofs.LeaveLaws.{pair_leaves}
 use Rattle.unstrip_join.specs.elf_descriptor.State.{State}
 use Rattle.unstrip_join.specs.elf_descriptor.Views.{source_bytes}
-use Rattle.debug_contents.specs.image_ranges.Images.{ranged_text}
-use Rattle.debug_contents.specs.image_ranges.Ranges.{KeptSource, bytes_of_source, kept_of_source}
-use Rattle.debug_contents.proofs.image_ranges.RangeLaws.{bytes_long}
-use Rattle.debug_contents.specs.strip_contents.declared.plans.RangedPlan.{RangedPlan}
-use Rattle.debug_contents.specs.strip_contents.Plans.{CopiesAs, kept_with}
+use Rattle.debug_half.specs.image_ranges.Images.{ranged_text}
+use Rattle.debug_half.specs.image_ranges.Ranges.{KeptSource, bytes_of_source, kept_of_source}
+use Rattle.debug_half.proofs.image_ranges.RangeLaws.{bytes_long}
+use Rattle.debug_half.specs.strip_contents.declared.plans.RangedPlan.{RangedPlan}
+use Rattle.debug_half.specs.strip_contents.Plans.{CopiesAs, kept_with}
 use Rattle.strip_tool.specs.Copies.{IsOverSource, WritesImage, text_with, plan_text}
 use Rattle.tool_output.specs.declared.stops.Stop.{Stop}
 use Rattle.tool_output.specs.declared.outputs.Outputs.{Outputs}

@@ -15,13 +15,13 @@ use Rattle.command_objects.specs.Split.{debug_half, debug_refusal, debug_of}
 use Rattle.unstrip_join.specs.object_making.Refused.{RefusedBy}
 use Rattle.unstrip_join.proofs.strip_rebuild.AskLaws.{asks_as, asks_stop}
 use Rattle.unstrip_join.proofs.strip_rebuild.MakeLaws.{refused_quiet, quiet_rose}
-use Rattle.debug_contents.specs.strip_contents.declared.arranged.Arranged.{Arranged}
-use Rattle.debug_contents.specs.strip_contents.declared.contents.Contents.{Contents}
-use Rattle.debug_contents.specs.strip_contents.declared.plans.RangedPlan.{RangedPlan}
-use Rattle.debug_contents.specs.strip_contents.Plans.{IsRangedBy, PlansCopied, FileAnswers, ArrangedAnswers, ArrangesRebuilt, stream_due}
-use Rattle.debug_contents.proofs.strip_contents.AnswerLaws.{copied_file}
-use Rattle.debug_contents.specs.Keeping.{KeepsHalf}
-use Rattle.debug_contents.specs.Planning.{PlansHalf}
+use Rattle.debug_half.specs.strip_contents.declared.arranged.Arranged.{Arranged}
+use Rattle.debug_half.specs.strip_contents.declared.contents.Contents.{Contents}
+use Rattle.debug_half.specs.strip_contents.declared.plans.RangedPlan.{RangedPlan}
+use Rattle.debug_half.specs.strip_contents.Plans.{IsRangedBy, PlansCopied, FileAnswers, ArrangedAnswers, ArrangesRebuilt, stream_due}
+use Rattle.debug_half.proofs.strip_contents.AnswerLaws.{copied_file}
+use Rattle.debug_half.specs.Keeping.{KeepsHalf}
+use Rattle.debug_half.specs.Planning.{PlansHalf}
 use Rattle.unstrip_tool.specs.declared.plans.SplitPlans.{SplitPlans}
 use Rattle.unstrip_tool.specs.Splitting.{both_bytes, both_files, split_files, SplitAnswers, PlansBoth, PlansSplit}
 

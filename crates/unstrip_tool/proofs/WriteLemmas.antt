@@ -20,11 +20,11 @@ use Rattle.command_objects.specs.Rebuilt.{rebuilt}
 use Rattle.command_objects.specs.Split.{debug_of, removed_allocated}
 use Rattle.strip_tool.specs.command_outcomes.Strip.{strip_split, allocated_text}
 use Rattle.unstrip_join.specs.strip_removed.Calls as calls
-use Rattle.debug_contents.specs.image_ranges.Images.{ranged_text}
-use Rattle.debug_contents.specs.image_ranges.Ranges.{KeptSource, kept_of_source}
-use Rattle.debug_contents.specs.strip_contents.declared.plans.RangedPlan.{RangedPlan}
-use Rattle.debug_contents.specs.strip_contents.Plans.{kept_with}
-use Rattle.debug_contents.proofs.strip_contents.RemovedLaws.{set_is, never_refused}
+use Rattle.debug_half.specs.image_ranges.Images.{ranged_text}
+use Rattle.debug_half.specs.image_ranges.Ranges.{KeptSource, kept_of_source}
+use Rattle.debug_half.specs.strip_contents.declared.plans.RangedPlan.{RangedPlan}
+use Rattle.debug_half.specs.strip_contents.Plans.{kept_with}
+use Rattle.debug_half.proofs.strip_contents.RemovedLaws.{set_is, never_refused}
 use Rattle.strip_tool.specs.Copies.{IsOverSource, text_with}
 use Rattle.strip_tool.proofs.StripLemmas.{over_stays}
 use Rattle.tool_output.specs.declared.stops.Stop.{Stop}

@@ -14,9 +14,9 @@ use Rattle.tool_output.specs.Outcomes.{Does}
 use Rattle.tool_output.specs.Reports.{no_report}
 use Rattle.tool_output.specs.Statuses.{refused_status}
 use Rattle.strip_tool.specs.object_files.Making.{InOrder}
-use Rattle.debug_contents.specs.image_ranges.Ranges.{bytes_of_source}
-use Rattle.debug_contents.specs.strip_contents.declared.plans.RangedPlan.{RangedPlan}
-use Rattle.debug_contents.specs.strip_contents.Plans.{CopiesAs}
+use Rattle.debug_half.specs.image_ranges.Ranges.{bytes_of_source}
+use Rattle.debug_half.specs.strip_contents.declared.plans.RangedPlan.{RangedPlan}
+use Rattle.debug_half.specs.strip_contents.Plans.{CopiesAs}
 use Rattle.strip_tool.specs.Copies.{MakesPlan, plan_text}
 use Rattle.unstrip_tool.specs.declared.names.HalfNames.{HalfNames}
 use Rattle.unstrip_tool.specs.declared.plans.SplitPlans.{SplitPlans}

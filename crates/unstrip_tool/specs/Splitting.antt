@@ -11,8 +11,8 @@ use Rattle.command_objects.specs.Files.{file_of}
 use Rattle.command_objects.specs.Rebuilt.{rebuilt}
 use Rattle.command_objects.specs.Split.{debug_half, debug_of}
 use Rattle.unstrip_join.specs.strip_rebuild.Makes.{AsksFor}
-use Rattle.debug_contents.specs.strip_contents.declared.arranged.Arranged.{Arranged}
-use Rattle.debug_contents.specs.strip_contents.Plans.{CopiesAs, IsRangedBy, stream_due}
+use Rattle.debug_half.specs.strip_contents.declared.arranged.Arranged.{Arranged}
+use Rattle.debug_half.specs.strip_contents.Plans.{CopiesAs, IsRangedBy, stream_due}
 use Rattle.unstrip_tool.specs.declared.plans.SplitPlans.{SplitPlans}
 
 -- the bytes of two files, or the first refusal

@@ -5,7 +5,7 @@ ghost use Rattle.unstrip_tool.specs.Copies.{MakesBoth, WritesHalves, WritesPair}
 
 use crate::names::HalfNames;
 use crate::plans::SplitPlans;
-use debug_contents::prelude::RangedPlan;
+use debug_half::prelude::RangedPlan;
 use elf_outside::{Files, Sink, Source};
 use source_pair::SourcePair;
 use std::alloc::Global;

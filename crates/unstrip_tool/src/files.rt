@@ -5,7 +5,7 @@ ghost use Rattle.elf_outside.specs.Asks.{Leaves};
 ghost use Rattle.elf_outside.specs.Counts.{Rose};
 ghost use Rattle.elf_object.specs.Object.{is_dirty};
 ghost use Rattle.elf_object.specs.Valid.{IsTied};
-ghost use Rattle.debug_contents.specs.strip_laws.Made.{FitsClass};
+ghost use Rattle.debug_half.specs.strip_laws.Made.{FitsClass};
 ghost use Rattle.strip_tool.specs.Copies.{IsOverSource};
 ghost use Rattle.tool_output.specs.Files.{LeavesFiles};
 ghost use Rattle.tool_output.specs.Outcomes.{Does};

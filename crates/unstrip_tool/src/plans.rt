@@ -1,6 +1,6 @@
 //! The plans of the two halves of an image.
 
-use debug_contents::prelude::RangedPlan;
+use debug_half::prelude::RangedPlan;
 
 /// Where the bytes of the two halves of an image are, and where their parts stand.
 #[derive(Drop)]

@@ -1,10 +1,8 @@
 //! The two files of the halves of an image.
 
-ghost use Rattle.std.specs.Prelude.{◌≡◌, false, IsTrue, codes};
+ghost use Rattle.std.specs.Prelude.{◌≡◌, false, codes};
 ghost use Rattle.elf_object.specs.Object.{is_dirty};
-ghost use Rattle.elf_object.specs.Valid.{IsTied};
 ghost use Rattle.strip_tool.specs.command_outcomes.Strip.{strip_split};
-ghost use Rattle.debug_contents.specs.strip_laws.Made.{FitsClass};
 ghost use Rattle.tool_output.specs.Made.{written_outcome};
 ghost use Rattle.strip_tool.specs.object_writing.Writes.{WritesFile};
 ghost use Rattle.unstrip_join.specs.strip_removed.Steps.{IsRemovable};
@@ -36,8 +34,6 @@ fn write_split<S: Source, F: Files, O: Sink, E: Sink>(
 ) -> (S, Result<bool, Stop>)
     requires over { IsOverSource S.Source elf }
     requires clean { is_dirty elf.o ≡ false }
-    requires tied { IsTrue elf.told → IsTied elf.o }
-    requires fits { FitsClass elf.o }
     requires removable { IsRemovable elf.o removed.now }
     ensures { WritesFile S.Source F.Files O.Sink E.Sink
         (written_outcome (codes "strip")
@@ -68,8 +64,6 @@ fn write_unless_lost<S: Source, F: Files, O: Sink, E: Sink>(
 ) -> (S, Result<bool, Stop>)
     requires over { IsOverSource S.Source elf }
     requires clean { is_dirty elf.o ≡ false }
-    requires tied { IsTrue elf.told → IsTied elf.o }
-    requires fits { FitsClass elf.o }
     requires removable { IsRemovable elf.o removed.now }
     ensures { WritesFile S.Source F.Files O.Sink E.Sink
         (written_outcome (codes "strip") (strip_split elf.o removed.now
@@ -99,8 +93,6 @@ pub(crate) fn write_halves<S: Source, F: Files, O: Sink, E: Sink>(
 ) -> (S, Result<bool, Stop>)
     requires over { IsOverSource S.Source elf }
     requires clean { is_dirty elf.o ≡ false }
-    requires tied { IsTrue elf.told → IsTied elf.o }
-    requires fits { FitsClass elf.o }
     ensures { WritesFile S.Source F.Files O.Sink E.Sink
         (written_outcome (codes "strip") (object_split command.now.debug_only
         command.now.names.now command.now.halves.now file.now elf.o))

@@ -1,44 +1,65 @@
-use Rattle.std.proofs.Common.{inl, ap, ◌∙◌}
-use Rattle.command_objects.specs.Followed.{kept_from_1}
-use Rattle.command_objects.specs.Split.{debug_of, debug_refusal}
-use Rattle.strip_rebuild.proofs.object_making.BaseLaws.{made_over_none}
-use Rattle.strip_rebuild.proofs.object_making.RefusedLaws.{unread_memory}
-use Rattle.strip_rebuild.proofs.AskLaws.{asks_memory}
-use Rattle.strip_rebuild.proofs.RebuildLaws.{faults_answer}
+use Rattle.std.proofs.Common.{Err, Result}
+use Rattle.elf_outside.specs.declared.no_source.NoSource.{NoSource}
+use Rattle.elf_types.specs.declared.errors.ElfError.{ElfError}
+use Rattle.command_objects.specs.Split.{debug_refusal}
+use Rattle.rebuild_object.specs.strip_contents.elf_descriptor.State.{State}
+use Rattle.rebuild_object.proofs.strip_contents.strip_rebuild.AskLaws.{asks_nothing, asks_memory}
+use Rattle.rebuild_object.proofs.strip_contents.strip_rebuild.MakeLaws.{refused_quiet, refused_unread, quiet_rose}
 use Rattle.debug_half.specs.Half.{half_due}
+use Rattle.debug_half.proofs.HalfLaws.{answer_refused}
+use Rattle.debug_half.proofs.PlanLaws.{half_answers, half_early, half_passed, half_asks, memory_answer, memory_early}
 use Rattle.debug_half.proofs.halving.debug_of.Goals as goal
-
-pub finish-requires-clause-numbers : goal.finish-requires-clause-numbers
-finish-requires-clause-numbers g c =
-    c.as_slice.ensures ∙ c.in-Ok.ensures.ok
-    ∙ ap (kept_from_1 c.args.elf.now.o) c.none.ensures
-
-pub finish-requires-clause-created : goal.finish-requires-clause-created
-finish-requires-clause-created g c =
-    made_over_none c.args.elf.now.o c.ehdr-header.result c.ehdr-header.ensures
-    c.args.elf.now.told c.create-made.result c.create-made.ensures
 
 pub returns-in-Err-clause-answer : goal.returns-in-Err-clause-answer
 returns-in-Err-clause-answer g c = λ t.
-    faults_answer c.in-Err.e (debug_of c.args.elf.now.o) (inl c.in-Err.ensures.err)
+    answer_refused c.args.elf.now.o c.in-Err.e
+    (refused_unread (debug_refusal c.args.elf.now.o) c.in-Err.e c.in-Err.ensures.err)
 
 pub returns-in-Err-clause-early : goal.returns-in-Err-clause-early
 returns-in-Err-clause-early g c =
-    unread_memory (debug_refusal c.args.elf.now.o) c.in-Err.e c.in-Err.ensures.err
+    refused_unread (debug_refusal c.args.elf.now.o) c.in-Err.e c.in-Err.ensures.err
 
 pub returns-in-Err-clause-asks : goal.returns-in-Err-clause-asks
 returns-in-Err-clause-asks g c =
-    asks_memory g.S.Source c.args.elf.now (half_due c.args.elf.now.o) c.in-Err.e
-    c.in-Err.ensures.err
+    let failed : Result (State NoSource) ElfError = Err c.in-Err.e in
+    asks_nothing g.S.Source failed c.args.elf.now (half_due c.args.elf.now.o)
+    (quiet_rose (State NoSource) c.in-Err.e (g.S.Source.faults c.args.elf.now.source)
+    (g.S.Source.faults c.args.elf.now.source)
+    (refused_quiet (debug_refusal c.args.elf.now.o) c.in-Err.e c.in-Err.ensures.err))
 
-pub returns-clause-answer : goal.returns-clause-answer
-returns-clause-answer g c = c.finish.ensures.halves.answer
+pub returns-in-Ok-arrange_half-clause-answer : goal.returns-in-Ok-arrange_half-clause-answer
+returns-in-Ok-arrange_half-clause-answer g c =
+    half_answers g.S.Source c.args.elf.now c.object_of.new.elf c.dirty-sound.ensures.sound.object
+    c.in-Ok.ensures.passed c.in-Ok-arrange_half.x c.in-Ok-arrange_half.ensures
+    c.object_of.result c.object_of.ensures.object c.object_of.ensures.err
 
-pub returns-clause-passed : goal.returns-clause-passed
-returns-clause-passed g c = c.finish.ensures.halves.passed
+pub returns-in-Ok-arrange_half-clause-passed : goal.returns-in-Ok-arrange_half-clause-passed
+returns-in-Ok-arrange_half-clause-passed g c =
+    half_passed g.S.Source c.args.elf.now c.object_of.new.elf c.dirty-sound.ensures.sound.object
+    c.in-Ok.ensures.passed c.in-Ok-arrange_half.x c.in-Ok-arrange_half.ensures
+    c.object_of.result
 
-pub returns-clause-early : goal.returns-clause-early
-returns-clause-early g c = c.finish.ensures.halves.early
+pub returns-in-Ok-arrange_half-clause-early : goal.returns-in-Ok-arrange_half-clause-early
+returns-in-Ok-arrange_half-clause-early g c =
+    half_early g.S.Source c.args.elf.now c.object_of.new.elf c.dirty-sound.ensures.sound.object
+    c.in-Ok.ensures.passed c.in-Ok-arrange_half.x c.in-Ok-arrange_half.ensures
+    c.object_of.result c.object_of.ensures.err
 
-pub returns-clause-asks : goal.returns-clause-asks
-returns-clause-asks g c = c.finish.ensures.halves.asks
+pub returns-in-Ok-arrange_half-clause-asks : goal.returns-in-Ok-arrange_half-clause-asks
+returns-in-Ok-arrange_half-clause-asks g c =
+    half_asks g.S.Source c.args.elf.now c.object_of.new.elf c.dirty-sound.ensures.sound.object
+    c.in-Ok.ensures.passed c.in-Ok-arrange_half.x c.in-Ok-arrange_half.ensures
+    c.object_of.result c.object_of.ensures.asks
+
+pub returns-in-Err-arrange_half-clause-answer : goal.returns-in-Err-arrange_half-clause-answer
+returns-in-Err-arrange_half-clause-answer g c = λ t.
+    memory_answer c.args.elf.now.o c.in-Err-arrange_half.e c.in-Err-arrange_half.ensures.err
+
+pub returns-in-Err-arrange_half-clause-early : goal.returns-in-Err-arrange_half-clause-early
+returns-in-Err-arrange_half-clause-early g c =
+    memory_early c.args.elf.now.o c.in-Err-arrange_half.e c.in-Err-arrange_half.ensures.err
+
+pub returns-in-Err-arrange_half-clause-asks : goal.returns-in-Err-arrange_half-clause-asks
+returns-in-Err-arrange_half-clause-asks g c =
+    asks_memory g.S.Source {U = State NoSource} c.args.elf.now (half_due c.args.elf.now.o)
+    c.in-Err-arrange_half.e c.in-Err-arrange_half.ensures.err

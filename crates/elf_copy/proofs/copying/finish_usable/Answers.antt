@@ -1,5 +1,5 @@
 use Rattle.std.proofs.Common.{◌∙◌, inl}
-use Rattle.strip_rebuild.specs.declared.rebuilding.Rebuilt.{Rebuilt}
+use Rattle.rebuild_object.specs.strip_contents.strip_rebuild.declared.rebuilding.Rebuilt.{Rebuilt}
 use Rattle.copy_edits.proofs.FaultLaws.{unread_on}
 use Rattle.elf_copy.proofs.copying.finish_usable.Goals as goal
 

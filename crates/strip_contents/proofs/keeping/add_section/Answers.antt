@@ -5,8 +5,9 @@ use Rattle.strip_contents.proofs.keeping.add_section.Goals as goal
 pub returns-in-Ok : goal.returns-in-Ok
 returns-in-Ok g c =
     section_added g.S.Source c.args.keeper.now c.args.s.0 c.args.elf.now c.find_range.new.elf
-    c.args.contents.now _ _ c.header-header.result c.kept_size.result c.in-Ok.range c.push.result
-    c.header-header.ensures.value c.kept_size.ensures c.in-Ok.ensures refl refl refl
+    c.args.contents.now _ _ c.header-header.result c.kept_size.result c.in-Ok.range
+    c.kind-kind.result c.push.result c.header-header.ensures c.kind-kind.ensures
+    c.kept_size.ensures c.in-Ok.ensures refl refl refl refl
     c.push.ensures.pushed c.push.ensures.err
 
 pub returns-in-Err : goal.returns-in-Err

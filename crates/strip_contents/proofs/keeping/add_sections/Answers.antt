@@ -4,7 +4,7 @@ use Rattle.strip_contents.proofs.keeping.add_sections.Goals as goal
 pub loop-s-init : goal.loop-s-init
 loop-s-init g c =
     keeping_none g.S.Source c.args.keeper.now c.args.numbers.now c.args.elf.now
-    c.args.contents.now c.requires.first
+    c.args.contents.now c.requires.first c.requires.read
 
 pub add_section-requires-clause-there : goal.add_section-requires-clause-there
 add_section-requires-clause-there g c =

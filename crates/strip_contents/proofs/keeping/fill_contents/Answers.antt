@@ -1,5 +1,5 @@
-use Rattle.strip_tables.specs.strip_rebuild.Keepers.{header_by}
-use Rattle.strip_contents.specs.Ranges.{bytes_by}
+use Rattle.strip_tables.specs.strip_rebuild.Keepers.{header_by, kind_by}
+use Rattle.strip_contents.specs.Ranges.{bytes_by, base_due_by}
 use Rattle.strip_contents.proofs.KeepingLaws.{not_begun}
 use Rattle.strip_contents.proofs.keeping.fill_contents.Goals as goal
 
@@ -12,3 +12,8 @@ pub add_sections-requires-clause-first : goal.add_sections-requires-clause-first
 add_sections-requires-clause-first g c =
     c.in_default.ensures.first c.args.elf.now.told c.args.elf.now.o.base
     (header_by c.args.keeper.now c.args.elf.now.o) (bytes_by c.args.keeper.now c.args.elf.now.o)
+
+pub add_sections-requires-clause-read : goal.add_sections-requires-clause-read
+add_sections-requires-clause-read g c =
+    c.in_default.ensures.read (kind_by c.args.keeper.now c.args.elf.now.o)
+    (base_due_by c.args.keeper.now c.args.elf.now.o)

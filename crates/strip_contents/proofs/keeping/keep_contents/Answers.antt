@@ -10,6 +10,7 @@ returns-then-shnum-eq0 g c =
     none_kept g.S.Source c.args.keeper.now c.args.numbers.now c.args.elf.now c.args.elf.now
     c.requires.numbers _ (sym (ok_is _ _ c.shnum.ensures) ∙ c.if-shnum-eq0.true)
     c.new-contents.ensures.headers c.new-contents.ensures.sizes
+    c.new-contents.ensures.ranges c.new-contents.ensures.kinds
 
 pub fill_contents-requires-clause-there : goal.fill_contents-requires-clause-there
 fill_contents-requires-clause-there g c =

@@ -3,7 +3,7 @@ use Rattle.strip_laws.specs.elf_object.Calls.{newphdr_refusal}
 use Rattle.strip_tables.proofs.update_plan.PlacingLaws.{passed_from}
 use Rattle.strip_tables.proofs.update_plan.RowLaws.{ok_is}
 use Rattle.strip_tables.proofs.strip_rebuild.WholeLaws.{object_stays, clean_stays, removable_stays, keeps_stays}
-use Rattle.strip_contents.proofs.WholeLaws.{fits_stays, segments_stay, sections_stay, contents_stay, too_many, sections_fail, sections_arranged}
+use Rattle.strip_contents.proofs.WholeLaws.{fits_told, segments_stay, sections_stay, contents_stay, read_stays, too_many, sections_fail, sections_arranged}
 use Rattle.strip_contents.proofs.rebuilding.arrange_by.Goals as goal
 
 pub returns-in-Err : goal.returns-in-Err
@@ -24,7 +24,7 @@ arrange_kept-requires-clause-clean g c =
 
 pub arrange_kept-requires-clause-fits : goal.arrange_kept-requires-clause-fits
 arrange_kept-requires-clause-fits g c =
-    fits_stays c.args.elf.now c.keep_contents.new.elf c.in-Ok.ensures.asks.object
+    fits_told c.args.elf.now c.keep_contents.new.elf c.in-Ok.ensures.asks.object
     c.in-Ok.ensures.asks.told c.requires.fits
 
 pub arrange_kept-requires-clause-removable : goal.arrange_kept-requires-clause-removable
@@ -41,6 +41,11 @@ pub arrange_kept-requires-clause-contents : goal.arrange_kept-requires-clause-co
 arrange_kept-requires-clause-contents g c =
     contents_stay c.args.elf.now c.keep_contents.new.elf c.in-Ok.ensures.asks.object
     c.in-Ok.ensures.asks.told c.args.keeper.now c.in-Ok.contents c.in-Ok.ensures.ok
+
+pub arrange_kept-requires-clause-read : goal.arrange_kept-requires-clause-read
+arrange_kept-requires-clause-read g c =
+    read_stays c.args.elf.now c.keep_contents.new.elf c.in-Ok.ensures.asks.object
+    c.in-Ok.ensures.asks.told c.args.keeper.now c.in-Ok.contents c.in-Ok.ensures.read
 
 pub arrange_kept-requires-clause-segments : goal.arrange_kept-requires-clause-segments
 arrange_kept-requires-clause-segments g c =

@@ -17,7 +17,8 @@ returns-in-Ok g c =
     c.requires.sections c.args.contents c.requires.contents c.followed-index.result _
     (c.followed-index.ensures
     ∙ ap (followed c.args.keeper.now.numbering) (ok_is _ _ c.shstrndx.ensures))
-    c.len-count.ensures c.arrange_contents.result c.tail_of-tail.result c.in-Ok.ensures
+    c.len-count.ensures c.arrange_contents.result c.tail_of-tail.result c.requires.read
+    c.in-Ok.ensures
     c.tail_of-tail.ensures c.arrange_contents.ensures
 
 pub returns-in-Err : goal.returns-in-Err

@@ -3,7 +3,8 @@ use Rattle.strip_laws.specs.command_objects.Followed.{kept_from_1}
 use Rattle.strip_tables.specs.strip_removed.Steps.{IsRemovable}
 use Rattle.strip_tables.proofs.strip_rebuild.NumberLaws.{zero_stays}
 use Rattle.strip_tables.proofs.strip_rebuild.WholeLaws.{object_stays, clean_stays, removable_stays, keeps_stays}
-use Rattle.strip_contents.proofs.WholeLaws.{tied_stays, fits_stays, keeper_stops, numbers_stop, all_arranged}
+use Rattle.strip_contents.proofs.TiedLaws.{sound_tied, sound_fits}
+use Rattle.strip_contents.proofs.WholeLaws.{tied_stays, fits_told, keeper_stops, numbers_stop, all_arranged}
 use Rattle.strip_contents.proofs.rebuilding.arrange_rebuilt.Goals as goal
 
 pub keep_sections-requires : goal.keep_sections-requires
@@ -23,12 +24,16 @@ arrange_by-requires-clause-clean g c =
 pub arrange_by-requires-clause-tied : goal.arrange_by-requires-clause-tied
 arrange_by-requires-clause-tied g c =
     tied_stays c.args.elf.now c.keep_sections.new.elf
-    c.in-Ok.ensures.asks.object c.in-Ok.ensures.asks.told c.requires.tied
+    c.in-Ok.ensures.asks.object c.in-Ok.ensures.asks.told
+    (sound_tied c.args.elf.now.o (g.S.Source.holds c.args.elf.now.source) c.args.elf.now.told
+    c.dirty-sound.ensures.told c.dirty-sound.ensures.sound)
 
 pub arrange_by-requires-clause-fits : goal.arrange_by-requires-clause-fits
 arrange_by-requires-clause-fits g c =
-    fits_stays c.args.elf.now c.keep_sections.new.elf
-    c.in-Ok.ensures.asks.object c.in-Ok.ensures.asks.told c.requires.fits
+    fits_told c.args.elf.now c.keep_sections.new.elf
+    c.in-Ok.ensures.asks.object c.in-Ok.ensures.asks.told
+    (sound_fits c.args.elf.now.o (g.S.Source.holds c.args.elf.now.source) c.args.elf.now.told
+    c.dirty-sound.ensures.told c.dirty-sound.ensures.sound c.requires.clean)
 
 pub arrange_by-requires-clause-removable : goal.arrange_by-requires-clause-removable
 arrange_by-requires-clause-removable g c =
