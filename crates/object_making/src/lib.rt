@@ -3,7 +3,6 @@
 //! for what stands behind the base.
 #![tactic(auto)]
 
-mod assembling;
 mod bases;
 mod headers;
 mod places;
@@ -11,7 +10,6 @@ pub mod prelude;
 mod sections;
 mod segments;
 
-pub use assembling::{SectionMaker, assemble};
 pub use bases::create_over_base;
 pub use headers::finish_header;
 pub use places::arrange;

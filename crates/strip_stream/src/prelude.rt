@@ -2,5 +2,4 @@
 
 pub use image_ranges::{ByteRange, PartRanges, RangedImage, RangedParts};
 pub use listed_layout::Listed as listed_layout_Listed;
-pub use object_making::SectionMaker;
 pub use shared_bytes::SharedBytes;
