@@ -111,6 +111,19 @@ let_go (Elf *elf)
     }
 }
 
+void
+keep_pages (Elf *elf, uint64_t from, uint64_t to)
+{
+  if (elf->memory != MAPPED && elf->memory != WRITTEN)
+    return;
+  size_t page = sysconf (_SC_PAGESIZE);
+  for (uint64_t at = from - from % page; from < to && at < to && at < elf->size; at += page)
+    {
+      volatile uint8_t *first = elf->shown + at;
+      *first = *first;          /* a page that was written is the mapping's own */
+    }
+}
+
 bool
 make_private (Elf *elf)
 {

@@ -265,6 +265,10 @@ void let_go (Elf *elf);
 /* Maps the file as programs see it, privately; NULL where it cannot be mapped. */
 uint8_t *map_shown (int fd, size_t size);
 
+/* Has what programs see of a range of a file in memory, so that a write of it, or a cut, does not
+   change it. */
+void keep_pages (Elf *elf, uint64_t from, uint64_t to);
+
 /* Has what programs see of a file in memory, at the same place, so that a write of the file does
    not change it, nor take it away where the file gets shorter; false and an error where there is no
    memory. */

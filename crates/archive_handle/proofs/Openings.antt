@@ -7,6 +7,7 @@ use Rattle.elf_outside.specs.Asks.{ReadRose}
 use Rattle.ar_members.specs.Archives.{Walk, Archive, begun_walk}
 use Rattle.lent_bytes.specs.declared.loan.Lent.{Lent}
 use Rattle.lent_bytes.specs.declared.image.Image.{Image}
+use Rattle.lent_bytes.specs.Images.{bytes_now}
 use Rattle.object_handle.specs.Objects.{IsLoanOf, IsLentAs, IsBack}
 use Rattle.object_handle.proofs.ImageLaws.{begun_refused}
 use Rattle.object_handle.proofs.Openings.{comes_back}
@@ -15,8 +16,8 @@ use Rattle.archive_handle.specs.Opening.{OpensArchive}
 
 -- a refusal at the beginning
 pub refused_opens : (T : Type 0) (bytes : List ℕ) (image : Image) (e : ElfError)
-    → image.loan.bytes ≡ bytes → ReadRose {T = T} (Err e) 0 0
-    → IfSome (stated_refusal e) (λ d. begun_walk image.loan.bytes ≡ Err d)
+    → bytes_now image ≡ bytes → ReadRose {T = T} (Err e) 0 0
+    → IfSome (stated_refusal e) (λ d. begun_walk (bytes_now image) ≡ Err d)
     → (e ≡ Memory) ⊎ (begun_walk bytes ≡ Err e)
 refused_opens T bytes image e same rose follows =
     begun_refused T (begun_walk bytes) e rose
@@ -34,15 +35,15 @@ module _ {A : Type 0} (ar : Archive Image) where
   boxed_opens (Err refused) stated opens same back = inl back.1
 
   pub boxed_lent : (r : Result (Box OpenArchive A) (Lent × ElfError)) (lent : Lent)
-      → IsLentAs lent ar.source.loan → IfOk r (λ archive. archive.value.ar ≡ ar)
-      → IfOk r (λ archive. IsLentAs lent archive.value.ar.source.loan)
+      → IsLentAs lent ar.source → IfOk r (λ archive. archive.value.ar ≡ ar)
+      → IfOk r (λ archive. IsLentAs lent archive.value.ar.source)
   boxed_lent (Ok archive) lent is same =
-      subst (λ (a : Archive Image). IsLentAs lent a.source.loan) (sym same) is
+      subst (λ (a : Archive Image). IsLentAs lent a.source) (sym same) is
   boxed_lent (Err refused) lent is same = tt
 
   pub boxed_back : (r : Result (Box OpenArchive A) (Lent × ElfError)) (lent : Lent)
-      → IsLentAs lent ar.source.loan
+      → IsLentAs lent ar.source
       → IfErr r (λ back. IsLoanOf ar.source.loan back.0 × (back.1 ≡ Memory))
       → IfErr r (λ back. IsBack lent back.0)
   boxed_back (Ok archive) lent is back = tt
-  boxed_back (Err refused) lent is back = comes_back lent ar.source.loan refused.0 is back.0
+  boxed_back (Err refused) lent is back = comes_back lent ar.source refused.0 is back.0

@@ -43,10 +43,10 @@ fn box_archive(alloc: Global, ar: Ar<Image>) -> Result<Box<OpenArchive>, (Lent, 
 pub fn open_archive(alloc: Global, image: Lent) -> Result<Box<OpenArchive>, (Lent, ElfError)>
     requires { image.lent ≡ true }
     ensures opens { OpensArchive (begun_walk image.bytes) result }
-    ensures lent { IfOk result (λ archive. IsLentAs image archive.value.ar.source.loan) }
+    ensures lent { IfOk result (λ archive. IsLentAs image archive.value.ar.source) }
     ensures back { IfErr result (λ back. IsBack image back.0) }
 {
-    match Ar::begin(alloc, Image::new(Loan::of(image))) {
+    match Ar::begin(alloc, Image::new(alloc, Loan::of(image))) {
         Ok(ar) => box_archive(alloc, ar),
         Err((image, e)) => Err((image.into_loan().back(), e)),
     }

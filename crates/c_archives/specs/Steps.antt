@@ -5,6 +5,7 @@ use Rattle.elf_types.specs.declared.errors.ElfError.TheVariants.{Memory}
 use Rattle.ar_members.specs.declared.headers.ArHdr.{ArHdr}
 use Rattle.ar_members.specs.Members.{Members, next_of}
 use Rattle.ar_members.specs.Archives.{members_left}
+use Rattle.lent_bytes.specs.Images.{bytes_now}
 use Rattle.archive_handle.specs.declared.opened.OpenArchive.{OpenArchive}
 use Rattle.gelf_records.specs.Codes.{code}
 use Rattle.gelf_records.specs.Gives.{Gives}
@@ -18,7 +19,7 @@ GivesOrWants form stated number old new =
 
 -- the bytes that an archive is over
 abbrev pub bytes_of : OpenArchive → List ℕ
-bytes_of archive = archive.ar.source.loan.bytes
+bytes_of archive = bytes_now archive.ar.source
 
 -- what C sees of a walk: the record in its memory, the name that the archive keeps, and the members
 -- that are left

@@ -3,7 +3,7 @@
 ghost use Rattle.std.specs.Prelude.{◌≡◌, length, slice_get, IfSome};
 ghost use Rattle.std.specs.Option.{option_copied};
 ghost use Rattle.ar_members.specs.Symbols.{arsyms};
-ghost use Rattle.object_handle.specs.Objects.{SameLoan};
+ghost use Rattle.object_handle.specs.Objects.{SameImage};
 ghost use Rattle.gelf_records.specs.Gives.{Gives};
 ghost use Rattle.c_archives.specs.Forms.{symbol_record, symbol_at, listed};
 ghost use Rattle.c_archives.specs.Steps.{bytes_of, GivesOrWants};
@@ -22,7 +22,7 @@ use gelf_records::code_of;
 pub fn list_symbols(archive: &mut OpenArchive, count: &mut u64) -> u32
     ensures gives { GivesOrWants listed (arsyms (bytes_of archive.old)) result
         (count.old, archive.old.symbols) (count.new, archive.new.symbols) }
-    ensures loan { SameLoan archive.old.ar.source.loan archive.new.ar.source.loan }
+    ensures image { SameImage archive.old.ar.source archive.new.ar.source }
     ensures walk { archive.new.ar.walk ≡ archive.old.ar.walk }
     ensures name { archive.new.name ≡ archive.old.name }
 {

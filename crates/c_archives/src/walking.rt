@@ -1,7 +1,7 @@
 //! The walk over the members.
 
 ghost use Rattle.std.specs.Prelude.{◌≡◌, ◌⊎◌, length};
-ghost use Rattle.object_handle.specs.Objects.{SameLoan};
+ghost use Rattle.object_handle.specs.Objects.{SameImage};
 ghost use Rattle.c_archives.specs.Forms.{member_name};
 ghost use Rattle.c_archives.specs.Steps.{bytes_of, Steps, LiesIn};
 
@@ -30,7 +30,7 @@ fn into_name(alloc: Global, member: Option<ArHdr>) -> Octets
 pub fn next_member(alloc: Global, archive: &mut OpenArchive, out: &mut MemberRecord) -> u32
     ensures steps { Steps archive.old archive.new result out.old out.new }
     ensures lies { (out.new ≡ out.old) ⊎ LiesIn (length (bytes_of archive.old)) out.new }
-    ensures loan { SameLoan archive.old.ar.source.loan archive.new.ar.source.loan }
+    ensures image { SameImage archive.old.ar.source archive.new.ar.source }
     ensures symbols { archive.new.symbols ≡ archive.old.symbols }
 {
     match archive.ar.next() {

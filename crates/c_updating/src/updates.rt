@@ -2,7 +2,7 @@
 
 ghost use Rattle.std.specs.Prelude.{◌≡◌, length};
 ghost use Rattle.elf_object.specs.Image.{image_length};
-ghost use Rattle.object_handle.specs.Objects.{SameLoan};
+ghost use Rattle.object_handle.specs.Objects.{SameImage};
 ghost use Rattle.c_updating.specs.Updated.{filled, IsEmptyRoom, PutsInto, PutsImage};
 
 use crate::room::Room;
@@ -27,7 +27,7 @@ fn filled(updated: Result<u64, ElfError>) -> Result<(), ElfError>
 fn put_into(object: &mut OpenObject, room: &mut Room) -> Result<(), ElfError>
     requires { IsEmptyRoom (image_length object.old.elf.o) room.old }
     ensures puts { PutsInto result object.old.elf object.new.elf room.new }
-    ensures loan { SameLoan object.old.elf.source.loan object.new.elf.source.loan }
+    ensures image { SameImage object.old.elf.source object.new.elf.source }
 {
     filled(update_to(&mut object.elf, room))
 }
@@ -37,7 +37,7 @@ fn give_image(object: &mut OpenObject, room: &mut Room, out: &mut [u8]) -> u32
     requires empty { IsEmptyRoom (image_length object.old.elf.o) room.old }
     requires room { length out.old ≡ image_length object.old.elf.o }
     ensures puts { PutsImage result object.old.elf object.new.elf out.old out.new }
-    ensures loan { SameLoan object.old.elf.source.loan object.new.elf.source.loan }
+    ensures image { SameImage object.old.elf.source object.new.elf.source }
 {
     match put_into(object, room) {
         Ok(()) => {
@@ -57,7 +57,7 @@ fn give_image(object: &mut OpenObject, room: &mut Room, out: &mut [u8]) -> u32
 pub fn put_image(alloc: Global, object: &mut OpenObject, out: &mut [u8]) -> u32
     requires { length out.old ≡ image_length object.old.elf.o }
     ensures puts { PutsImage result object.old.elf object.new.elf out.old out.new }
-    ensures loan { SameLoan object.old.elf.source.loan object.new.elf.source.loan }
+    ensures image { SameImage object.old.elf.source object.new.elf.source }
 {
     match Room::new(alloc, out.len() as u64) {
         Ok(mut room) => give_image(object, &mut room, out),

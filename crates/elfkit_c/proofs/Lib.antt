@@ -3,3 +3,4 @@ pub mod EditLaws
 pub mod HandleLaws
 pub mod Refusals
 pub mod TranslationLaws
+pub mod WriteLaws

@@ -3,7 +3,7 @@ use Rattle.std.specs.Prelude.{◌≡◌, ◌⊎◌, ℕ, true, false, Result, Ok
 use Rattle.elf_types.specs.declared.errors.ElfError.{ElfError}
 use Rattle.ar_members.specs.Archives.{Walk}
 use Rattle.lent_bytes.specs.declared.loan.Lent.{Lent}
-use Rattle.object_handle.specs.Objects.{IsLentAs, SameLoan}
+use Rattle.object_handle.specs.Objects.{IsLentAs, SameImage}
 use Rattle.archive_handle.specs.declared.handle.ArchiveHandle.{ArchiveHandle}
 use Rattle.elfkit_c.specs.Handles.{IsRefused}
 
@@ -12,7 +12,7 @@ use Rattle.elfkit_c.specs.Handles.{IsRefused}
 abbrev pub BeginsArchive : Lent → Result Walk ElfError → ℕ → ArchiveHandle → Type 0
 BeginsArchive lent stated number h =
     ((number ≡ 0) × (h.full ≡ true) × (stated ≡ Ok h.held.ar.walk)
-    × IsLentAs lent h.held.ar.source.loan)
+    × IsLentAs lent h.held.ar.source)
     ⊎ ((h.full ≡ false) × IsRefused stated number)
 
 -- the archive as it was
@@ -23,12 +23,12 @@ KeepsArchive old new = (new.full ≡ true) × (new.held ≡ old.held)
 abbrev pub WalksOn : ArchiveHandle → ArchiveHandle → Type 0
 WalksOn old new =
     (new.full ≡ true)
-    × SameLoan old.held.ar.source.loan new.held.ar.source.loan
+    × SameImage old.held.ar.source new.held.ar.source
     × (new.held.symbols ≡ old.held.symbols)
 
 -- the archive with its walk, of which the symbols may have been read
 abbrev pub Lists : ArchiveHandle → ArchiveHandle → Type 0
 Lists old new =
     (new.full ≡ true)
-    × SameLoan old.held.ar.source.loan new.held.ar.source.loan
+    × SameImage old.held.ar.source new.held.ar.source
     × (new.held.ar.walk ≡ old.held.ar.walk) × (new.held.name ≡ old.held.name)

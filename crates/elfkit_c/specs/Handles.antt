@@ -26,7 +26,7 @@ IsRefused (Err e) number = (number ≡ code Memory) ⊎ (number ≡ code e)
 abbrev pub Begins : Lent → Result Object ElfError → ℕ → Handle → Type 0
 Begins lent stated number h =
     ((number ≡ 0) × (h.full ≡ true) × (stated ≡ Ok h.held.elf.o)
-    × IsLentAs lent h.held.elf.source.loan)
+    × IsLentAs lent h.held.elf.source)
     ⊎ ((h.full ≡ false) × IsRefused stated number)
 
 -- the bytes are lent on where the handle holds the object, and else they are C's again

@@ -2,7 +2,7 @@
 
 ghost use Rattle.std.specs.Prelude.{◌≡◌, true, length};
 ghost use Rattle.elf_object.specs.Image.{image_length};
-ghost use Rattle.object_handle.specs.Objects.{SameLoan};
+ghost use Rattle.object_handle.specs.Objects.{SameImage};
 ghost use Rattle.c_updating.specs.Updated.{LaysOut, PutsImage};
 
 use c_updating::{lay_out, put_image};
@@ -43,7 +43,7 @@ pub extern "C" fn elfkit_update(alloc: Global, h: &mut Handle, out: &mut [u8]) -
     requires full { h.old.full ≡ true }
     requires room { length out.old ≡ image_length h.old.held.elf.o }
     ensures puts { PutsImage result h.old.held.elf h.new.held.elf out.old out.new }
-    ensures loan { SameLoan h.old.held.elf.source.loan h.new.held.elf.source.loan }
+    ensures image { SameImage h.old.held.elf.source h.new.held.elf.source }
     ensures full { h.new.full ≡ true }
 {
     let mut object = h.take(alloc);

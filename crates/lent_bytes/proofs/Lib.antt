@@ -1,2 +1,4 @@
 pub mod LentFields
 pub mod Lending
+pub mod WriteLaws
+pub mod KeepLaws

@@ -12,8 +12,9 @@ use Rattle.elf_descriptor.specs.Begun.{IsBegun, begun_state}
 use Rattle.elf_descriptor.specs.Reads.{Queries}
 use Rattle.lent_bytes.specs.Loans.{place_of}
 use Rattle.lent_bytes.specs.declared.image.Image.{Image}
+use Rattle.lent_bytes.specs.Images.{bytes_now, bytes_given}
 use Rattle.lent_bytes.specs.contracts.image.ImageSource.TheImpl.{ghosts}
-use Rattle.object_handle.specs.Objects.{SameLoan, SameObject}
+use Rattle.object_handle.specs.Objects.{SameLoan, SameImage, SameObject}
 
 -- numbers tell a place
 place_told : (p q : Ptr) → place_of p ≡ place_of q → p ≡ q
@@ -23,31 +24,26 @@ place_told null_ptr null_ptr same = refl
 place_told (block_ptr b o) null_ptr same = cc
 place_told null_ptr (block_ptr c u) same = cc
 
--- a call that leaves an image leaves which part of the right is had, where it lies, and its bytes
-pub same_part : (old new : Image) → Leaves ghosts old new → new.loan.part ≡ old.loan.part
-same_part old new leaves =
-    let rest : (new.loan.part ∷ place_of new.loan.at) ∷ []
-    ≡ (old.loan.part ∷ place_of old.loan.at) ∷ [] = leaves.same_rest in cc
+-- a call that leaves what an image keeps besides the writes leaves its loan
+abbrev pub besides : Image → List (List ℕ)
+besides image = (image.loan.part ∷ place_of image.loan.at) ∷ image.loan.bytes ∷ []
 
-pub same_place : (old new : Image) → Leaves ghosts old new → new.loan.at ≡ old.loan.at
-same_place old new leaves =
-    let rest : (new.loan.part ∷ place_of new.loan.at) ∷ []
-    ≡ (old.loan.part ∷ place_of old.loan.at) ∷ [] = leaves.same_rest in
-    place_told new.loan.at old.loan.at cc
+pub same_loan : (old new : Image) → besides new ≡ besides old → SameLoan old.loan new.loan
+same_loan old new same = (cc, place_told new.loan.at old.loan.at cc, cc)
 
-pub same_bytes : (old new : Image) → Leaves ghosts old new → new.loan.bytes ≡ old.loan.bytes
-same_bytes old new leaves =
-    let held : Some new.loan.bytes ≡ Some old.loan.bytes = leaves.same_bytes in cc
-
-pub same_loan : (old new : Image) → Leaves ghosts old new → SameLoan old.loan new.loan
-same_loan old new leaves =
-    (same_part old new leaves, same_place old new leaves, same_bytes old new leaves)
+-- a call that leaves an image leaves its loan and what was written to it
+pub same_image : (old new : Image) → Leaves ghosts old new → SameImage old new
+same_image old new leaves =
+    let rest : (bytes_given new ∷ new.write_faults ∷ []) ∷ besides new
+    ≡ (bytes_given old ∷ old.write_faults ∷ []) ∷ besides old = leaves.same_rest in
+    let held : Some (bytes_now new) ≡ Some (bytes_now old) = leaves.same_bytes in
+    (same_loan old new cc, cc, cc)
 
 pub same_object : {A T : Type 0} (c : Call A) (holding : List ℕ) (r : Result T ElfError)
     (old new : State Image) → Queries ghosts c holding r old new → SameObject old new
 same_object c holding r old new queries = record {
   object = queries.object;
-  loan = same_loan old.source new.source queries.reads.source.leaves;
+  image = same_image old.source new.source queries.reads.source.leaves;
 }
 
 -- a descriptor over an image tells its bytes

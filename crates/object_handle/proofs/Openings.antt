@@ -1,5 +1,5 @@
 -- What becomes of an object that has begun and is put into a box.
-use Rattle.std.proofs.Common.{◌≡◌, ◌⊎◌, inl, List, ℕ, Box, Result, Ok, Err, IfOk, IfErr, IfSome, sym, ap, ◌∙◌, subst}
+use Rattle.std.proofs.Common.{◌≡◌, ◌⊎◌, inl, List, [], ℕ, Box, Result, Ok, Err, IfOk, IfErr, IfSome, sym, ap, ◌∙◌, subst, arith}
 use Rattle.elf_types.specs.declared.errors.ElfError.{ElfError}
 use Rattle.elf_types.specs.declared.errors.ElfError.TheVariants.{Memory}
 use Rattle.elf_types.specs.Answers.{stated_refusal}
@@ -10,29 +10,56 @@ use Rattle.elf_descriptor.specs.State.{State}
 use Rattle.lent_bytes.specs.declared.loan.Lent.{Lent}
 use Rattle.lent_bytes.specs.declared.loan.Loan.{Loan}
 use Rattle.lent_bytes.specs.declared.image.Image.{Image}
+use Rattle.lent_bytes.specs.declared.writes.KeptWrite.{KeptWrite}
+use Rattle.lent_bytes.specs.Images.{bytes_now}
+use Rattle.lent_bytes.specs.Writes.{with_writes, bytes_put}
+use Rattle.lent_bytes.proofs.WriteLaws.{with_none, put_none}
 use Rattle.lent_bytes.specs.contracts.image.ImageSource.TheImpl.{ghosts}
 use Rattle.object_handle.specs.declared.opened.OpenObject.{OpenObject}
-use Rattle.object_handle.specs.Objects.{Opens, IsLoanOf, IsLentAs, IsBack}
-use Rattle.object_handle.proofs.ImageLaws.{same_part, same_place, same_bytes, begun_refused}
+use Rattle.object_handle.specs.Objects.{Opens, IsLoanOf, IsLentAs, IsBack, SameImage}
+use Rattle.object_handle.proofs.ImageLaws.{same_image, begun_refused}
 
--- the loan of an image that a call left is the one that it had
-pub still_lent : (lent : Lent) (loan : Loan) (old new : Image) → IsLentAs lent loan
-    → old.loan ≡ loan → Leaves ghosts old new → IsLentAs lent new.loan
-still_lent lent loan old new lends is leaves = (
-  same_part old new leaves ∙ ap (λ (l : Loan). l.part) is ∙ lends.0,
-  same_place old new leaves ∙ ap (λ (l : Loan). l.at) is ∙ lends.1,
-  same_bytes old new leaves ∙ ap (λ (l : Loan). l.bytes) is ∙ lends.2,
-)
+-- an image of a loan of what was lent, to which nothing was written
+pub is_lent : (lent : Lent) (loan : Loan) (image : Image) → image.loan ≡ loan
+    → (loan.part ≡ lent.part) × (loan.at ≡ lent.at) × (loan.bytes ≡ lent.bytes)
+    → image.writes ≡ [] → image.lost ≡ 0 → IsLentAs lent image
+is_lent lent loan image is lends none lost =
+    let bytes : image.loan.bytes ≡ lent.bytes = ap (λ (l : Loan). l.bytes) is ∙ lends.2 in
+    let fresh : bytes_now image ≡ image.loan.bytes =
+    ap (λ (ws : List KeptWrite). with_writes ws image.loan.bytes) none
+    ∙ with_none image.loan.bytes in
+    let put : bytes_put image.writes ≡ 0 =
+    ap (λ (ws : List KeptWrite). bytes_put ws) none ∙ put_none in
+    (
+      ap (λ (l : Loan). l.part) is ∙ lends.0,
+      ap (λ (l : Loan). l.at) is ∙ lends.1,
+      bytes,
+      fresh ∙ bytes,
+      omega (arith, lost, put),
+    )
+
+-- it still is where a call left it
+pub still_lent : (lent : Lent) (old new : Image) → IsLentAs lent old → Leaves ghosts old new
+    → IsLentAs lent new
+still_lent lent old new is leaves =
+    let same : SameImage old new = same_image old new leaves in
+    (
+      same.0.0 ∙ is.0,
+      same.0.1 ∙ is.1,
+      same.0.2 ∙ is.2,
+      same.1 ∙ is.3,
+      same.2 ∙ is.4,
+    )
 
 -- what goes back of a loan is what was lent
-pub comes_back : (lent : Lent) (loan : Loan) (back : Lent) → IsLentAs lent loan
-    → IsLoanOf loan back → IsBack lent back
-comes_back lent loan back is of = (of.0, of.1 ∙ is.0, of.2 ∙ is.1, of.3 ∙ is.2)
+pub comes_back : (lent : Lent) (image : Image) (back : Lent) → IsLentAs lent image
+    → IsLoanOf image.loan back → IsBack lent back
+comes_back lent image back is of = (of.0, of.1 ∙ is.0, of.2 ∙ is.1, of.3 ∙ is.2)
 
 -- a refusal at the beginning
 pub refused_opens : (bytes : List ℕ) (image : Image) (e : ElfError)
-    → image.loan.bytes ≡ bytes → ReadRose {T = Object} (Err e) 0 0
-    → IfSome (stated_refusal e) (λ d. opened image.loan.bytes ≡ Err d)
+    → bytes_now image ≡ bytes → ReadRose {T = Object} (Err e) 0 0
+    → IfSome (stated_refusal e) (λ d. opened (bytes_now image) ≡ Err d)
     → (e ≡ Memory) ⊎ (opened bytes ≡ Err e)
 refused_opens bytes image e same rose follows =
     begun_refused Object (opened bytes) e rose
@@ -49,15 +76,15 @@ module _ {A : Type 0} (elf : State Image) where
   boxed_opens (Err refused) stated opens same back = inl back.1
 
   pub boxed_lent : (r : Result (Box OpenObject A) (Lent × ElfError)) (lent : Lent)
-      → IsLentAs lent elf.source.loan → IfOk r (λ object. object.value.elf ≡ elf)
-      → IfOk r (λ object. IsLentAs lent object.value.elf.source.loan)
+      → IsLentAs lent elf.source → IfOk r (λ object. object.value.elf ≡ elf)
+      → IfOk r (λ object. IsLentAs lent object.value.elf.source)
   boxed_lent (Ok object) lent is same =
-      subst (λ (s : State Image). IsLentAs lent s.source.loan) (sym same) is
+      subst (λ (s : State Image). IsLentAs lent s.source) (sym same) is
   boxed_lent (Err refused) lent is same = tt
 
   pub boxed_back : (r : Result (Box OpenObject A) (Lent × ElfError)) (lent : Lent)
-      → IsLentAs lent elf.source.loan
+      → IsLentAs lent elf.source
       → IfErr r (λ back. IsLoanOf elf.source.loan back.0 × (back.1 ≡ Memory))
       → IfErr r (λ back. IsBack lent back.0)
   boxed_back (Ok object) lent is back = tt
-  boxed_back (Err refused) lent is back = comes_back lent elf.source.loan refused.0 is back.0
+  boxed_back (Err refused) lent is back = comes_back lent elf.source refused.0 is back.0

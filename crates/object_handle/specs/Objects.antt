@@ -7,6 +7,7 @@ use Rattle.elf_descriptor.specs.State.{State}
 use Rattle.lent_bytes.specs.declared.loan.Lent.{Lent}
 use Rattle.lent_bytes.specs.declared.loan.Loan.{Loan}
 use Rattle.lent_bytes.specs.declared.image.Image.{Image}
+use Rattle.lent_bytes.specs.Images.{bytes_now, bytes_given}
 use Rattle.object_handle.specs.declared.opened.OpenObject.{OpenObject}
 
 -- the same part of the right to the same bytes at the same place, which are lent: what goes back of
@@ -15,10 +16,11 @@ abbrev pub IsLoanOf : Loan → Lent → Type 0
 IsLoanOf loan lent =
     (lent.lent ≡ true) × (lent.part ≡ loan.part) × (lent.at ≡ loan.at) × (lent.bytes ≡ loan.bytes)
 
--- what came of bytes that were lent
-abbrev pub IsLentAs : Lent → Loan → Type 0
-IsLentAs lent loan =
-    (loan.part ≡ lent.part) × (loan.at ≡ lent.at) × (loan.bytes ≡ lent.bytes)
+-- what came of bytes that were lent: an image of them, to which nothing was written
+abbrev pub IsLentAs : Lent → Image → Type 0
+IsLentAs lent image =
+    (image.loan.part ≡ lent.part) × (image.loan.at ≡ lent.at) × (image.loan.bytes ≡ lent.bytes)
+    × (bytes_now image ≡ lent.bytes) × (bytes_given image ≡ 0)
 
 -- what was lent, as it comes back
 abbrev pub IsBack : Lent → Lent → Type 0
@@ -30,13 +32,19 @@ abbrev pub SameLoan : Loan → Loan → Type 0
 SameLoan old new =
     (new.part ≡ old.part) × (new.at ≡ old.at) × (new.bytes ≡ old.bytes)
 
+-- an image as it was: of the same loan, with the same written to it
+abbrev pub SameImage : Image → Image → Type 0
+SameImage old new =
+    SameLoan old.loan new.loan × (bytes_now new ≡ bytes_now old)
+    × (bytes_given new ≡ bytes_given old)
+
 -- the object is the stated one, and a refusal too, but for want of memory
 abbrev pub Opens : {A B : Type 0} → Result Object ElfError
     → Result (Box OpenObject A) (B × ElfError) → Type 0
 Opens stated (Ok object) = stated ≡ Ok object.value.elf.o
 Opens stated (Err back) = (back.1 ≡ Memory) ⊎ (stated ≡ Err back.1)
 
--- the object stays, and the loan that it is over
+-- the object stays, and the image that it is over
 pub record SameObject (old new : State Image) : Type 0 where
   pub object : new.o ≡ old.o
-  pub loan : SameLoan old.source.loan new.source.loan
+  pub image : SameImage old.source new.source

@@ -34,10 +34,10 @@ fn box_object(alloc: Global, elf: Elf<Image>) -> Result<Box<OpenObject>, (Lent, 
 pub fn open_object(alloc: Global, image: Lent) -> Result<Box<OpenObject>, (Lent, ElfError)>
     requires { image.lent ≡ true }
     ensures opens { Opens (opened image.bytes) result }
-    ensures lent { IfOk result (λ object. IsLentAs image object.value.elf.source.loan) }
+    ensures lent { IfOk result (λ object. IsLentAs image object.value.elf.source) }
     ensures back { IfErr result (λ back. IsBack image back.0) }
 {
-    match Elf::begin(alloc, Image::new(Loan::of(image))) {
+    match Elf::begin(alloc, Image::new(alloc, Loan::of(image))) {
         Ok(elf) => box_object(alloc, elf),
         Err((image, e)) => Err((image.into_loan().back(), e)),
     }

@@ -1,7 +1,7 @@
 use Rattle.std.proofs.Common.{ℕ, List, ap}
 use Rattle.ar_members.specs.declared.symbols.ArSym.{ArSym}
 use Rattle.ar_members.specs.Symbols.{arsyms}
-use Rattle.object_handle.proofs.ImageLaws.{same_loan}
+use Rattle.object_handle.proofs.ImageLaws.{same_image}
 use Rattle.c_archives.specs.Forms.{listed}
 use Rattle.c_archives.specs.Steps.{bytes_of}
 use Rattle.c_archives.proofs.Given.{answer_given, answer_refused}
@@ -14,9 +14,9 @@ returns-in-Ok-clause-gives c =
     (c.len.result, symbols) c.in-Ok.ensures.symbols
     (ap (λ (n : ℕ). (n, symbols)) c.len.ensures)
 
-pub returns-in-Ok-clause-loan : goal.returns-in-Ok-clause-loan
-returns-in-Ok-clause-loan c =
-    same_loan c.args.archive.now.ar.source c.arsym.new.self.source c.in-Ok.ensures.asks.leaves
+pub returns-in-Ok-clause-image : goal.returns-in-Ok-clause-image
+returns-in-Ok-clause-image c =
+    same_image c.args.archive.now.ar.source c.arsym.new.self.source c.in-Ok.ensures.asks.leaves
 
 pub returns-in-Err-clause-gives : goal.returns-in-Err-clause-gives
 returns-in-Err-clause-gives c =
@@ -25,6 +25,6 @@ returns-in-Err-clause-gives c =
     (List ArSym) c.in-Err.e c.code_of.result c.code_of.ensures c.in-Err.ensures.asks.read
     c.in-Err.ensures.symbols
 
-pub returns-in-Err-clause-loan : goal.returns-in-Err-clause-loan
-returns-in-Err-clause-loan c =
-    same_loan c.args.archive.now.ar.source c.arsym.new.self.source c.in-Err.ensures.asks.leaves
+pub returns-in-Err-clause-image : goal.returns-in-Err-clause-image
+returns-in-Err-clause-image c =
+    same_image c.args.archive.now.ar.source c.arsym.new.self.source c.in-Err.ensures.asks.leaves

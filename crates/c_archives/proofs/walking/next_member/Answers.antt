@@ -1,7 +1,7 @@
-use Rattle.std.proofs.Common.{inl, inr, length, refl}
+use Rattle.std.proofs.Common.{ℕ, inl, inr, refl, subst}
 use Rattle.ar_members.specs.Archives.{members_left}
-use Rattle.object_handle.proofs.ImageLaws.{same_loan}
-use Rattle.c_archives.specs.Steps.{bytes_of, step_of, step_seen, seen}
+use Rattle.object_handle.proofs.ImageLaws.{same_image}
+use Rattle.c_archives.specs.Steps.{bytes_of, step_of, step_seen, seen, LiesIn}
 use Rattle.c_archives.proofs.Given.{answer_given}
 use Rattle.c_archives.proofs.Stepped.{step_refused, three_same, lies_in}
 use Rattle.c_archives.proofs.walking.next_member.Goals as goal
@@ -17,12 +17,13 @@ returns-in-Ok-clause-steps c =
 pub returns-in-Ok-clause-lies : goal.returns-in-Ok-clause-lies
 returns-in-Ok-clause-lies c =
     let old = c.args.archive.now in
-    inr (lies_in old.ar.walk.place (length (bytes_of old)) c.next.new.self.walk.place c.in-Ok.member
-    c.of.result c.of.ensures c.in-Ok.ensures.lies)
+    inr (subst (λ (size : ℕ). LiesIn size c.of.result) old.ar.source.sized
+    (lies_in old.ar.walk.place old.ar.source.size c.next.new.self.walk.place c.in-Ok.member
+    c.of.result c.of.ensures c.in-Ok.ensures.lies))
 
-pub returns-in-Ok-clause-loan : goal.returns-in-Ok-clause-loan
-returns-in-Ok-clause-loan c =
-    same_loan c.args.archive.now.ar.source c.next.new.self.source c.in-Ok.ensures.asks.leaves
+pub returns-in-Ok-clause-image : goal.returns-in-Ok-clause-image
+returns-in-Ok-clause-image c =
+    same_image c.args.archive.now.ar.source c.next.new.self.source c.in-Ok.ensures.asks.leaves
 
 pub returns-in-Err-clause-steps : goal.returns-in-Err-clause-steps
 returns-in-Err-clause-steps c =
@@ -34,6 +35,6 @@ returns-in-Err-clause-steps c =
 pub returns-in-Err-clause-lies : goal.returns-in-Err-clause-lies
 returns-in-Err-clause-lies c = inl refl
 
-pub returns-in-Err-clause-loan : goal.returns-in-Err-clause-loan
-returns-in-Err-clause-loan c =
-    same_loan c.args.archive.now.ar.source c.next.new.self.source c.in-Err.ensures.asks.leaves
+pub returns-in-Err-clause-image : goal.returns-in-Err-clause-image
+returns-in-Err-clause-image c =
+    same_image c.args.archive.now.ar.source c.next.new.self.source c.in-Err.ensures.asks.leaves

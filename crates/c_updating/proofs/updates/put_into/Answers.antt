@@ -1,6 +1,6 @@
 use Rattle.std.proofs.Common.{Result, sym, subst}
 use Rattle.elf_types.specs.declared.errors.ElfError.{ElfError}
-use Rattle.object_handle.proofs.ImageLaws.{same_loan}
+use Rattle.object_handle.proofs.ImageLaws.{same_image}
 use Rattle.c_updating.specs.Updated.{PutsInto}
 use Rattle.c_updating.proofs.UpdateLemmas as lemmas
 use Rattle.c_updating.proofs.updates.put_into.Goals as goal
@@ -12,5 +12,5 @@ returns-clause-puts c =
     (lemmas.put_into c.update_to.result c.args.object.now.elf _ c.args.room.now _
     c.args.object.now.told c.requires c.update_to.ensures)
 
-pub returns-clause-loan : goal.returns-clause-loan
-returns-clause-loan c = same_loan _ _ c.update_to.ensures.source.leaves
+pub returns-clause-image : goal.returns-clause-image
+returns-clause-image c = same_image _ _ c.update_to.ensures.source.leaves

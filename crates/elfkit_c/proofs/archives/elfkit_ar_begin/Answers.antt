@@ -11,7 +11,7 @@ returns-in-Ok-clause-begins c =
       refl,
       c.put.ensures.0,
       c.in-Ok.ensures.opens ∙ ap (λ (x : OpenArchive). Ok x.ar.walk) (sym c.put.ensures.1),
-      subst (λ (x : OpenArchive). IsLentAs c.args.image x.ar.source.loan) (sym c.put.ensures.1)
+      subst (λ (x : OpenArchive). IsLentAs c.args.image x.ar.source) (sym c.put.ensures.1)
           c.in-Ok.ensures.lent,
     )
 

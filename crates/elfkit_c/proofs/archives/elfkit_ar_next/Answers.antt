@@ -1,5 +1,5 @@
 use Rattle.std.proofs.Common.{◌≡◌, ◌⊎◌, length, ◌∙◌}
-use Rattle.object_handle.specs.Objects.{SameLoan}
+use Rattle.object_handle.specs.Objects.{SameImage}
 use Rattle.archive_handle.specs.declared.opened.OpenArchive.{OpenArchive}
 use Rattle.c_archives.specs.Steps.{bytes_of, Steps, LiesIn}
 use Rattle.elfkit_c.proofs.ArchiveLaws.{carried}
@@ -25,9 +25,9 @@ returns-clause-walks c =
     let step = c.next_member-number in
     let taken = c.as_mut.ensures.value ∙ c.take-archive.ensures.archive in (
       c.put.ensures.0,
-      carried (λ (o n : OpenArchive). SameLoan o.ar.source.loan n.ar.source.loan)
+      carried (λ (o n : OpenArchive). SameImage o.ar.source n.ar.source)
           c.args.h.now c.put.new.self c.as_mut.result.now step.new.archive taken c.put.ensures
-          step.ensures.loan,
+          step.ensures.image,
       carried (λ (o n : OpenArchive). n.symbols ≡ o.symbols)
           c.args.h.now c.put.new.self c.as_mut.result.now step.new.archive taken c.put.ensures
           step.ensures.symbols,

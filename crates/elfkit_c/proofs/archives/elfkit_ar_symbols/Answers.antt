@@ -1,6 +1,6 @@
 use Rattle.std.proofs.Common.{◌≡◌, ◌∙◌}
 use Rattle.ar_members.specs.Symbols.{arsyms}
-use Rattle.object_handle.specs.Objects.{SameLoan}
+use Rattle.object_handle.specs.Objects.{SameImage}
 use Rattle.archive_handle.specs.declared.opened.OpenArchive.{OpenArchive}
 use Rattle.c_archives.specs.Forms.{listed}
 use Rattle.c_archives.specs.Steps.{bytes_of, GivesOrWants}
@@ -20,9 +20,9 @@ returns-clause-lists c =
     let read = c.list_symbols-number in
     let taken = c.as_mut.ensures.value ∙ c.take-archive.ensures.archive in (
       c.put.ensures.0,
-      carried (λ (o n : OpenArchive). SameLoan o.ar.source.loan n.ar.source.loan)
+      carried (λ (o n : OpenArchive). SameImage o.ar.source n.ar.source)
           c.args.h.now c.put.new.self c.as_mut.result.now read.new.archive taken c.put.ensures
-          read.ensures.loan,
+          read.ensures.image,
       carried (λ (o n : OpenArchive). n.ar.walk ≡ o.ar.walk)
           c.args.h.now c.put.new.self c.as_mut.result.now read.new.archive taken c.put.ensures
           read.ensures.walk,

@@ -11,7 +11,7 @@ returns-in-Ok-clause-begins c =
       refl,
       c.put.ensures.0,
       c.in-Ok.ensures.opens ∙ ap (λ (x : OpenObject). Ok x.elf.o) (sym c.put.ensures.1),
-      subst (λ (x : OpenObject). IsLentAs c.args.image x.elf.source.loan) (sym c.put.ensures.1)
+      subst (λ (x : OpenObject). IsLentAs c.args.image x.elf.source) (sym c.put.ensures.1)
           c.in-Ok.ensures.lent,
     )
 

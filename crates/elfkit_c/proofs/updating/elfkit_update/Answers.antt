@@ -3,7 +3,7 @@ use Rattle.elf_object.specs.Image.{image_length}
 use Rattle.elf_descriptor.specs.State.{State}
 use Rattle.lent_bytes.specs.declared.image.Image.{Image}
 use Rattle.object_handle.specs.declared.opened.OpenObject.{OpenObject}
-use Rattle.object_handle.specs.Objects.{SameLoan}
+use Rattle.object_handle.specs.Objects.{SameImage}
 use Rattle.c_updating.specs.Updated.{PutsImage}
 use Rattle.elfkit_c.proofs.EditLaws.{left_in}
 use Rattle.elfkit_c.proofs.updating.elfkit_update.Goals as goal
@@ -15,12 +15,12 @@ returns-clause-puts c =
     c.args.h.now c.put.new.self c.as_mut.result.now done.new.object
     (c.as_mut.ensures.value ∙ c.take-object.ensures.object) c.put.ensures done.ensures.puts
 
-pub returns-clause-loan : goal.returns-clause-loan
-returns-clause-loan c =
+pub returns-clause-image : goal.returns-clause-image
+returns-clause-image c =
     let done = c.put_image-number in
-    left_in (λ (o n : State Image). SameLoan o.source.loan n.source.loan)
+    left_in (λ (o n : State Image). SameImage o.source n.source)
     c.args.h.now c.put.new.self c.as_mut.result.now done.new.object
-    (c.as_mut.ensures.value ∙ c.take-object.ensures.object) c.put.ensures done.ensures.loan
+    (c.as_mut.ensures.value ∙ c.take-object.ensures.object) c.put.ensures done.ensures.image
 
 pub put_image-number-requires : goal.put_image-number-requires
 put_image-number-requires c =

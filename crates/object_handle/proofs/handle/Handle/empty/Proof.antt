@@ -40,7 +40,7 @@ empty_spec 𝓤 𝓛 𝓜 𝓡 wired =
     let Run : List Val → SProp 𝓤 = λ us. WpFn 𝓤 H 𝓣.C 𝓣.Λ fn us Post in
     let a = z.0.3.0 in
     let made : handle.the_row.Denot =
-    record { ptr = null_ptr; alloc = a; full = false; held = any_object } in
+    record { ptr = null_ptr; alloc = a; full = false; held = any_object a } in
     qed 𝓛 ((‵ ftrue ⊛ ‵ (fsep (E.al.row.own_val a z.0.4.0) ftrue)) ∷ raw (emp 𝓤) ∷ []) ∵
     split ! $ drop ! $ fsplit ! $ move ! (1 ∷ 2 ∷ []) $ drop ! $ drop ! $
     handle_tells E.al ! a z.0.4.0 (λ h ws fits.

@@ -1,0 +1,10 @@
+//! The writes of an update in place, for C: which they are, and how each is handed over.
+#![tactic(auto)]
+
+mod planning;
+mod records;
+mod writes;
+
+pub use planning::plan_writes;
+pub use records::WriteRecord;
+pub use writes::{give_write, give_write_bytes};
