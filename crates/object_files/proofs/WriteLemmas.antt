@@ -4,17 +4,20 @@ use Rattle.std.specs.Str.{bytes_eq}
 use Rattle.std.proofs.lemmas.Bool.{true≢false}
 use Rattle.std.proofs.lemmas.List.{take_all}
 use Rattle.std.proofs.lemmas.Slice.Eq.{bytes_eq-Decides}
+use Rattle.tool_output.specs.elf_outside.Counts.{Rose}
 use Rattle.tool_output.specs.elf_outside.declared.sinks.Sink.{Ghosts as SinkGhosts}
 use Rattle.tool_output.specs.elf_outside.declared.file_sets.Files.{Ghosts as FilesGhosts}
 use Rattle.tool_output.specs.declared.stops.Stop.{Stop}
+use Rattle.tool_output.specs.declared.stops.Stop.TheVariants.{Read, Write, Memory}
 use Rattle.tool_output.specs.declared.outputs.Outputs.{Outputs}
 use Rattle.tool_output.specs.Statuses.{refused_status, stop_status}
-use Rattle.tool_output.specs.Steps.{Writes}
+use Rattle.tool_output.specs.Files.{LeavesFilesBy}
+use Rattle.tool_output.specs.Steps.{Writes, KeepsSinks, LeavesOutputs}
 use Rattle.tool_output.specs.Reports.{no_report}
 use Rattle.tool_output.specs.Outcomes.{FileWrite, write_of, held_after, MayHold, Does}
 use Rattle.tool_output.specs.Made.{made_file, outcome_with, MakesFile}
 use Rattle.tool_output.proofs.StepLemmas.{writes_went}
-use Rattle.tool_output.proofs.FileLemmas.{only_reads_none}
+use Rattle.tool_output.proofs.FileLemmas.{only_reads_none, totals_none, totals_then}
 use Rattle.tool_output.proofs.OutcomeLemmas.{may_hold_same}
 use Rattle.tool_output.proofs.MadeLemmas.{made_held, made_left, stopped_done, writes_whole}
 use Rattle.object_files.specs.Making.{InOrder}
@@ -241,3 +244,42 @@ module _ {F D : Type 0} (f : FilesGhosts F D) (first second : List ℕ) where
             → Ordered {T = V} (Err stop) a c image
         by told None made = tt
         by told (Some bytes) made = inr (g.others.same first differ ∙ made.made told)
+
+-- ---- What two files leave
+
+module _ {F D O E : Type 0} (f : FilesGhosts F D) (o : SinkGhosts O) (e : SinkGhosts E)
+    (s t : Outputs O E) where
+  -- what waits could not be put
+  pub unput_leaves : {T U : Type 0} (P : Type 0) (stop : Stop) (a : F)
+      → LeavesOutputs {T = T} o e ⊥ (Err stop) s t
+      → LeavesFilesBy {T = U} f o e P (Err stop) a a s t
+  unput_leaves P Read a h = record { totals = totals_none f o e a; keeps = h.keeps; read = absurd h.read; write = tt }
+  unput_leaves P Write a h = record { totals = totals_none f o e a; keeps = h.keeps; read = tt; write = inr h.write }
+  unput_leaves P Memory a h = record { totals = totals_none f o e a; keeps = h.keeps; read = tt; write = tt }
+
+  module _ (keeps : KeepsSinks o e s t) (n m : ℕ) (first : List ℕ) (one : Option (List ℕ)) (a b : F) where
+    -- the first is not made
+    pub first_leaves : {T U : Type 0} (Q : Type 0) (stop : Stop)
+        → MakesFile {T = T} f first one (Err stop) n m a b
+        → LeavesFilesBy {T = U} f o e (Rose n m ⊎ Q) (Err stop) a b s t
+    first_leaves Q Read h = record { totals = h.totals; keeps = keeps; read = inl h.read; write = tt }
+    first_leaves Q Write h = record { totals = h.totals; keeps = keeps; read = tt; write = inl h.write }
+    first_leaves Q Memory h = record { totals = h.totals; keeps = keeps; read = tt; write = tt }
+
+    module _ {T : Type 0} (x : T) (k l : ℕ) (second : List ℕ) (other : Option (List ℕ)) (c : F)
+        (h : MakesFile {T = T} f first one (Ok x) n m a b) where
+      -- the second is not made
+      pub second_leaves : {U V : Type 0} (P : Type 0) (stop : Stop)
+          → MakesFile {T = U} f second other (Err stop) k l b c
+          → LeavesFilesBy {T = V} f o e (P ⊎ Rose k l) (Err stop) a c s t
+      second_leaves P Read i = record { totals = totals_then f o e a b c h.totals i.totals; keeps = keeps; read = inr i.read; write = tt }
+      second_leaves P Write i =
+          let before = h.totals.write_faults in let rose = i.write in
+          record { totals = totals_then f o e a b c h.totals i.totals; keeps = keeps; read = tt; write = inl (omega (arith, before, rose)) }
+      second_leaves P Memory i = record { totals = totals_then f o e a b c h.totals i.totals; keeps = keeps; read = tt; write = tt }
+
+      -- both are made
+      pub both_leave : {U V : Type 0} (P : Type 0) (y : U) (z : V)
+          → MakesFile {T = U} f second other (Ok y) k l b c
+          → LeavesFilesBy {T = V} f o e P (Ok z) a c s t
+      both_leave P y z i = record { totals = totals_then f o e a b c h.totals i.totals; keeps = keeps; read = tt; write = tt }

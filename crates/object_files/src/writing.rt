@@ -72,8 +72,14 @@ pub fn write_images<I: Image, J: Image, F: Files, O: Sink, E: Sink>(
         result files.old files.new outputs.old outputs.new }
     ensures live { F.live files.old < 2 ^ 64 - 2 → F.live files.new ≡ F.live files.old }
 {
-    outputs.flush()?;
-    make_file(alloc, first, first_name, files)?;
-    make_file(alloc, second, second_name, files)?;
+    if let Err(stop) = outputs.flush() {
+        return Err(stop);
+    }
+    if let Err(stop) = make_file(alloc, first, first_name, files) {
+        return Err(stop);
+    }
+    if let Err(stop) = make_file(alloc, second, second_name, files) {
+        return Err(stop);
+    }
     Ok(false)
 }
