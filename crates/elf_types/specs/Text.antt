@@ -1,5 +1,5 @@
 -- The texts under which numbers, parts and errors are shown, as lists of bytes.
-use Rattle.std.specs.Prelude.{◌++◌, ℕ, List, [], codes, decimal, false}
+use Rattle.std.specs.Prelude.{◌++◌, ℕ, List, [], Option, Some, None, codes, decimal, false}
 use Rattle.std.specs.Fmt.{digits}
 use Rattle.elf_types.specs.declared.records.Part.{Part}
 use Rattle.elf_types.specs.declared.records.Part.TheVariants.{Object, Header, Segments, Section, Piece, Table}
@@ -52,6 +52,44 @@ overlap_text a b = ((codes "overlap " ++ part_text a) ++ codes " ") ++ part_text
 -- a piece of another kind
 unfoldable pub held_text : Kind → List ℕ
 held_text kind = codes "held kind " ++ kind_text kind
+
+-- an error that carries nothing
+unfoldable pub plain_error : ElfError → Option (List ℕ)
+plain_error Memory = Some (codes "out of memory")
+plain_error Read = Some (codes "read failed")
+plain_error Write = Some (codes "write failed")
+plain_error Short = Some (codes "too short")
+plain_error Magic = Some (codes "not an ELF image")
+plain_error Class = Some (codes "bad class")
+plain_error Order = Some (codes "bad byte order")
+plain_error Version = Some (codes "bad version")
+plain_error PhTable = Some (codes "bad program header table")
+plain_error ShTable = Some (codes "bad section header table")
+plain_error TooLarge = Some (codes "too large")
+plain_error TooMany = Some (codes "too many")
+plain_error FlagKept = Some (codes "flag kept")
+plain_error Reserved = Some (codes "section 0 reserved")
+plain_error e = None
+
+-- an error that carries what shows it, and nothing for another
+unfoldable pub told_error : ElfError → List ℕ
+told_error (NoSection index count) = numbered_twice (codes "no section ") index (codes " of ") count
+told_error (NoData index count) = numbered_twice (codes "no piece ") index (codes " of ") count
+told_error (NoEntry index count) = numbered_twice (codes "no entry ") index (codes " of ") count
+told_error (WrongKind held) = held_text held
+told_error (OutOfFile section) = numbered (codes "section ") section (codes " out of file")
+told_error (Ragged section) = numbered (codes "section ") section (codes " ragged")
+told_error (Unfit part index) = unfit_text part index
+told_error (Overlap a b) = overlap_text a b
+told_error (NotStrings section) = numbered (codes "section ") section (codes " not strings")
+told_error (NoString offset size) =
+    numbered_twice (codes "no string at ") offset (codes " of ") size
+told_error (Unended offset) = numbered (codes "string at ") offset (codes " has no end")
+told_error (BadMember at) = numbered (codes "bad member at ") at []
+told_error (BadChain at) = numbered (codes "bad chain at ") at []
+told_error (BadAlign align) = numbered (codes "bad alignment ") align []
+told_error (Unsorted at) = numbered (codes "symbols not in order at ") at []
+told_error e = []
 
 -- an error
 unfoldable pub error_text : ElfError → List ℕ

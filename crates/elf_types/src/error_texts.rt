@@ -3,8 +3,9 @@
 //! Each call refuses `Memory` alone; what the list held then still stands, some bytes behind it.
 
 ghost use Rattle.std.specs.Prelude.{◌≡◌, ◌++◌, [], OnOk, IfOk, IfErr, codes};
+ghost use Rattle.std.specs.Option.{option_copied};
 ghost use Rattle.elf_types.specs.Writers.{WantsMemory, Extends};
-ghost use Rattle.elf_types.specs.Text.{numbered, numbered_twice, kind_text, part_text, unfit_text, overlap_text, held_text, error_text};
+ghost use Rattle.elf_types.specs.Text.{numbered, numbered_twice, kind_text, part_text, unfit_text, overlap_text, held_text, plain_error, told_error, error_text};
 
 use crate::errors::ElfError;
 use crate::lists::Octets;
@@ -24,7 +25,7 @@ pub fn put_numbered(out: &mut Octets, before: &str, n: u64, after: &str) -> Resu
 }
 
 /// Appends two numbers, each after a text.
-#[tactic(auto, using(crate::proofs::Writers::stays), unfolding(crate::specs::Text::numbered_twice))]
+#[tactic(auto, using(crate::proofs::Writers::stays), unfolding(crate::specs::Text::numbered, crate::specs::Text::numbered_twice))]
 pub fn put_numbered_twice(
     out: &mut Octets,
     before: &str,
@@ -35,9 +36,7 @@ pub fn put_numbered_twice(
     ensures ok { OnOk result (out.new ≡ out.old ++ numbered_twice before.now a between.now b) }
     ensures err { IfErr result (WantsMemory out.old out.new) }
 {
-    put_text(out, before)?;
-    put_decimal(out, a)?;
-    put_text(out, between)?;
+    put_numbered(out, before, a, between)?;
     put_decimal(out, b)
 }
 
@@ -129,27 +128,34 @@ fn put_section(out: &mut Octets, section: u32, fault: &str) -> Result<(), ElfErr
     put_numbered(out, "section ", u64::from(section), fault)
 }
 
-/// Appends the text of an error.
-#[tactic(auto, unfolding(crate::specs::Text::error_text))]
-pub fn put_error(out: &mut Octets, e: &ElfError) -> Result<(), ElfError>
-    ensures ok { OnOk result (out.new ≡ out.old ++ error_text e.now) }
-    ensures err { IfErr result (WantsMemory out.old out.new) }
+/// The text of an error that carries nothing. It takes no memory.
+fn plain_text(e: &ElfError) -> Option<&'static str>
+    ensures { option_copied result ≡ plain_error e.now }
 {
     match *e {
-        ElfError::Memory => put_text(out, "out of memory"),
-        ElfError::Read => put_text(out, "read failed"),
-        ElfError::Write => put_text(out, "write failed"),
-        ElfError::Short => put_text(out, "too short"),
-        ElfError::Magic => put_text(out, "not an ELF image"),
-        ElfError::Class => put_text(out, "bad class"),
-        ElfError::Order => put_text(out, "bad byte order"),
-        ElfError::Version => put_text(out, "bad version"),
-        ElfError::PhTable => put_text(out, "bad program header table"),
-        ElfError::ShTable => put_text(out, "bad section header table"),
-        ElfError::TooLarge => put_text(out, "too large"),
-        ElfError::TooMany => put_text(out, "too many"),
-        ElfError::FlagKept => put_text(out, "flag kept"),
-        ElfError::Reserved => put_text(out, "section 0 reserved"),
+        ElfError::Memory => Some("out of memory"),
+        ElfError::Read => Some("read failed"),
+        ElfError::Write => Some("write failed"),
+        ElfError::Short => Some("too short"),
+        ElfError::Magic => Some("not an ELF image"),
+        ElfError::Class => Some("bad class"),
+        ElfError::Order => Some("bad byte order"),
+        ElfError::Version => Some("bad version"),
+        ElfError::PhTable => Some("bad program header table"),
+        ElfError::ShTable => Some("bad section header table"),
+        ElfError::TooLarge => Some("too large"),
+        ElfError::TooMany => Some("too many"),
+        ElfError::FlagKept => Some("flag kept"),
+        ElfError::Reserved => Some("section 0 reserved"),
+        _ => None,
+    }
+}
+
+/// Appends the text of an error that carries what shows it, and nothing for another.
+fn put_told(out: &mut Octets, e: &ElfError) -> Result<(), ElfError>
+    ensures { Extends result out.old out.new (told_error e.now) }
+{
+    match *e {
         ElfError::NoSection { index, count } => put_missing_index(out, "no section ", index, count),
         ElfError::NoData { index, count } => put_missing_index(out, "no piece ", index, count),
         ElfError::NoEntry { index, count } => put_missing(out, "no entry ", index, count),
@@ -165,6 +171,18 @@ pub fn put_error(out: &mut Octets, e: &ElfError) -> Result<(), ElfError>
         ElfError::WrongKind { held } => put_held(out, held),
         ElfError::Unfit { part, index } => put_unfit(out, part, index),
         ElfError::Overlap { a, b } => put_overlap(out, a, b),
+        _ => Ok(()),
+    }
+}
+
+/// Appends the text of an error.
+pub fn put_error(out: &mut Octets, e: &ElfError) -> Result<(), ElfError>
+    ensures ok { OnOk result (out.new ≡ out.old ++ error_text e.now) }
+    ensures err { IfErr result (WantsMemory out.old out.new) }
+{
+    match plain_text(e) {
+        Some(text) => put_text(out, text),
+        None => put_told(out, e),
     }
 }
 
