@@ -6,13 +6,13 @@ use elf_outside::Source;
 use elf_types::{ElfError, Octets, Words};
 use hash_build::{GnuShape, build_gnu, build_sysv, gnu_order};
 use test_images::{NARROW, OBJECT, WIDE};
-use test_rows::{failed, same_bytes};
+use test_rows::{failed, same_bytes, same_items};
 
 /// Whether these are the words.
 fn are_words(rt: &HostRuntime, words: &Result<Words, ElfError>, wanted: &[u32]) -> bool {
     match words {
-        Ok(l) => same_bytes(rt, l.as_slice(), wanted),
-        Err(e) => failed(rt, e),
+        Ok(l) => same_items(rt, l.as_slice(), wanted),
+        Err(e) => failed(rt, *e),
     }
 }
 
@@ -20,7 +20,7 @@ fn are_words(rt: &HostRuntime, words: &Result<Words, ElfError>, wanted: &[u32]) 
 fn are_bytes(rt: &HostRuntime, bytes: &Result<Octets, ElfError>, wanted: &[u8]) -> bool {
     match bytes {
         Ok(l) => same_bytes(rt, l.as_slice(), wanted),
-        Err(e) => failed(rt, e),
+        Err(e) => failed(rt, *e),
     }
 }
 
