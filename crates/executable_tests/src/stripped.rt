@@ -8,7 +8,7 @@ use elf_types::constants::PT_LOAD;
 use elf_types::{Octets, Phdr};
 use std::alloc::Global;
 use test_rows::{failed, holds, other, within};
-use test_runs::{DONE, Ending, Given, ends};
+use test_runs::{DONE, Ending, Given, ends, same_file};
 
 /// How many bytes the ELF header has, which tells the new place of the section header table.
 const HEADER_LEN: u64 = 64;

@@ -5,7 +5,7 @@ use elf_outside::{MemFiles, MemSink, NoSource, Sink};
 use elf_types::{Addrs, ElfError, Octets};
 use object_files::{write_image, write_images};
 use std::alloc::Global;
-use test_rows::{failed, in_row, same};
+use test_rows::{failed, in_row, other, same, same_bytes};
 use tool_output::{Outputs, Stop};
 
 /// The numbers of the calls that fail: those that hand a file out, the writes of each file that is
@@ -124,6 +124,16 @@ fn ended_by(
     Ok(outputs.end(last))
 }
 
+/// Whether a name holds these bytes, or is not there where there are none.
+fn is_held(rt: &HostRuntime, held: Option<&[u8]>, wanted: Option<&[u8]>) -> bool {
+    match (held, wanted) {
+        (Some(held), Some(wanted)) => same_bytes(rt, held, wanted),
+        (None, None) => true,
+        (Some(held), None) => other(rt, &held.len(), "no file"),
+        (None, Some(_)) => other(rt, &"no file", "a file"),
+    }
+}
+
 /// Whether the making of one file or of two ends so, and leaves these.
 fn leaves_in(
     rt: &HostRuntime,
@@ -135,8 +145,8 @@ fn leaves_in(
     match ended_by(rt.alloc(), two, files, row.bad_put) {
         Ok(ended) => {
             same(rt, &ended, &row.ended)
-                && same(rt, &files.bytes("a"), &row.first)
-                && same(rt, &files.bytes("b"), &second)
+                && is_held(rt, files.bytes("a"), row.first)
+                && is_held(rt, files.bytes("b"), second)
         }
         Err(e) => failed(rt, e),
     }
