@@ -111,32 +111,55 @@ let_go (Elf *elf)
     }
 }
 
-void
-keep_pages (Elf *elf, uint64_t from, uint64_t to)
+/* Has the pages of a mapping in memory that a range lies in: what is written is a mapping's own. */
+static void
+touch (uint8_t *map, size_t size, uint64_t from, uint64_t to)
 {
-  if (elf->memory != MAPPED && elf->memory != WRITTEN)
-    return;
   size_t page = sysconf (_SC_PAGESIZE);
-  for (uint64_t at = from - from % page; from < to && at < to && at < elf->size; at += page)
+  for (uint64_t at = from - from % page; from < to && at < to && at < size; at += page)
     {
-      volatile uint8_t *first = elf->shown + at;
-      *first = *first;          /* a page that was written is the mapping's own */
+      volatile uint8_t *first = map + at;
+      *first = *first;
     }
 }
 
-bool
-make_private (Elf *elf)
+void
+keep_pages (Elf *elf, uint64_t from, uint64_t to)
 {
-  if (elf->memory != MAPPED && elf->memory != WRITTEN)
+  if (elf->memory == MAPPED || elf->memory == WRITTEN)
+    touch (elf->shown, elf->size, from, to);
+  for (struct kept *k = elf->kept; k != NULL; k = k->next)
+    if (k->is_mapped)
+      touch (k->at, k->size, from, to);
+}
+
+/* Has a mapping in memory from a place on, at the same place: where a file gets shorter, what was
+   written of a mapping behind its end is lost too. */
+static bool
+hold (uint8_t *map, size_t size, uint64_t from)
+{
+  from -= from % sysconf (_SC_PAGESIZE);
+  if (from >= size)
     return true;
-  void *own = mmap (NULL, elf->size, PROT_READ | PROT_WRITE, MAP_PRIVATE | MAP_ANONYMOUS, -1, 0);
+  void *own = mmap (NULL, size - from, PROT_READ | PROT_WRITE, MAP_PRIVATE | MAP_ANONYMOUS, -1, 0);
   if (own == MAP_FAILED)
     return false_with (E_NOMEM);
-  memcpy (own, elf->shown, elf->size);
-  if (mremap (own, elf->size, elf->size, MREMAP_MAYMOVE | MREMAP_FIXED, elf->shown) != MAP_FAILED)
+  memcpy (own, map + from, size - from);
+  if (mremap (own, size - from, size - from, MREMAP_MAYMOVE | MREMAP_FIXED, map + from)
+      != MAP_FAILED)
     return true;
-  munmap (own, elf->size);
+  munmap (own, size - from);
   return false_with (E_NOMEM);
+}
+
+bool
+keep_end (Elf *elf, uint64_t from)
+{
+  bool done = (elf->memory != MAPPED && elf->memory != WRITTEN)
+              || hold (elf->shown, elf->size, from);
+  for (struct kept *k = elf->kept; done && k != NULL; k = k->next)
+    done = !k->is_mapped || hold (k->at, k->size, from);
+  return done;
 }
 
 bool
@@ -146,7 +169,7 @@ own_image (Elf *elf)
     return false_with (E_UNSUPPORTED);  /* its members are lent from the same place */
   if (elf->memory != MAPPED)
     return true;
-  if (!make_private (elf))
+  if (!hold (elf->shown, elf->size, 0))
     return false;
   uint8_t *copy = new_copy (elf->lent, elf->size);
   if (copy == NULL)

@@ -265,14 +265,13 @@ void let_go (Elf *elf);
 /* Maps the file as programs see it, privately; NULL where it cannot be mapped. */
 uint8_t *map_shown (int fd, size_t size);
 
-/* Has what programs see of a range of a file in memory, so that a write of it, or a cut, does not
-   change it. */
+/* Has what programs see of a range of a file in memory, and what they saw before, so that a write of
+   it does not change it. */
 void keep_pages (Elf *elf, uint64_t from, uint64_t to);
 
-/* Has what programs see of a file in memory, at the same place, so that a write of the file does
-   not change it, nor take it away where the file gets shorter; false and an error where there is no
-   memory. */
-bool make_private (Elf *elf);
+/* The same from a place on, so that a file that is cut there does not take it away; false and an
+   error where there is no memory. */
+bool keep_end (Elf *elf, uint64_t from);
 
 /* Has a copy of the image lent, so that a write of the file does not change what is lent; false and
    an error where there is no memory, and for an archive and its members. */

@@ -339,16 +339,6 @@ forget_homes (Elf *elf)
   /* -fanalyzer: elf->kept stays as it is, and let_go frees it */
 }
 
-/* What programs saw of the image stays where the file is written: the pages are copied that change,
-   and those behind its new end. */
-static void
-keep_shown (Elf *elf, const struct written *w)
-{
-  for (size_t i = 0; i < w->count; i++)
-    keep_pages (elf, w->changed[i].at, w->changed[i].end);
-  keep_pages (elf, w->length, elf->size);
-}
-
 /* Writes an image over the one that is open, which the descriptor is over from then on. What
    programs saw of the old one stays. The object of the new one is begun first, so that nothing can
    fail but the write. */
@@ -360,7 +350,8 @@ write_over (Elf *elf, const struct written *w)
   int memory;
   uint8_t *shown = show_written (elf, w, &memory);
   struct kept *kept = shown == NULL ? NULL : new_zeros (sizeof *kept);
-  if (kept == NULL || !is_given (elfkit_begin (lent, &handle, &back)))
+  if (kept == NULL || !keep_end (elf, w->length)
+      || !is_given (elfkit_begin (lent, &handle, &back)))
     {
       if (shown != NULL && memory == COPIED)
         free (shown);
@@ -369,12 +360,13 @@ write_over (Elf *elf, const struct written *w)
       free (kept);
       return false;
     }
+  for (size_t i = 0; i < w->count; i++)
+    keep_pages (elf, w->changed[i].at, w->changed[i].end);
   *kept = (struct kept) { elf->kept, elf->shown, elf->size,
                           elf->memory == MAPPED || elf->memory == WRITTEN };
   elf->kept = kept;
   elfkit_end (&elf->handle, &back);
   elf->handle = handle;
-  keep_shown (elf, w);
   bool done = write_file (elf, w);
   if (elf->memory == MAPPED)
     munmap ((void *) elf->lent, elf->size);

@@ -28,7 +28,7 @@ returns-in-Err-clause-plans c =
     let plans : Plans elf c.plan_writes-lent.result.1 =
     subst (λ (x : OpenObject). Plans x.elf c.plan_writes-lent.result.1)
     c.take-object.ensures.object c.plan_writes-lent.ensures.plans in
-    let not_made : Plans elf (Err c.in-Err.e) =
+    let not_made : Plans {A = Global} elf (Err c.in-Err.e) =
     subst (λ (r : Result (Box PlannedWrites Global) ElfError). Plans elf r) c.in-Err.is plans in
     inr (
       c.requires.empty,
