@@ -130,7 +130,7 @@ def five_sections():
 
 def names_of_one_hash():
     """Three sections whose names differ in their last byte alone, and have the same hash
-    (crates/shared_strings)."""
+    (crates/strtab_shared)."""
     prefix = (0x243F6A8885A308D3 + 16).to_bytes(8, "little") + b" section"[:7]
     names = b"\0" + b"".join(prefix + b"%d\0" % i for i in range(3))
     content = bytes(8) + names + bytes(-len(names) % 8)

@@ -1,4 +1,4 @@
-/* What bench/descriptor times crates/descriptor_bench against: the same work through libelf's read form
+/* What bench/descriptor times crates/bench_descriptor against: the same work through libelf's read form
    (ELF_C_READ), with GElf's calls. It takes the same words and prints the same sum. */
 #include <fcntl.h>
 #include <gelf.h>

@@ -1,4 +1,4 @@
-/* What bench/lookups times crates/lookup_bench against: a plain loop over the first symbol table of an
+/* What bench/lookups times crates/bench_lookup against: a plain loop over the first symbol table of an
    image of class 64 that was read into memory, with strcmp. It takes the same words and prints the same
    sum. */
 #include <elf.h>

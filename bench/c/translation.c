@@ -1,4 +1,4 @@
-/* The plain loops that bench/translation times crates/translation_bench against. It takes the same words,
+/* The plain loops that bench/translation times crates/bench_translation against. It takes the same words,
    makes the same symbols and prints the same sum. A list is a block that is allocated at its whole size
    once a round and freed at the round's end, as elfkit's is.
 

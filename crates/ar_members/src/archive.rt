@@ -75,9 +75,9 @@ impl<S: Source> Ar<S> {
     ghost use Rattle.ar_members.specs.Headers.{member_at, header_asks, BodyLies, HasBody, IsBadAt};
     ghost use Rattle.ar_members.specs.Symbols.{arsyms, symbols_due};
 
-    /// Begins a walk over an archive. It asks for 8 bytes at most, and takes no memory.
+    /// Begins a walk over an archive. It reads 8 bytes at most, and takes no memory.
     ///
-    /// It refuses `Short` where there are fewer than 8 bytes, `Magic` where the first 8 are not
+    /// It fails with `Short` where there are fewer than 8 bytes, `Magic` where the first 8 are not
     /// `!<arch>` and a newline, and `TooLarge` above 2^40 bytes, in this order, and hands the
     /// source back. `Read` may come before the last two.
     pub fn begin(alloc: Global, mut src: S) -> Result<Ar<S>, (S, ElfError)>
@@ -104,11 +104,11 @@ impl<S: Source> Ar<S> {
     /// header of 60 bytes after another, and the tables of long names.
     ///
     /// `BadMember` comes exactly where the header at that place is cut, has other end bytes, a bad
-    /// number, a bad name, or a body past the end; every later call then answers the same, and
-    /// reads nothing. After `Memory` or `Read`, which may come at any step, the walk stands where
-    /// it stood.
+    /// number, a bad name, or a body past the end; every later call then returns the same, and
+    /// reads nothing. After `Memory` or `Read`, which may come at any step, the walk is where it
+    /// was.
     ///
-    /// Where it answers, what was asked for and what is left of the walk do not rise, so that a
+    /// Where it succeeds, what was asked for and what is left of the walk do not rise, so that a
     /// whole walk asks for each header and each table of long names once.
     pub fn next(&mut self) -> Result<Option<ArHdr>, ElfError>
         ensures members { IfSome (S.holds self.old.source) (λ image.
@@ -156,7 +156,7 @@ impl<S: Source> Ar<S> {
     }
 
     /// The symbols of the first member, where that is the table of symbols; else the empty list. It
-    /// reads the first header and that table. The walk stands where it stood.
+    /// reads the first header and that table. The walk is where it was.
     ///
     /// `BadMember { at: 8 }` comes exactly where there is a byte at place 8 and the header there is
     /// bad, or where the table does not begin with a big-endian count of four bytes, so many
@@ -176,7 +176,7 @@ impl<S: Source> Ar<S> {
     }
 
     /// A source over the body of the member whose header is at a place. It does not look at the
-    /// name, asks for 60 bytes at most, and takes no memory. The walk stands where it stood.
+    /// name, reads 60 bytes at most, and takes no memory. The walk is where it was.
     ///
     /// `BadMember` comes exactly where the header is cut, has other end bytes, a bad number, or a
     /// body past the end; it and `Read` hand the archive back.
@@ -202,7 +202,7 @@ impl<S: Source> Ar<S> {
 
     /// A source over the body of a member whose header is known, as `next` gives it: the range that
     /// the header tells, which lies in the archive. Nothing is read, and it takes no memory. The
-    /// walk stands where it stood.
+    /// walk is where it was.
     pub fn body(self, header: &ArHdr) -> Window<Ar<S>>
         requires { header.now.body + header.now.size ≤ S.size self.source }
         ensures inner { result.inner ≡ self }

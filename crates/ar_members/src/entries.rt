@@ -16,7 +16,7 @@ use elf_outside::reads::read_range;
 use elf_types::{ElfError, Octets};
 use std::alloc::Global;
 
-/// What stands at a place.
+/// What is at a place.
 #[derive(Drop)]
 pub enum Entry {
     /// A member.
@@ -30,7 +30,7 @@ pub enum Entry {
 /// An entry, and the place of the header after it.
 #[derive(Drop)]
 pub struct Step {
-    /// What stands at the place.
+    /// What is at the place.
     pub entry: Entry,
     /// The place of the next header.
     pub next: u64,
@@ -78,8 +78,8 @@ fn named_entry<S: Source>(
     }
 }
 
-/// The step at a place, after the long names before it. It asks for one header and for the body of
-/// a table of long names.
+/// The step at a place, after the long names before it. It reads one header and the body of a table
+/// of long names.
 ///
 /// `BadMember` comes exactly where the header is cut, has other end bytes, a bad number, a bad name
 /// or a body past the end.

@@ -20,7 +20,7 @@ use std::alloc::Global;
 /// The bytes of a header.
 pub const HEADER_LEN: usize = 60;
 
-/// The place of the first header: what stands before it is `ARMAG`.
+/// The place of the first header: what is before it is `ARMAG`.
 pub const FIRST: u64 = 8;
 
 /// A header as it was read: its bytes, and its numbers.
@@ -62,7 +62,7 @@ pub struct ArHdr {
     pub mode: u32,
 }
 
-/// The header of the member at a place, as it is shown. It refuses `Memory` alone.
+/// The header of the member at a place, as it is shown. It fails with `Memory` alone.
 pub fn shown_header(
     alloc: Global,
     at: u64,
@@ -117,8 +117,8 @@ fn header_in(at: u64, bytes: [u8; HEADER_LEN], room: u64) -> Result<Header, ElfE
     Ok(Header { bytes, numbers })
 }
 
-/// Reads the header at a place. It does not look at the name. It asks for 60 bytes, or for none
-/// where the header is cut, and takes no memory.
+/// Reads the header at a place. It does not look at the name. It reads 60 bytes, or none where the
+/// header is cut, and takes no memory.
 ///
 /// `BadMember` comes where the header is cut, has other end bytes, a bad number, or a body past the
 /// end.
@@ -136,7 +136,7 @@ pub fn read_header<S: Source>(src: &mut S, at: u64) -> Result<Header, ElfError>
     header_in(at, bytes, size - HEADER_LEN as u64 - at)
 }
 
-/// Each constant is the number, or the bytes, that stand beside its name in the tables of
+/// Each constant is the number, or the bytes, that are beside its name in the tables of
 /// specs/Constants. It is for the reader and for proofs, and does nothing.
 pub fn constants_are()
     ensures lengths { are_numbers lengths ≡ true }

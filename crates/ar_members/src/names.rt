@@ -30,7 +30,7 @@ pub enum NameKind {
     Symbols64,
     /// A slash and a number: the name at that offset in the table of long names.
     Long(u64),
-    /// The name stands in the field.
+    /// The name is in the field.
     Short,
 }
 
@@ -69,8 +69,8 @@ pub fn name_kind(field: &[u8]) -> Option<NameKind>
     Some(NameKind::Short)
 }
 
-/// The name that stands in a field: up to its first slash, or without trailing spaces where there
-/// is none. One that begins with `#1/`, which says where BSD keeps the name, is whole.
+/// The name that is in a field: up to its first slash, or without trailing spaces where there is
+/// none. One that begins with `#1/`, which says where BSD keeps the name, is whole.
 #[tactic(auto, unfolding(crate::specs::Names::short_name_of))]
 pub fn short_name(field: &[u8]) -> &[u8]
     ensures { result.now ≡ short_name_of field.now }
@@ -85,7 +85,7 @@ pub fn short_name(field: &[u8]) -> &[u8]
     }
 }
 
-/// What stands before the first slash that a newline follows. None where there is none.
+/// What is before the first slash that a newline follows. None where there is none.
 #[tactic(auto, unfolding(crate::specs::Names::ends_name))]
 fn up_to_end(text: &[u8]) -> Option<&[u8]>
     ensures { option_copied result ≡ up_to_end text.now }

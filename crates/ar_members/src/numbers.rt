@@ -39,8 +39,8 @@ fn is_blank(bytes: &[u8]) -> bool
     bytes.iter().all(|b| *b == b' ')
 }
 
-/// The number of a field: digits of the base, then spaces up to the end; 0 where it is blank.
-/// None where anything else stands there.
+/// The number of a field: digits of the base, then spaces up to the end; 0 where it is blank. None
+/// where anything else is there.
 pub fn number(field: &[u8], base: u8) -> Option<u64>
     requires short { length field.now ≤ 15 }
     requires base { base ≤ 10 }

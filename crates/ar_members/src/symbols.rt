@@ -16,7 +16,7 @@ use elf_outside::reads::read_range;
 use elf_types::{ElfError, List, Octets};
 use std::alloc::Global;
 
-/// What a bad table is refused as: it is the first member.
+/// What a bad table is rejected as: it is the first member.
 const BAD_TABLE: ElfError = ElfError::BadMember { at: FIRST };
 
 /// A symbol of the table.

@@ -19,10 +19,10 @@ use Rattle.tool_output.specs.Names.{Name}
 use Rattle.tool_output.specs.Reports.{Reports, refusal_report}
 use Rattle.tool_output.specs.Sources.{ReportsOn}
 use Rattle.tool_output.proofs.SourceLemmas.{stated_error, refuses_after}
-use Rattle.object_output.specs.Images.{file_object}
-use Rattle.object_output.specs.Refusals.{Refuses}
-use Rattle.object_output.proofs.SourceSteps.{leaves_then, rose_from_first}
-use Rattle.calls_script.specs.declared.calls.Call.{Call}
+use Rattle.tool_objects.specs.Images.{file_object}
+use Rattle.tool_objects.specs.Refusals.{ReportsRefusal}
+use Rattle.tool_objects.proofs.SourceSteps.{leaves_then, rose_from_first}
+use Rattle.elf_calls_script.specs.declared.calls.Call.{Call}
 use Rattle.calls_tool.specs.Reads.{read_by, homes_read}
 use Rattle.calls_tool.specs.Runs.{stated_calls, RunsCalls}
 use Rattle.calls_tool.specs.Files.{calls_file_report, calls_asks}
@@ -68,7 +68,7 @@ module _ {S O E : Type 0} (s : SourceGhosts S) (o : SinkGhosts O) (e : SinkGhost
 
   -- what is no image is refused
   pub calls_refused : (r : Result Bool Stop) (src after : S) (t u : Outputs O E) (n : ℕ) (d : ElfError) → Asks {T = Object} s (Err d) src after n
-      → IfSome (s.holds src) (λ image. Follows {T = Object} (Err d) (file_object image)) → Refuses o e (codes "calls") name d r t u
+      → IfSome (s.holds src) (λ image. Follows {T = Object} (Err d) (file_object image)) → ReportsRefusal o e (codes "calls") name d r t u
       → ReportsOn s o e (calls_file_report cs name) r src after t u
   unfolding calls_file_report
   calls_refused r src after t u n d asks stated refused =

@@ -4,8 +4,8 @@ use Rattle.std.specs.Prelude.{if◌then◌else◌, ◌==◌, ◌&&◌}
 use Rattle.std.proofs.lemmas.Bool.{eqb-true, cases_lt}
 use Rattle.elf_layout.specs.declared.parts.Places.{Places}
 use Rattle.symbol_lookup.specs.elf_object.Layout.{places_of, placed_section, placed_by, placed}
-use Rattle.symbol_lookup.proofs.object_laws.ImageLaws.{section_at-placed, placed-dirty, placed-clean}
-use Rattle.symbol_lookup.proofs.object_laws.StandLaws.{section_count-placed, section_at-past}
+use Rattle.symbol_lookup.proofs.law_object.ImageLaws.{section_at-placed, placed-dirty, placed-clean}
+use Rattle.symbol_lookup.proofs.law_object.StandLaws.{section_count-placed, section_at-past}
 use Rattle.elf_types.specs.declared.records.Part.{Part}
 use Rattle.elf_types.specs.declared.records.Part.TheVariants as part
 use Rattle.elf_types.specs.declared.records.Ehdr.{Ehdr}

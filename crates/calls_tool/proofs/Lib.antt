@@ -1,4 +1,4 @@
-pub mod HomeSteps
+mod HomeSteps
 mod StatedSteps
 mod ReadLemmas
 mod RunLemmas

@@ -11,8 +11,8 @@ use Rattle.symbol_lookup.specs.elf_object.Calls.{step}
 use Rattle.symbol_lookup.specs.elf_descriptor.State.{State}
 use Rattle.symbol_lookup.proofs.SearchLaws.{one_stays}
 use Rattle.tool_output.specs.declared.stops.Stop.{Stop}
-use Rattle.calls_tool.specs.Reads.{read_by, LeavesState, ReadsHomes}
-use Rattle.object_output.proofs.OnceSums.{has, Once, sums_same, sum_within, went_within, first_in_both, second_in_both, is_out}
+use Rattle.calls_tool.specs.Reads.{read_by, LeavesState, ReadsDueHomes}
+use Rattle.tool_objects.proofs.OnceSums.{has, Once, sums_same, sum_within, went_within, first_in_both, second_in_both, is_out}
 use Rattle.calls_tool.proofs.HomeSteps.{KeepsHomes}
 
 -- ---- What is due
@@ -90,14 +90,14 @@ module _ {S : Type 0} (g : Ghosts S) where
     stays = λ i is. k.stays i (h.stays i is);
   }
 
-  pub reads_none : {T : Type 0} (x : T) (a : State S) (l : List ℕ) → ReadsHomes {T = T} g (Ok x) a a l
+  pub reads_none : {T : Type 0} (x : T) (a : State S) (l : List ℕ) → ReadsDueHomes {T = T} g (Ok x) a a l
   reads_none x a l = record { loads = λ i out. refl; became = omega arith; bound = omega arith }
 
   module _ {T U V : Type 0} (a b c : State S) (all some : List ℕ) (homes : KeepsHomes a.o b.o) (once : Once some)
-      (sub : (z : ℕ) → has some z ≡ true → has all z ≡ true) (x : T) (first : ReadsHomes {T = T} g (Ok x) a b all) where
+      (sub : (z : ℕ) → has some z ≡ true → has all z ≡ true) (x : T) (first : ReadsDueHomes {T = T} g (Ok x) a b all) where
     -- a step that comes to its end, after others
-    pub reads_more : (y : U) (z : V) → ((i : ℕ) → IsTrue (is_loaded b.loaded i) → IsTrue (is_loaded c.loaded i)) → ReadsHomes {T = U} g (Ok y) b c some
-        → ReadsHomes {T = V} g (Ok z) a c all
+    pub reads_more : (y : U) (z : V) → ((i : ℕ) → IsTrue (is_loaded b.loaded i) → IsTrue (is_loaded c.loaded i)) → ReadsDueHomes {T = U} g (Ok y) b c some
+        → ReadsDueHomes {T = V} g (Ok z) a c all
     unfolding homes_due
     reads_more y z stays next =
         let before = dues_same a.o b.o b.loaded some homes in
@@ -112,7 +112,7 @@ module _ {S : Type 0} (g : Ghosts S) where
         }
 
     -- or one that stops
-    pub reads_stop : (stop : Stop) → ReadsHomes {T = U} g (Err stop) b c some → ReadsHomes {T = V} g (Err stop) a c all
+    pub reads_stop : (stop : Stop) → ReadsDueHomes {T = U} g (Err stop) b c some → ReadsDueHomes {T = V} g (Err stop) a c all
     unfolding homes_due
     reads_stop stop next =
         let before = dues_same a.o b.o b.loaded some homes in

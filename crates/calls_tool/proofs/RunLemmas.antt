@@ -19,21 +19,21 @@ use Rattle.tool_output.specs.declared.stops.Stop.{Stop}
 use Rattle.tool_output.specs.declared.stops.Stop.TheVariants as stops
 use Rattle.tool_output.specs.declared.outputs.Outputs.{Outputs}
 use Rattle.tool_output.specs.Stops.{stop_of}
-use Rattle.tool_output.specs.Reports.{Reports, UnderWay, no_report, joined, all_joined, reports_of}
+use Rattle.tool_output.specs.Reports.{Reports, UnderWay, no_report, joined_reports, all_reports_joined, reports_of}
 use Rattle.tool_output.specs.Steps.{KeepsSinks, LeavesOutputs}
 use Rattle.tool_output.proofs.StepLemmas.{keeps_none, keeps_then}
 use Rattle.tool_output.proofs.SourceLemmas.{reads_weaker}
 use Rattle.tool_output.proofs.ReportLemmas.{reports_nothing}
 use Rattle.tool_output.proofs.UnderWayLemmas.{begins, goes_on, stops_at, is_given}
-use Rattle.object_output.specs.Steps.{SourceRose}
-use Rattle.object_output.proofs.SourceSteps.{left_after}
-use Rattle.calls_script.specs.declared.calls.Call.{Call}
-use Rattle.calls_apply.specs.declared.answers.Answer.{Answer}
-use Rattle.calls_apply.specs.Stated.{stated}
-use Rattle.calls_apply.specs.Applies.{Meets, Leaves, at_any_step}
-use Rattle.calls_tool.specs.Reads.{read_by, LeavesState, ReadsHomes}
-use Rattle.calls_tool.specs.Runs.{stated_calls, answer_report, calls_report, stop_in, ShowsAnswer, RunsCall, IsFrontOf, RunsCalls}
-use Rattle.object_output.proofs.OnceSums.{has}
+use Rattle.tool_objects.specs.Steps.{SourceRose}
+use Rattle.tool_objects.proofs.SourceSteps.{left_after}
+use Rattle.elf_calls_script.specs.declared.calls.Call.{Call}
+use Rattle.elf_calls_apply.specs.declared.answers.Answer.{Answer}
+use Rattle.elf_calls_apply.specs.Stated.{stated_call}
+use Rattle.elf_calls_apply.specs.Applies.{Meets, LeavesObject, at_any_step}
+use Rattle.calls_tool.specs.Reads.{read_by, LeavesState, ReadsDueHomes}
+use Rattle.calls_tool.specs.Runs.{stated_calls, answer_report, calls_report, stop_in, ShowsAnswer, RunsCall, IsLeftByFirstCalls, RunsCalls}
+use Rattle.tool_objects.proofs.OnceSums.{has}
 use Rattle.calls_tool.proofs.HomeSteps.{KeepsHomes, homes_same, homes_then}
 use Rattle.calls_tool.proofs.StatedSteps.{stated_keeps, stated_once}
 use Rattle.calls_tool.proofs.ReadLemmas.{next_reads, rest_reads, state_none, state_then, reads_none, reads_more, reads_stop}
@@ -57,7 +57,7 @@ settled (Err Write) none = cc
 settled (Err e) none = tt
 
 -- the object is then the stepped one
-step_is : (c : calls.Call Answer) (changed : Option _) (w : Result Answer ElfError) (old new : Object) → c.answer old ≡ w → Leaves true c changed w old new → new ≡ step c old
+step_is : (c : calls.Call Answer) (changed : Option _) (w : Result Answer ElfError) (old new : Object) → c.answer old ≡ w → LeavesObject true c changed w old new → new ≡ step c old
 step_is c changed (Err e) old new is left = left ∙ sym (step_err c old e is)
 step_is c None (Ok x) old new is left = left ∙ sym (step_ok c old x is)
 step_is c (Some d) (Ok x) old new is left = left.0 refl ∙ sym (step_ok c old x is)
@@ -89,7 +89,7 @@ module _ {S O E : Type 0} (s : SourceGhosts S) (o : SinkGhosts O) (e : SinkGhost
   }
 
   reads_after : (w : Result Answer ElfError) (r : Result Bool Stop) → OnOk r (IfErr w IsRefusal) → Meets s c refusals (shows || old.told) changed holding w old new
-      → ReadsHomes s r old new (c.reads old.o)
+      → ReadsDueHomes s r old new (c.reads old.o)
   reads_after w (Ok x) refused meets = record {
     loads = meets.reads.loads;
     became = meets.reads.first_use refused;
@@ -118,7 +118,7 @@ module _ {S O E : Type 0} (s : SourceGhosts S) (o : SinkGhosts O) (e : SinkGhost
           (subst (λ (b : Bool). AnswersRead b at_any_step refusals w (c.answer old.o)) (told_exact shows old.told told) meets.answers)
 
       stepped : IsTrue old.told → new.o ≡ step c old.o
-      stepped told = step_is c changed w old.o new.o (stated_is told) (subst (λ (b : Bool). Leaves b c changed w old.o new.o) told meets.leaves)
+      stepped told = step_is c changed w old.o new.o (stated_is told) (subst (λ (b : Bool). LeavesObject b c changed w old.o new.o) told meets.leaves)
 
   -- or it stops the run
   halted : (d : ElfError) (stop : Stop) → stop_of d ≡ Some stop → Meets s c refusals (shows || old.told) changed holding (Err d) old new
@@ -149,26 +149,26 @@ module _ {S O E : Type 0} (s : SourceGhosts S) (o : SinkGhosts O) (e : SinkGhost
 
 -- ---- What is left of the calls
 
-report_cons : (q : Call) (cs : List Call) (o : Object) → calls_report (q ∷ cs) o ≡ joined (answer_report ((stated q).answer o)) (calls_report cs (step (stated q) o))
-unfolding calls_report reports_of all_joined answers_to
+report_cons : (q : Call) (cs : List Call) (o : Object) → calls_report (q ∷ cs) o ≡ joined_reports (answer_report ((stated_call q).answer o)) (calls_report cs (step (stated_call q) o))
+unfolding calls_report reports_of all_reports_joined answers_to
 report_cons q cs o = refl
 
 report_nil : (o : Object) → calls_report [] o ≡ no_report
-unfolding calls_report reports_of all_joined answers_to
+unfolding calls_report reports_of all_reports_joined answers_to
 report_nil o = refl
 
 module _ (cs : List Call) (i : ℕ) (q : Call) (o : Object) (lt : i < length cs) (is : q ≡ get_or cs i q) where
-  report_left : calls_report (drop i cs) o ≡ joined (answer_report ((stated q).answer o)) (calls_report (drop (i + 1) cs) (step (stated q) o))
+  report_left : calls_report (drop i cs) o ≡ joined_reports (answer_report ((stated_call q).answer o)) (calls_report (drop (i + 1) cs) (step (stated_call q) o))
   report_left =
       at_drop_more (λ l. calls_report l o) cs i q lt ∙ ap (λ (d : Call). calls_report (d ∷ drop (i + 1) cs) o) (sym is) ∙ report_cons q (drop (i + 1) cs) o
 
-left_last : (cs : List Call) (q : Call) (o : Object) → left_by (stated_calls (cs ++ q ∷ [])) o ≡ step (stated q) (left_by (stated_calls cs) o)
+left_last : (cs : List Call) (q : Call) (o : Object) → left_by (stated_calls (cs ++ q ∷ [])) o ≡ step (stated_call q) (left_by (stated_calls cs) o)
 unfolding left_by
 left_last [] q o = refl
-left_last (d ∷ cs) q o = left_last cs q (step (stated d) o)
+left_last (d ∷ cs) q o = left_last cs q (step (stated_call d) o)
 
 left_more : (cs : List Call) (i : ℕ) (q : Call) (o : Object) → i < length cs → q ≡ get_or cs i q
-    → left_by (stated_calls (take (i + 1) cs)) o ≡ step (stated q) (left_by (stated_calls (take i cs)) o)
+    → left_by (stated_calls (take (i + 1) cs)) o ≡ step (stated_call q) (left_by (stated_calls (take i cs)) o)
 left_more cs i q o lt is =
     ap (λ (l : List Call). left_by (stated_calls l) o) (take_more cs i q lt ∙ ap (λ (d : Call). take i cs ++ d ∷ []) (sym is)) ∙ left_last (take i cs) q o
 
@@ -176,21 +176,21 @@ left_none : (cs : List Call) (o : Object) → o ≡ left_by (stated_calls (take 
 unfolding left_by
 left_none cs o = refl
 
-cons_reads : (q : Call) (cs : List Call) (o : Object) (x : ℕ) → has ((stated q).reads o) x ≡ true → has (read_by (stated_calls (q ∷ cs)) o) x ≡ true
-cons_reads q cs o x is = next_reads (stated_calls (q ∷ cs)) 0 (stated q) o x (omega arith) refl is
+cons_reads : (q : Call) (cs : List Call) (o : Object) (x : ℕ) → has ((stated_call q).reads o) x ≡ true → has (read_by (stated_calls (q ∷ cs)) o) x ≡ true
+cons_reads q cs o x is = next_reads (stated_calls (q ∷ cs)) 0 (stated_call q) o x (omega arith) refl is
 
-cons_rest : (q : Call) (cs : List Call) (o : Object) (x : ℕ) → has (read_by (stated_calls cs) (step (stated q) o)) x ≡ true
+cons_rest : (q : Call) (cs : List Call) (o : Object) (x : ℕ) → has (read_by (stated_calls cs) (step (stated_call q) o)) x ≡ true
     → has (read_by (stated_calls (q ∷ cs)) o) x ≡ true
-cons_rest q cs o x is = rest_reads (stated_calls (q ∷ cs)) 0 (stated q) o x (omega arith) refl is
+cons_rest q cs o x is = rest_reads (stated_calls (q ∷ cs)) 0 (stated_call q) o x (omega arith) refl is
 
 module _ (cs : List Call) (i : ℕ) (q : Call) (o : Object) (x : ℕ) (lt : i < length cs) (is : q ≡ get_or cs i q) where
   at_call : has (read_by (stated_calls (drop i cs)) o) x ≡ has (read_by (stated_calls (q ∷ drop (i + 1) cs)) o) x
   at_call = at_drop_more (λ (l : List Call). has (read_by (stated_calls l) o) x) cs i q lt ∙ ap (λ (d : Call). has (read_by (stated_calls (d ∷ drop (i + 1) cs)) o) x) (sym is)
 
-  call_reads : has ((stated q).reads o) x ≡ true → has (read_by (stated_calls (drop i cs)) o) x ≡ true
+  call_reads : has ((stated_call q).reads o) x ≡ true → has (read_by (stated_calls (drop i cs)) o) x ≡ true
   call_reads here = at_call ∙ cons_reads q (drop (i + 1) cs) o x here
 
-  later_reads : has (read_by (stated_calls (drop (i + 1) cs)) (step (stated q) o)) x ≡ true → has (read_by (stated_calls (drop i cs)) o) x ≡ true
+  later_reads : has (read_by (stated_calls (drop (i + 1) cs)) (step (stated_call q) o)) x ≡ true → has (read_by (stated_calls (drop i cs)) o) x ≡ true
   later_reads there = at_call ∙ cons_rest q (drop (i + 1) cs) o x there
 
 -- ---- The loop
@@ -202,7 +202,7 @@ pub record RunUnderWay {S O E : Type 0} (s : SourceGhosts S) (o : SinkGhosts O) 
   pub left : IsTrue old.told → new.o ≡ left_by (stated_calls (take i cs)) old.o
   pub homes : IsTrue old.told → KeepsHomes old.o new.o
   pub within : IsTrue old.told → (x : ℕ) → has (read_by (stated_calls (drop i cs)) new.o) x ≡ true → has (read_by (stated_calls cs) old.o) x ≡ true
-  pub reads : IsTrue old.told → ReadsHomes s (Ok refused) old new (read_by (stated_calls cs) old.o)
+  pub reads : IsTrue old.told → ReadsDueHomes s (Ok refused) old new (read_by (stated_calls cs) old.o)
   pub state : LeavesState s old new
   pub keeps : KeepsSinks o e t u
 
@@ -225,45 +225,45 @@ module _ {S O E : Type 0} {s : SourceGhosts S} {o : SinkGhosts O} {e : SinkGhost
 
   module _ {c : State S} {v : Outputs O E} (q : Call) (lt : i < length cs) (is : q ≡ get_or cs i q) where
     -- the next call is run
-    pub run_goes_on : {y z : Bool} → RunsCall s o e (stated q) (Ok y) b c u v → z ≡ (refused || y) → RunUnderWay s o e cs (i + 1) z a c t v
+    pub run_goes_on : {y z : Bool} → RunsCall s o e (stated_call q) (Ok y) b c u v → z ≡ (refused || y) → RunUnderWay s o e cs (i + 1) z a c t v
     run_goes_on {y} {z} k or = record {
       report = λ told.
-          goes_on (h.report told) (answer_report ((stated q).answer b.o)) (calls_report (drop (i + 1) cs) c.o)
-          (report_left cs i q b.o lt is ∙ ap (λ (m : Object). joined (answer_report ((stated q).answer b.o)) (calls_report (drop (i + 1) cs) m)) (sym (k.left (told_on told))))
+          goes_on (h.report told) (answer_report ((stated_call q).answer b.o)) (calls_report (drop (i + 1) cs) c.o)
+          (report_left cs i q b.o lt is ∙ ap (λ (m : Object). joined_reports (answer_report ((stated_call q).answer b.o)) (calls_report (drop (i + 1) cs) m)) (sym (k.left (told_on told))))
           (k.lines (told_on told)) or;
       left = λ told.
-          k.left (told_on told) ∙ ap (step (stated q)) (h.left told) ∙ sym (left_more cs i q a.o lt is);
+          k.left (told_on told) ∙ ap (step (stated_call q)) (h.left told) ∙ sym (left_more cs i q a.o lt is);
       homes = λ told.
           homes_then a.o b.o c.o (h.homes told) (subst (KeepsHomes b.o) (sym (k.left (told_on told))) (stated_keeps q b.o));
       within = λ told x there.
           h.within told x (later_reads cs i q b.o x lt is (subst (λ (m : Object). has (read_by (stated_calls (drop (i + 1) cs)) m) x ≡ true) (k.left (told_on told)) there));
       reads = λ told.
-          reads_more s a b c (read_by (stated_calls cs) a.o) ((stated q).reads b.o) (h.homes told) (stated_once q b.o)
+          reads_more s a b c (read_by (stated_calls cs) a.o) ((stated_call q).reads b.o) (h.homes told) (stated_once q b.o)
           (λ x here. h.within told x (call_reads cs i q b.o x lt is here)) refused (h.reads told) y z k.state.stays k.reads;
       state = state_then s a b c h.state k.state;
       keeps = keeps_then o e t u v h.keeps k.leaves.keeps;
     }
 
     -- or stops the run
-    pub run_stops : {stop : Stop} → RunsCall s o e (stated q) (Err stop) b c u v → RunsCalls s o e cs (Err stop) a c t v
+    pub run_stops : {stop : Stop} → RunsCall s o e (stated_call q) (Err stop) b c u v → RunsCalls s o e cs (Err stop) a c t v
     run_stops {stop} k = record {
       lines = λ told.
-          stops_at (h.report told) (answer_report ((stated q).answer b.o)) (calls_report (drop (i + 1) cs) (step (stated q) b.o)) (report_left cs i q b.o lt is) (k.lines (told_on told));
+          stops_at (h.report told) (answer_report ((stated_call q).answer b.o)) (calls_report (drop (i + 1) cs) (step (stated_call q) b.o)) (report_left cs i q b.o lt is) (k.lines (told_on told));
       left = λ told. tt;
       stopped = λ told. by_object told (k.stopped (told_on told));
       reads = λ told.
-          reads_stop s a b c (read_by (stated_calls cs) a.o) ((stated q).reads b.o) (h.homes told) (stated_once q b.o)
+          reads_stop s a b c (read_by (stated_calls cs) a.o) ((stated_call q).reads b.o) (h.homes told) (stated_once q b.o)
           (λ x here. h.within told x (call_reads cs i q b.o x lt is here)) refused (h.reads told) stop k.reads;
       state = state_then s a b c h.state k.state;
       leaves = left_after o e (Err stop) (s.faults a.source) (s.faults b.source) (s.faults c.source) t u v h.state.later h.keeps k.leaves;
     }
       where
-        by_object : IsTrue a.told → (c.o ≡ b.o) ⊎ (c.o ≡ step (stated q) b.o) → IsFrontOf cs a.o c.o
+        by_object : IsTrue a.told → (c.o ≡ b.o) ⊎ (c.o ≡ step (stated_call q) b.o) → IsLeftByFirstCalls cs a.o c.o
         by_object told (inl same) = record { count = i; within = omega (arith, lt); left = same ∙ h.left told }
         by_object told (inr stepped) = record {
           count = i + 1;
           within = omega (arith, lt);
-          left = stepped ∙ ap (step (stated q)) (h.left told) ∙ sym (left_more cs i q a.o lt is);
+          left = stepped ∙ ap (step (stated_call q)) (h.left told) ∙ sym (left_more cs i q a.o lt is);
         }
 
   -- all calls were run

@@ -16,11 +16,11 @@ use Rattle.tool_output.specs.Names.{Name}
 use Rattle.tool_output.specs.Reports.{no_report, refusal_report}
 use Rattle.tool_output.specs.Steps.{Performs, LeavesOutputs, OnRead, OnWrite}
 use Rattle.tool_output.proofs.StepLemmas.{keeps_none, went_none, writes_went, writes_nothing}
-use Rattle.calls_script.specs.declared.calls.Call.{Call}
-use Rattle.calls_script.specs.declared.faults.Why.{Why}
-use Rattle.calls_script.specs.declared.faults.Why.TheVariants.{TooLong}
-use Rattle.calls_script.specs.declared.script.TheConstants.{MAX_SCRIPT}
-use Rattle.calls_script.specs.Script.{calls_from, lines_of, calls_of}
+use Rattle.elf_calls_script.specs.declared.calls.Call.{Call}
+use Rattle.elf_calls_script.specs.declared.faults.Why.{Why}
+use Rattle.elf_calls_script.specs.declared.faults.Why.TheVariants.{TooLong}
+use Rattle.elf_calls_script.specs.declared.script.TheConstants.{MAX_SCRIPT}
+use Rattle.elf_calls_script.specs.Script.{calls_from, lines_of, calls_of}
 use Rattle.calls_tool.specs.declared.scripts.BadLine.{BadLine}
 use Rattle.calls_tool.specs.Scripts.{bad_line_text, with_line, script_calls, IsScript, ReadsScript, calls_or_text, script_report, calls_if_any, TellsScript}
 

@@ -10,14 +10,14 @@ use Rattle.symbol_lookup.specs.elf_object.Due.{unless_refused, when_clean, when_
 use Rattle.symbol_lookup.specs.elf_object.Runs.{looked, after_look, set_item, added}
 use Rattle.symbol_lookup.specs.elf_object.Steps.{with_own}
 use Rattle.symbol_lookup.specs.Lookups.{link_of, linear_needs, linear_refusal, table_homes}
-use Rattle.calls_script.specs.declared.calls.Call.{Call}
-use Rattle.calls_script.specs.declared.calls.Call.TheVariants as call
-use Rattle.calls_script.specs.declared.calls.ItemSet.{ItemSet}
-use Rattle.calls_script.specs.declared.calls.ItemSet.TheVariants as set
-use Rattle.calls_apply.specs.Fields.{ehdr_with, phdr_with, shdr_with, sym_with, rel_with, rela_with, dyn_with}
-use Rattle.calls_apply.specs.Stated.{stated, item_set}
-use Rattle.object_output.proofs.OnceSums.{Once, once_none, once_one, once_others}
-use Rattle.object_output.proofs.OnceReads.{once_unless, once_piece, once_clean, once_read}
+use Rattle.elf_calls_script.specs.declared.calls.Call.{Call}
+use Rattle.elf_calls_script.specs.declared.calls.Call.TheVariants as call
+use Rattle.elf_calls_script.specs.declared.calls.ItemSet.{ItemSet}
+use Rattle.elf_calls_script.specs.declared.calls.ItemSet.TheVariants as set
+use Rattle.elf_calls_apply.specs.Fields.{ehdr_with, phdr_with, shdr_with, sym_with, rel_with, rela_with, dyn_with}
+use Rattle.elf_calls_apply.specs.Stated.{stated_call, item_set_call}
+use Rattle.tool_objects.proofs.OnceSums.{Once, once_none, once_one, once_others}
+use Rattle.tool_objects.proofs.OnceReads.{once_unless, once_piece, once_clean, once_read}
 use Rattle.calls_tool.proofs.HomeSteps.{KeepsHomes, homes_same, keeps_placed, keeps_ehdr, keeps_phdr, keeps_shdr, keeps_own, keeps_or_same, keeps_look, keeps_new_section, keeps_new_phdrs, keeps_new_piece, keeps_fill, keeps_flags}
 
 -- ---- What is left
@@ -34,8 +34,8 @@ keeps_set : {A : Type 0} (get : calls.Call A) (update : A → calls.Call (Unit {
     → ((x : A) → KeepsHomes o ((update x).after o)) → KeepsHomes o ((set_item get update change).after o)
 keeps_set get update change o keeps = keeps_look o (get.answer o) (λ x. (update (change x)).after o) (λ x. keeps (change x))
 
-keeps_item : (v : ItemSet) (s p i : ℕ) (o : Object) → KeepsHomes o ((item_set v s p i).after o)
-unfolding item_set
+keeps_item : (v : ItemSet) (s p i : ℕ) (o : Object) → KeepsHomes o ((item_set_call v s p i).after o)
+unfolding item_set_call
 keeps_item (set.Half v) s p i o = keeps_set (calls.half s p i) (calls.update_half s p i) _ o (λ x. keeps_own o s p _)
 keeps_item (set.Word v) s p i o = keeps_set (calls.word s p i) (calls.update_word s p i) _ o (λ x. keeps_own o s p _)
 keeps_item (set.Addr v) s p i o = keeps_set (calls.addr s p i) (calls.update_addr s p i) _ o (λ x. keeps_own o s p _)
@@ -55,8 +55,8 @@ keeps_item (set.RelaAddend v) s p i o = keeps_set (calls.rela s p i) (calls.upda
 keeps_item (set.DynTag v) s p i o = keeps_set (calls.dynent s p i) (calls.update_dynent s p i) _ o (λ x. keeps_own o s p _)
 keeps_item (set.DynVal v) s p i o = keeps_set (calls.dynent s p i) (calls.update_dynent s p i) _ o (λ x. keeps_own o s p _)
 
-keeps_after : (q : Call) (o : Object) → KeepsHomes o ((stated q).after o)
-unfolding stated
+keeps_after : (q : Call) (o : Object) → KeepsHomes o ((stated_call q).after o)
+unfolding stated_call
 keeps_after call.Ehdr o = homes_same o
 keeps_after (call.Phdr i) o = homes_same o
 keeps_after (call.Shdr s) o = homes_same o
@@ -83,8 +83,8 @@ keeps_after (call.Replace d bytes) o = keeps_own o d.section d.piece (items.Byte
 keeps_after (call.Flag part mark bits) o = keeps_flags o part mark bits
 keeps_after call.Null o = keeps_placed o
 
-pub stated_keeps : (q : Call) (o : Object) → KeepsHomes o (step (stated q) o)
-stated_keeps q o = keeps_step (stated q) o (keeps_after q o)
+pub stated_keeps : (q : Call) (o : Object) → KeepsHomes o (step (stated_call q) o)
+stated_keeps q o = keeps_step (stated_call q) o (keeps_after q o)
 
 -- ---- What is read
 
@@ -106,8 +106,8 @@ once_set : {A : Type 0} (get : calls.Call A) (update : A → calls.Call (Unit {0
     → Once ((set_item get update change).reads o)
 once_set get update change o one other = once_looked get (λ x. update (change x)) o one (λ x. other (change x))
 
-once_item : (v : ItemSet) (s p i : ℕ) (o : Object) → Once ((item_set v s p i).reads o)
-unfolding item_set
+once_item : (v : ItemSet) (s p i : ℕ) (o : Object) → Once ((item_set_call v s p i).reads o)
+unfolding item_set_call
 once_item (set.Half v) s p i o = once_set (calls.half s p i) (calls.update_half s p i) (λ x. v) o (once_read s p o _) (λ x. once_unless _ _ (once_piece o s p))
 once_item (set.Word v) s p i o = once_set (calls.word s p i) (calls.update_word s p i) (λ x. v) o (once_read s p o _) (λ x. once_unless _ _ (once_piece o s p))
 once_item (set.Addr v) s p i o = once_set (calls.addr s p i) (calls.update_addr s p i) (λ x. v) o (once_read s p o _) (λ x. once_unless _ _ (once_piece o s p))
@@ -127,8 +127,8 @@ once_item (set.RelaAddend v) s p i o = once_set (calls.rela s p i) (calls.update
 once_item (set.DynTag v) s p i o = once_set (calls.dynent s p i) (calls.update_dynent s p i) (dyn_with (set.DynTag v)) o (once_read s p o _) (λ x. once_unless _ _ (once_piece o s p))
 once_item (set.DynVal v) s p i o = once_set (calls.dynent s p i) (calls.update_dynent s p i) (dyn_with (set.DynVal v)) o (once_read s p o _) (λ x. once_unless _ _ (once_piece o s p))
 
-pub stated_once : (q : Call) (o : Object) → Once ((stated q).reads o)
-unfolding stated
+pub stated_once : (q : Call) (o : Object) → Once ((stated_call q).reads o)
+unfolding stated_call
 stated_once call.Ehdr o = once_none
 stated_once (call.Phdr i) o = once_none
 stated_once (call.Shdr s) o = once_none

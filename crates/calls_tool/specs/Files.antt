@@ -3,8 +3,8 @@ use Rattle.std.specs.Prelude.{ℕ, ◌+◌, List, codes, Ok, Err}
 use Rattle.symbol_lookup.specs.elf_ident.Front.{front_bytes}
 use Rattle.tool_output.specs.Names.{Name}
 use Rattle.tool_output.specs.Reports.{Report}
-use Rattle.object_output.specs.Images.{file_object, object_report}
-use Rattle.calls_script.specs.declared.calls.Call.{Call}
+use Rattle.tool_objects.specs.Images.{file_object, object_report}
+use Rattle.elf_calls_script.specs.declared.calls.Call.{Call}
 use Rattle.calls_tool.specs.Reads.{homes_read}
 use Rattle.calls_tool.specs.Runs.{calls_report, stated_calls}
 

@@ -3,3 +3,4 @@ pub mod Reads
 pub mod Runs
 pub mod Scripts
 pub mod Files
+pub mod Update

@@ -16,14 +16,14 @@ use Rattle.elf_types.specs.declared.records.Rela.{Rela as RelaRecord}
 use Rattle.elf_types.specs.declared.records.Dyn.{Dyn as DynRecord}
 use Rattle.elf_types.specs.declared.errors.ElfError.{ElfError}
 use Rattle.elf_types.specs.Text.{hex, kind_text, part_text, error_text}
-use Rattle.number_columns.specs.HexPairs.{hex_pair}
-use Rattle.calls_apply.specs.declared.answers.Item.{Item as ItemRecord}
-use Rattle.calls_apply.specs.declared.answers.Item.TheVariants as items
+use Rattle.tool_output.specs.Columns.HexPairs.{hex_pair}
+use Rattle.elf_calls_apply.specs.declared.answers.PieceItem.{PieceItem as ItemRecord}
+use Rattle.elf_calls_apply.specs.declared.answers.PieceItem.TheVariants as items
 use Rattle.symbol_lookup.specs.gelf_view.declared.notes.NoteAt.{NoteAt}
 use Rattle.calls_tool.specs.declared.lines.columns.Number.{Number}
 use Rattle.calls_tool.specs.declared.lines.columns.Number.TheVariants.{Decimal, Hex, Signed}
-use Rattle.calls_apply.specs.declared.answers.Answer.{Answer}
-use Rattle.calls_apply.specs.declared.answers.Answer.TheVariants.{Ehdr, Phdr, Shdr, Pieces, Data, Raw, Item, Str, Note, NoteEnd, Found, FoundNone, Done, Changed, Section, Piece, Flags, Size, Refused}
+use Rattle.elf_calls_apply.specs.declared.answers.Answer.{Answer}
+use Rattle.elf_calls_apply.specs.declared.answers.Answer.TheVariants.{Ehdr, Phdr, Shdr, Pieces, Data, Raw, Item, Str, Note, NoteEnd, Found, FoundNone, Done, Changed, Section, Piece, Flags, Size, Refused}
 
 -- ---- Columns
 
@@ -51,12 +51,12 @@ unfoldable pub class_text : Class → List ℕ
 class_text C32 = codes "ehdr class 32"
 class_text C64 = codes "ehdr class 64"
 
-unfoldable pub order_text : Order → List ℕ
-order_text Least = codes " order least"
-order_text Greatest = codes " order greatest"
+unfoldable pub ehdr_order_text : Order → List ℕ
+ehdr_order_text Least = codes " order least"
+ehdr_order_text Greatest = codes " order greatest"
 
-unfoldable pub ehdr_numbers : EhdrRecord → List ℕ
-ehdr_numbers h = columns_text
+unfoldable pub ehdr_numbers_text : EhdrRecord → List ℕ
+ehdr_numbers_text h = columns_text
     ((codes " osabi ", Decimal h.osabi)
     ∷ (codes " abiversion ", Decimal h.abiversion)
     ∷ (codes " type ", Decimal h.etype)
@@ -75,7 +75,7 @@ ehdr_numbers h = columns_text
     ∷ [])
 
 unfoldable pub ehdr_text : EhdrRecord → List ℕ
-ehdr_text h = class_text h.class ++ order_text h.order ++ ehdr_numbers h
+ehdr_text h = class_text h.class ++ ehdr_order_text h.order ++ ehdr_numbers_text h
 
 unfoldable pub phdr_text : PhdrRecord → List ℕ
 phdr_text h = columns_text
@@ -160,8 +160,8 @@ raw_text bytes = codes "raw " ++ bytes_text bytes
 unfoldable pub str_text : List ℕ → List ℕ
 str_text bytes = codes "str [" ++ bytes ++ codes "]"
 
-unfoldable pub note_text : NoteAt → List ℕ
-note_text n = columns_text
+unfoldable pub note_answer_text : NoteAt → List ℕ
+note_answer_text n = columns_text
     ((codes "note type ", Decimal n.ntype)
     ∷ (codes " namesz ", Decimal n.namesz)
     ∷ (codes " descsz ", Decimal n.descsz)
@@ -180,7 +180,7 @@ answer_text (Data kind count) = data_text kind count
 answer_text (Raw bytes) = raw_text bytes
 answer_text (Item item) = item_text item
 answer_text (Str bytes) = str_text bytes
-answer_text (Note n) = note_text n
+answer_text (Note n) = note_answer_text n
 answer_text NoteEnd = codes "note end"
 answer_text (Found i) = column_text (codes "found ") (Decimal i)
 answer_text FoundNone = codes "found none"

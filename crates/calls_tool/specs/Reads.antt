@@ -28,7 +28,7 @@ pub record LeavesState {S : Type 0} (g : Ghosts S) (old new : State S) : Type 0 
 
 -- What it reads: of no other sections than these becomes one loaded. It asks for at most their
 -- homes that were not loaded, and where it comes to its end for at most those that became loaded.
-pub record ReadsHomes {S T : Type 0} (g : Ghosts S) (result : Result T Stop) (old new : State S)
+pub record ReadsDueHomes {S T : Type 0} (g : Ghosts S) (result : Result T Stop) (old new : State S)
     (sections : List ℕ) : Type 0 where
   pub loads : (i : ℕ) → ¬ Contains sections i
       → is_loaded new.loaded i ≡ is_loaded old.loaded i

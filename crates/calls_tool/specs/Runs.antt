@@ -11,25 +11,25 @@ use Rattle.symbol_lookup.specs.elf_descriptor.State.{State}
 use Rattle.tool_output.specs.declared.stops.Stop.{Stop}
 use Rattle.tool_output.specs.declared.outputs.Outputs.{Outputs}
 use Rattle.tool_output.specs.Stops.{stop_of}
-use Rattle.tool_output.specs.Reports.{Report, Reports, shown, found, reports_of}
+use Rattle.tool_output.specs.Reports.{Report, Reports, shown_report, found, reports_of}
 use Rattle.tool_output.specs.Steps.{LeavesOutputs}
-use Rattle.object_output.specs.Steps.{SourceRose}
-use Rattle.calls_script.specs.declared.calls.Call.{Call}
-use Rattle.calls_apply.specs.declared.answers.Answer.{Answer}
-use Rattle.calls_apply.specs.declared.answers.Answer.TheVariants.{Refused, Size}
-use Rattle.calls_apply.specs.Stated.{stated}
+use Rattle.tool_objects.specs.Steps.{SourceRose}
+use Rattle.elf_calls_script.specs.declared.calls.Call.{Call}
+use Rattle.elf_calls_apply.specs.declared.answers.Answer.{Answer}
+use Rattle.elf_calls_apply.specs.declared.answers.Answer.TheVariants.{Refused, Size}
+use Rattle.elf_calls_apply.specs.Stated.{stated_call}
 use Rattle.calls_tool.specs.Lines.{answer_line}
-use Rattle.calls_tool.specs.Reads.{read_by, LeavesState, ReadsHomes}
+use Rattle.calls_tool.specs.Reads.{read_by, LeavesState, ReadsDueHomes}
 
 -- the calls of the plain object that those of a script stand for
 abbrev pub stated_calls : List Call → List (calls.Call Answer)
-stated_calls cs = map stated cs
+stated_calls cs = map stated_call cs
 
 -- ---- What is said
 
 -- the line of an answer; that of a refusal refuses
 unfoldable pub answer_report : Result Answer ElfError → Report
-answer_report (Ok a) = shown (answer_line a)
+answer_report (Ok a) = shown_report (answer_line a)
 answer_report (Err e) = found (answer_line (Refused e))
 
 -- the lines of the answers, in the order of the calls
@@ -38,7 +38,7 @@ calls_report cs o = reports_of answer_report (answers_to (stated_calls cs) o)
 
 -- what is said of the update that follows the calls: the length of the image, or the refusal
 unfoldable pub update_report : Result ℕ ElfError → Report
-update_report (Ok n) = shown (answer_line (Size n))
+update_report (Ok n) = shown_report (answer_line (Size n))
 update_report (Err e) = found (answer_line (Refused e))
 
 -- ---- An answer
@@ -67,14 +67,14 @@ pub record RunsCall {S O E : Type 0} (s : SourceGhosts S) (o : SinkGhosts O) (e 
       → Reports o e result outputs_old outputs_new (answer_report (c.answer old.o))
   pub left : IsTrue old.told → OnOk result (new.o ≡ step c old.o)
   pub stopped : IsTrue old.told → OnErr result ((new.o ≡ old.o) ⊎ (new.o ≡ step c old.o))
-  pub reads : ReadsHomes s result old new (c.reads old.o)
+  pub reads : ReadsDueHomes s result old new (c.reads old.o)
   pub state : LeavesState s old new
   pub leaves : LeavesOutputs o e (SourceRose s old new) result outputs_old outputs_new
 
 -- ---- All calls
 
 -- so many of the calls were run
-pub record IsFrontOf (cs : List Call) (old new : Object) : Type 0 where
+pub record IsLeftByFirstCalls (cs : List Call) (old new : Object) : Type 0 where
   pub count : ℕ
   pub within : count ≤ length cs
   pub left : new ≡ left_by (stated_calls (take count cs)) old
@@ -88,7 +88,7 @@ pub record RunsCalls {S O E : Type 0} (s : SourceGhosts S) (o : SinkGhosts O) (e
   pub lines : IsTrue old.told
       → Reports o e result outputs_old outputs_new (calls_report cs old.o)
   pub left : IsTrue old.told → OnOk result (new.o ≡ left_by (stated_calls cs) old.o)
-  pub stopped : IsTrue old.told → OnErr result (IsFrontOf cs old.o new.o)
-  pub reads : IsTrue old.told → ReadsHomes s result old new (read_by (stated_calls cs) old.o)
+  pub stopped : IsTrue old.told → OnErr result (IsLeftByFirstCalls cs old.o new.o)
+  pub reads : IsTrue old.told → ReadsDueHomes s result old new (read_by (stated_calls cs) old.o)
   pub state : LeavesState s old new
   pub leaves : LeavesOutputs o e (SourceRose s old new) result outputs_old outputs_new

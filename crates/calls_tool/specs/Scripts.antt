@@ -10,10 +10,10 @@ use Rattle.tool_output.specs.declared.outputs.Outputs.{Outputs}
 use Rattle.tool_output.specs.Names.{Name}
 use Rattle.tool_output.specs.Reports.{Report, no_report, refusal_report}
 use Rattle.tool_output.specs.Steps.{Performs, LeavesOutputs, OnRead, OnWrite}
-use Rattle.calls_script.specs.declared.calls.Call.{Call}
-use Rattle.calls_script.specs.declared.faults.Why.{Why}
-use Rattle.calls_script.specs.Texts.{why_text}
-use Rattle.calls_script.specs.Script.{calls_of}
+use Rattle.elf_calls_script.specs.declared.calls.Call.{Call}
+use Rattle.elf_calls_script.specs.declared.faults.Why.{Why}
+use Rattle.elf_calls_script.specs.Texts.{why_text}
+use Rattle.elf_calls_script.specs.Script.{calls_of}
 use Rattle.calls_tool.specs.declared.scripts.BadLine.{BadLine}
 
 -- `line N: TEXT`

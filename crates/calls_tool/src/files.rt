@@ -2,24 +2,25 @@
 
 ghost use Rattle.std.specs.Prelude.{◌≤◌, ◌+◌, IfSome, codes};
 ghost use Rattle.tool_output.specs.Sources.{ReportsOn};
-ghost use Rattle.object_output.specs.Refusals.{Refuses};
+ghost use Rattle.tool_objects.specs.Refusals.{ReportsRefusal};
 ghost use Rattle.calls_tool.specs.Files.{calls_file_report, calls_asks};
 
 use crate::runs::show_calls;
-use calls_script::Call;
+use elf_calls_script::Call;
 use elf_outside::{Sink, Source};
 use elf_types::ElfError;
-use object_output::begin_image;
 use std::alloc::Global;
+use tool_objects::begin_image;
 use tool_output::{FileName, Message, Outputs, Stop};
 
-/// Refuses what is no image, or stops where the error is no refusal.
+/// Rejects what is no image, or stops where the error is no refusal.
 pub fn refuse_image<O: Sink, E: Sink>(
     name: &FileName<'_>,
     e: ElfError,
     outputs: &mut Outputs<'_, O, E>,
 ) -> Result<bool, Stop>
-    ensures { Refuses O.Sink E.Sink (codes "calls") name.now e result outputs.old outputs.new }
+    ensures { ReportsRefusal O.Sink E.Sink
+        (codes "calls") name.now e result outputs.old outputs.new }
 {
     let message = Message {
         command: "calls",
@@ -29,9 +30,9 @@ pub fn refuse_image<O: Sink, E: Sink>(
     outputs.refuse_by(&message, e)
 }
 
-/// Runs calls on the image that a source holds, under a name, writes the line of each answer, and
-/// hands the source back. What has no front of an image, and an archive, has the message that says
-/// why. It stops by `Read` only where a read of the source failed.
+/// Runs calls on the image that a source holds, under a name, writes the line of each result, and
+/// hands the source back. What has no headers of an image, and an archive, has the message that
+/// says why. It stops by `Read` only where a read of the source failed.
 pub fn show_calls_on<S: Source, O: Sink, E: Sink>(
     alloc: Global,
     src: S,

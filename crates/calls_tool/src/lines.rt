@@ -1,9 +1,9 @@
-//! The lines of answers. Each call refuses `Memory` alone; what the page held then still stands,
-//! some bytes behind it.
+//! The lines of results. Each call fails with `Memory` alone; what the buffer held then stays, with
+//! some bytes after it.
 
 ghost use Rattle.std.specs.Prelude.{◌≡◌, ◌++◌, OnOk, IfErr};
 ghost use Rattle.elf_types.specs.Writers.{WantsMemory};
-ghost use Rattle.calls_tool.specs.Lines.{data_text, raw_text, str_text, note_text, refused_text, answer_text, answer_line};
+ghost use Rattle.calls_tool.specs.Lines.{data_text, raw_text, str_text, note_answer_text, refused_text, answer_text, answer_line};
 
 mod columns;
 mod headers;
@@ -13,14 +13,14 @@ use crate::lines::columns::Number::{Decimal, Hex};
 use crate::lines::columns::{put_column, put_columns, put_hex_bytes};
 use crate::lines::headers::{put_ehdr, put_phdr, put_shdr};
 use crate::lines::items::put_item;
-use calls_apply::Answer;
+use elf_calls_apply::Answer;
 use elf_types::{
     ElfError, Kind, Octets, Part, kind_name, put_bytes, put_error, put_part, put_text,
 };
 use symbol_lookup::prelude::NoteAt;
 use tool_output::Line;
 
-/// Appends the text of an answer.
+/// Appends the text of a result.
 #[tactic(auto, unfolding(crate::specs::Lines::answer_text))]
 fn put_answer_text(page: &mut Octets, answer: &Answer) -> Result<(), ElfError>
     ensures ok { OnOk result (page.new ≡ page.old ++ answer_text answer.now) }
@@ -82,9 +82,9 @@ fn put_str(page: &mut Octets, bytes: &[u8]) -> Result<(), ElfError>
 }
 
 /// Appends a note.
-#[tactic(auto, unfolding(crate::specs::Lines::note_text))]
+#[tactic(auto, unfolding(crate::specs::Lines::note_answer_text))]
 fn put_note(page: &mut Octets, note: &NoteAt) -> Result<(), ElfError>
-    ensures ok { OnOk result (page.new ≡ page.old ++ note_text note.now) }
+    ensures ok { OnOk result (page.new ≡ page.old ++ note_answer_text note.now) }
     ensures err { IfErr result (WantsMemory page.old page.new) }
 {
     put_columns(
@@ -108,10 +108,10 @@ fn put_refused(page: &mut Octets, e: &ElfError) -> Result<(), ElfError>
     put_error(page, e)
 }
 
-/// The line of an answer.
+/// The line of a result.
 #[derive(Clone, Copy)]
 pub struct AnswerLine<'a> {
-    /// The answer.
+    /// The result.
     pub answer: &'a Answer,
 }
 

@@ -5,7 +5,7 @@ ghost use Rattle.tool_output.specs.Reports.{refusal_report};
 ghost use Rattle.tool_output.specs.Steps.{Performs, LeavesOutputs};
 ghost use Rattle.calls_tool.specs.Scripts.{bad_line_text, ReadsScript, IsScript, TellsScript};
 
-use calls_script::{Calls, MAX_SCRIPT, ScriptFault, Why, read_script};
+use elf_calls_script::{Calls, MAX_SCRIPT, ScriptFault, Why, read_script};
 use elf_outside::reads::read_range;
 use elf_outside::{Sink, Source};
 use elf_types::{ElfError, Octets, put_decimal, put_text};
@@ -75,7 +75,7 @@ pub fn read_calls<S: Source>(alloc: Global, src: &mut S) -> Result<Result<Calls,
     }
 }
 
-/// Refuses a script by its message: there are no calls.
+/// Rejects a script by its message: there are no calls.
 #[tactic(auto, unfolding(tool_output::specs::Reports::refusal_report))]
 pub fn refuse_script<T: Line + Drop, O: Sink, E: Sink>(
     name: &FileName<'_>,

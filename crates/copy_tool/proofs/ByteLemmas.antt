@@ -3,9 +3,9 @@ use Rattle.std.proofs.Common.{◌≡◌, ◌+◌, ◌≤◌, ◌<◌, ◌++◌, 
 use Rattle.std.proofs.lemmas.List.{take_all, take_more, take-append-drop}
 use Rattle.elf_types.specs.Answers.{or_refused, ◌>>=◌}
 use Rattle.elf_outside.specs.Names.{Map}
-use Rattle.copy_changes.specs.declared.options.NamedFile.{NamedFile}
+use Rattle.rebuild_changes.specs.declared.options.NamedFile.{NamedFile}
 use Rattle.tool_output.specs.Made.{Complaint, complaint}
-use Rattle.strip_tool.specs.command_outcomes.Files.{bytes_named, bytes_of_each}
+use Rattle.strip_tool.specs.elfkit_outcomes.Files.{bytes_named, bytes_of_each}
 use Rattle.copy_tool.specs.Files.{length_held, lengths_named, with_file, onto}
 
 abbrev pub NamedPairs : Type 0

@@ -10,11 +10,11 @@ use Rattle.elf_outside.specs.declared.sinks.Sink.{Ghosts as SinkGhosts}
 use Rattle.elf_outside.specs.declared.file_sets.Files.{Ghosts as FilesGhosts}
 use Rattle.elf_object.specs.Object.{Object}
 use Rattle.strip_tool.specs.elf_descriptor.State.{State}
-use Rattle.command_objects.specs.Arranged.{Rebuilt}
-use Rattle.command_objects.specs.Copied.{Changes, CopyFault as StatedFault, or_strip, copied}
-use Rattle.command_objects.specs.Copied.CopyFault.{NoSection, NoBytes, Allocated, Fixed, NoTable, Strip}
-use Rattle.command_objects.specs.Files.{file_of}
-use Rattle.strip_tool.specs.command_outcomes.Copy.{copy_text}
+use Rattle.rebuild_model.specs.Arranged.{Rebuilt}
+use Rattle.rebuild_model.specs.Copied.{Changes, CopyFault as StatedFault, or_strip, copied}
+use Rattle.rebuild_model.specs.Copied.CopyFault.{NoSection, NoBytes, Allocated, Fixed, NoTable, Strip}
+use Rattle.rebuild_model.specs.Files.{file_of}
+use Rattle.strip_tool.specs.elfkit_outcomes.Copy.{copy_text}
 use Rattle.tool_output.specs.declared.stops.Stop.{Stop}
 use Rattle.tool_output.specs.declared.stops.Stop.TheVariants as stops
 use Rattle.tool_output.specs.declared.outputs.Outputs.{Outputs}
@@ -22,18 +22,18 @@ use Rattle.tool_output.specs.Names.{file_name}
 use Rattle.tool_output.specs.Statuses.{refused_status}
 use Rattle.tool_output.specs.Reports.{Reports, refusal_report}
 use Rattle.tool_output.specs.Steps.{OnRead, OnWrite, LeavesOutputs, SinkRose}
-use Rattle.tool_output.specs.Made.{Done, Complaint, made, complaint, of_file, written_outcome}
+use Rattle.tool_output.specs.Made.{Done, Complaint, made_file_alone, complaint, of_file, written_outcome}
 use Rattle.tool_output.proofs.StepLemmas.{keeps_none}
 use Rattle.tool_output.proofs.FileLemmas.{totals_none}
 use Rattle.tool_output.proofs.OutcomeLemmas.{nothing_done}
-use Rattle.strip_tool.specs.object_output.Steps.{SourceRose}
-use Rattle.strip_tool.specs.object_writing.Writes.{WritesFile}
-use Rattle.strip_tool.proofs.object_writing.WriteLemmas.{DoesHere, outputs_leave, said_done}
-use Rattle.copy_changes.specs.declared.faults.CopyFault.{CopyFault}
-use Rattle.copy_changes.specs.declared.faults.CopyFault.TheVariants as faults
-use Rattle.copy_changes.specs.Stated.{stated_fault, outer_result}
-use Rattle.copy_contents.specs.strip_contents.declared.plans.RangedPlan.{RangedPlan}
-use Rattle.copy_contents.specs.Plans.{file_copied, StreamsCopied}
+use Rattle.strip_tool.specs.tool_objects.Steps.{SourceRose}
+use Rattle.strip_tool.specs.tool_files.ElfImages.Writes.{WritesFile}
+use Rattle.strip_tool.proofs.tool_files.elf_images.WriteLemmas.{DoesHere, outputs_leave, said_done}
+use Rattle.rebuild_changes.specs.declared.faults.CopyFault.{CopyFault}
+use Rattle.rebuild_changes.specs.declared.faults.CopyFault.TheVariants as faults
+use Rattle.rebuild_changes.specs.Stated.{stated_copy_fault, outer_result}
+use Rattle.rebuild_copy.specs.rebuild_plan.declared.plans.RangedPlan.{RangedPlan}
+use Rattle.rebuild_copy.specs.Plans.{file_copied, StreamsCopied}
 use Rattle.copy_tool.specs.Faults.{named_text, copy_fault_text, fault_stop}
 use Rattle.copy_tool.specs.Writes.{made_done, copied_done, file_done}
 
@@ -41,7 +41,7 @@ use Rattle.copy_tool.specs.Writes.{made_done, copied_done, file_done}
 
 -- a fault that is no stop is stated, with its text
 refusal_stated : (fault : CopyFault) → fault_stop fault ≡ None
-    → (d : StatedFault) × (stated_fault fault ≡ Some d) × (copy_text d ≡ copy_fault_text fault)
+    → (d : StatedFault) × (stated_copy_fault fault ≡ Some d) × (copy_text d ≡ copy_fault_text fault)
 unfolding copy_text copy_fault_text named_text
 refusal_stated (faults.NoSection name) none =
     (NoSection name, refl, sym (append-nil (codes "no section " ++ name)))
@@ -62,13 +62,13 @@ done_as_file file out (Err f) = refl
 done_as_file file out (Ok m) = by (file_of m.object)
   where
     by : (q : Result (List ℕ) ElfError)
-        → (of_file file q >>= λ bytes. Ok (made out bytes)) ≡ file_done file out (or_strip q)
+        → (of_file file q >>= λ bytes. Ok (made_file_alone out bytes)) ≡ file_done file out (or_strip q)
     by (Ok bytes) = refl
     by (Err e) = refl
 
 fault_done : (c : Changes) (o : Object) (file out : List ℕ) (fault : CopyFault)
     → fault_stop fault ≡ None
-    → IfSome (stated_fault fault) (λ d. file_copied (copied c o) ≡ Err d)
+    → IfSome (stated_copy_fault fault) (λ d. file_copied (copied c o) ≡ Err d)
     → copied_done c file out o ≡ Err (complaint file (copy_fault_text fault))
 fault_done c o file out fault none is =
     let d = refusal_stated fault none in

@@ -4,12 +4,12 @@ use Rattle.elf_types.specs.Answers.{◌>>=◌}
 use Rattle.elf_outside.specs.Names.{Map}
 use Rattle.elf_outside.specs.declared.sinks.Sink.{Ghosts as SinkGhosts}
 use Rattle.elf_outside.specs.declared.file_sets.Files.{Ghosts as FilesGhosts}
-use Rattle.copy_changes.specs.declared.options.CopyChanges.{CopyChanges}
-use Rattle.copy_changes.specs.declared.options.NamedFile.{NamedFile}
+use Rattle.rebuild_changes.specs.declared.options.CopyChanges.{CopyChanges}
+use Rattle.rebuild_changes.specs.declared.options.NamedFile.{NamedFile}
 use Rattle.tool_output.specs.declared.stops.Stop.{Stop}
 use Rattle.tool_output.specs.declared.outputs.Outputs.{Outputs}
-use Rattle.strip_tool.specs.command_outcomes.Copy.{changes_with}
-use Rattle.strip_tool.specs.command_outcomes.Files.{bytes_of_each}
+use Rattle.strip_tool.specs.elfkit_outcomes.Copy.{changes_with}
+use Rattle.strip_tool.specs.elfkit_outcomes.Files.{bytes_of_each}
 use Rattle.copy_tool.specs.Words.{added_changes}
 use Rattle.copy_tool.specs.Files.{ReadsFiles, length_held, lengths_named, with_file, onto}
 use Rattle.copy_tool.proofs.ByteLemmas.{NamedPairs, ReadPairs, SameMap, onto_none, each_same, with_file_same, read_upto, due_upto, upto_all, upto_left, due_left, upto_more, due_more}

@@ -1,8 +1,8 @@
-pub mod ByteLemmas
-pub mod CommandLemmas
-pub mod FaultLemmas
-pub mod FileLemmas
-pub mod FillLemmas
-pub mod NameLemmas
-pub mod ReadLemmas
-pub mod WriteLemmas
+mod ByteLemmas
+mod CommandLemmas
+mod FaultLemmas
+mod FileLemmas
+mod FillLemmas
+mod NameLemmas
+mod ReadLemmas
+mod WriteLemmas

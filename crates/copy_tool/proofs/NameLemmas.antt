@@ -3,18 +3,18 @@ use Rattle.std.proofs.Common.{◌≡◌, ◌+◌, ◌<◌, ◌++◌, ◌∷◌, 
 use Rattle.std.specs.List.{list_all}
 use Rattle.std.proofs.lemmas.List.{map-append, map_more}
 use Rattle.std.proofs.lemmas.List.Folds.{list_all-map}
-use Rattle.copy_changes.specs.declared.options.CopyChanges.{CopyChanges}
-use Rattle.copy_changes.specs.declared.options.NamedFile.{NamedFile}
-use Rattle.copy_changes.specs.declared.options.Renaming.{Renaming}
-use Rattle.copy_changes.specs.Names.{is_section_name}
-use Rattle.copy_changes.specs.Names.{HasNames}
+use Rattle.rebuild_changes.specs.declared.options.CopyChanges.{CopyChanges}
+use Rattle.rebuild_changes.specs.declared.options.NamedFile.{NamedFile}
+use Rattle.rebuild_changes.specs.declared.options.Renaming.{Renaming}
+use Rattle.rebuild_changes.specs.Names.{is_section_name}
+use Rattle.rebuild_changes.specs.Names.{HasNames}
 use Rattle.tool_output.specs.declared.stops.Stop.{Stop}
 use Rattle.tool_output.specs.declared.stops.Stop.TheVariants.{Memory}
-use Rattle.strip_tool.specs.command_outcomes.Copy.{changes_with}
-use Rattle.copy_changes.specs.declared.changes.NameBits.{NameBits}
-use Rattle.copy_changes.specs.declared.changes.NameBytes.{NameBytes}
-use Rattle.copy_changes.specs.Stated.{bytes_pair, bits_pair, stated_changes}
-use Rattle.copy_tool.specs.Files.{named_bytes, pairs, byte_names, file_names, filled, seen_in}
+use Rattle.strip_tool.specs.elfkit_outcomes.Copy.{changes_with}
+use Rattle.rebuild_changes.specs.declared.changes.NameBits.{NameBits}
+use Rattle.rebuild_changes.specs.declared.changes.NameBytes.{NameBytes}
+use Rattle.rebuild_changes.specs.Stated.{bytes_pair, bits_pair, stated_changes}
+use Rattle.copy_tool.specs.Files.{named_bytes, pairs, byte_names, file_names, list_if_all_found, seen_in}
 
 -- ---- Lists, one item more
 
@@ -43,18 +43,18 @@ names_more before now next list i f lt item is so_far =
 -- ---- What was filled
 
 pub filled_true : {A : Type 0} (there : Bool) (x : A) → there ≡ true
-    → filled (Ok there) x ≡ Ok (Some x)
+    → list_if_all_found (Ok there) x ≡ Ok (Some x)
 filled_true true x is = refl
 filled_true false x is = cc
 
 pub filled_false : {A : Type 0} (there : Bool) (x : A) → there ≡ false
-    → filled (Ok there) x ≡ Ok None
+    → list_if_all_found (Ok there) x ≡ Ok None
 filled_false true x is = cc
 filled_false false x is = refl
 
 -- the list, where all are there
 pub all_filled : (there : Bool) (list : List NameBytes)
-    → filled (Ok there) (pairs list)
+    → list_if_all_found (Ok there) (pairs list)
     ≡ seen_in pairs (Ok (if there then Some list else None))
 all_filled true list = refl
 all_filled false list = refl
@@ -79,8 +79,8 @@ names_one_more list name bytes =
 module _ (list next : List NameBytes) (name bytes : List ℕ) where
   pub put_filled : (r : Result Bool Stop) → IfOk r (λ there. there ≡ true)
       → OnOk r (next ≡ list ++ named_bytes name bytes ∷ [])
-      → OnOk (filled r (pairs next))
-      (filled r (pairs next) ≡ Ok (Some (pairs list ++ (name, bytes) ∷ [])))
+      → OnOk (list_if_all_found r (pairs next))
+      (list_if_all_found r (pairs next) ≡ Ok (Some (pairs list ++ (name, bytes) ∷ [])))
   put_filled (Ok true) there is =
       ap (λ (l : List (List ℕ × List ℕ)). Ok (Some l))
       (ap (λ (l : List NameBytes). pairs l) is ∙ pairs_more list name bytes)
@@ -88,7 +88,7 @@ module _ (list next : List NameBytes) (name bytes : List ℕ) where
   put_filled (Err stop) there is = tt
 
   pub put_stops : (r : Result Bool Stop) → IfErr r (λ stop. stop ≡ Memory)
-      → IfErr (filled r (pairs next)) (λ stop. stop ≡ Memory)
+      → IfErr (list_if_all_found r (pairs next)) (λ stop. stop ≡ Memory)
   put_stops (Ok true) only = tt
   put_stops (Ok false) only = tt
   put_stops (Err stop) only = only

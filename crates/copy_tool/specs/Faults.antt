@@ -3,8 +3,8 @@ use Rattle.std.specs.Prelude.{◌++◌, ℕ, List, [], Option, None, codes}
 use Rattle.elf_types.specs.Text.{error_text}
 use Rattle.tool_output.specs.declared.stops.Stop.{Stop}
 use Rattle.tool_output.specs.Stops.{stop_of}
-use Rattle.copy_changes.specs.declared.faults.CopyFault.{CopyFault}
-use Rattle.copy_changes.specs.declared.faults.CopyFault.TheVariants.{NoSection, NoBytes, Allocated, Fixed, NoTable, Strip}
+use Rattle.rebuild_changes.specs.declared.faults.CopyFault.{CopyFault}
+use Rattle.rebuild_changes.specs.declared.faults.CopyFault.TheVariants.{NoSection, NoBytes, Allocated, Fixed, NoTable, Strip}
 
 -- a name between two texts
 unfoldable pub named_text : List ℕ → List ℕ → List ℕ → List ℕ

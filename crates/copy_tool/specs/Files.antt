@@ -8,15 +8,15 @@ use Rattle.elf_outside.specs.Names.{Map}
 use Rattle.elf_outside.specs.declared.sources.Source.{Ghosts}
 use Rattle.elf_outside.specs.declared.sinks.Sink.{Ghosts as SinkGhosts}
 use Rattle.elf_outside.specs.declared.file_sets.Files.{Ghosts as FilesGhosts}
-use Rattle.copy_changes.specs.declared.options.NamedFile.{NamedFile}
+use Rattle.rebuild_changes.specs.declared.options.NamedFile.{NamedFile}
 use Rattle.tool_output.specs.declared.stops.Stop.{Stop}
 use Rattle.tool_output.specs.declared.outputs.Outputs.{Outputs}
 use Rattle.tool_output.specs.Steps.{Performs}
 use Rattle.tool_output.specs.Files.{OnlyReads, LeavesFiles}
 use Rattle.tool_output.specs.Made.{Complaint, complaint_report}
-use Rattle.strip_tool.specs.command_outcomes.Files.{bytes_named}
-use Rattle.copy_changes.specs.declared.changes.NameBytes.{NameBytes}
-use Rattle.copy_changes.specs.Stated.{bytes_pair}
+use Rattle.strip_tool.specs.elfkit_outcomes.Files.{bytes_named}
+use Rattle.rebuild_changes.specs.declared.changes.NameBytes.{NameBytes}
+use Rattle.rebuild_changes.specs.Stated.{bytes_pair}
 
 -- ---- A source, read whole
 
@@ -88,10 +88,10 @@ onto before (Ok list) = Ok (before ++ list)
 onto before (Err c) = Err c
 
 -- the list, where all files were there
-abbrev pub filled : {A : Type 0} → Result Bool Stop → A → Result (Option A) Stop
-filled (Ok true) list = Ok (Some list)
-filled (Ok false) list = Ok None
-filled (Err stop) list = Err stop
+abbrev pub list_if_all_found : {A : Type 0} → Result Bool Stop → A → Result (Option A) Stop
+list_if_all_found (Ok true) list = Ok (Some list)
+list_if_all_found (Ok false) list = Ok None
+list_if_all_found (Err stop) list = Err stop
 
 -- what is answered, as it is seen
 abbrev pub seen_in : {A B : Type 0} → (A → B) → Result (Option A) Stop → Result (Option B) Stop

@@ -2,12 +2,12 @@
 use Rattle.std.specs.Prelude.{ℕ, ◌+◌, List, Result, Ok}
 use Rattle.elf_types.specs.Answers.{◌>>=◌}
 use Rattle.elf_outside.specs.Names.{Map}
-use Rattle.copy_changes.specs.declared.options.CopyChanges.{CopyChanges}
+use Rattle.rebuild_changes.specs.declared.options.CopyChanges.{CopyChanges}
 use Rattle.tool_output.specs.Made.{Complaint}
-use Rattle.copy_changes.specs.declared.changes.NameBits.{NameBits}
-use Rattle.command_objects.specs.Copied.{Changes}
-use Rattle.strip_tool.specs.command_outcomes.Files.{bytes_of_each}
-use Rattle.strip_tool.specs.command_outcomes.Copy.{changes_with}
+use Rattle.rebuild_changes.specs.declared.changes.NameBits.{NameBits}
+use Rattle.rebuild_model.specs.Copied.{Changes}
+use Rattle.strip_tool.specs.elfkit_outcomes.Files.{bytes_of_each}
+use Rattle.strip_tool.specs.elfkit_outcomes.Copy.{changes_with}
 use Rattle.copy_tool.specs.Files.{lengths_named}
 
 abbrev pub named_flags : List ℕ → ℕ → NameBits

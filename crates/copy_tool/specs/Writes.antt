@@ -2,12 +2,12 @@
 use Rattle.std.specs.Prelude.{ℕ, List, Result, Ok}
 use Rattle.elf_types.specs.Answers.{◌>>=◌}
 use Rattle.elf_object.specs.Object.{Object}
-use Rattle.command_objects.specs.Arranged.{Rebuilt}
-use Rattle.command_objects.specs.Copied.{Changes, CopyFault, copied}
-use Rattle.tool_output.specs.Made.{Done, Complaint, made, complaint}
-use Rattle.strip_tool.specs.command_outcomes.Strip.{or_complaint}
-use Rattle.strip_tool.specs.command_outcomes.Copy.{copy_text}
-use Rattle.strip_tool.specs.object_writing.Writes.{written_done}
+use Rattle.rebuild_model.specs.Arranged.{Rebuilt}
+use Rattle.rebuild_model.specs.Copied.{Changes, CopyFault, copied}
+use Rattle.tool_output.specs.Made.{Done, Complaint, made_file_alone, complaint}
+use Rattle.strip_tool.specs.elfkit_outcomes.Strip.{or_complaint}
+use Rattle.strip_tool.specs.elfkit_outcomes.Copy.{copy_text}
+use Rattle.strip_tool.specs.tool_files.ElfImages.Writes.{written_done}
 
 -- what a command of copy is to do: its changes, and the file that it makes
 pub record Copying : Type 0 where
@@ -29,4 +29,5 @@ copied_done changes file out o = made_done file out (copied changes o)
 -- the same by the file
 abbrev pub file_done : List ℕ → List ℕ → Result (List ℕ) CopyFault → Result Done Complaint
 file_done file out r =
-    or_complaint (λ fault. complaint file (copy_text fault)) r >>= λ bytes. Ok (made out bytes)
+    or_complaint (λ fault. complaint file (copy_text fault)) r >>= λ bytes. Ok
+    (made_file_alone out bytes)

@@ -2,20 +2,20 @@
 //! with the changes.
 
 ghost use Rattle.std.specs.Prelude.{◌≡◌, ◌≢◌, codes, IsTrue};
-ghost use Rattle.copy_changes.specs.Names.{HasNames};
+ghost use Rattle.rebuild_changes.specs.Names.{HasNames};
 ghost use Rattle.tool_output.specs.Files.{LeavesFiles};
 ghost use Rattle.tool_output.specs.Made.{written_outcome};
 ghost use Rattle.tool_output.specs.Outcomes.{Does};
 ghost use Rattle.tool_output.specs.Statuses.{refused_status};
-ghost use Rattle.strip_tool.specs.command_outcomes.Copy.{copy_outcome};
-ghost use Rattle.strip_tool.specs.object_writing.Writes.{named_done};
-ghost use Rattle.copy_changes.specs.Stated.{stated_changes, HasPlainNames};
+ghost use Rattle.strip_tool.specs.elfkit_outcomes.Copy.{copy_outcome};
+ghost use Rattle.strip_tool.specs.tool_files.ElfImages.Writes.{named_done};
+ghost use Rattle.rebuild_changes.specs.Stated.{stated_changes, HasPlainNames};
 ghost use Rattle.copy_tool.specs.Writes.{copying_of, copied_done};
 
 use crate::reading::read_changes;
 use crate::writing::write_copied;
-use copy_changes::{Changes, CopyChanges};
 use elf_outside::{Files, Sink, Source};
+use rebuild_changes::{ChangeLists, CopyChanges};
 use std::alloc::Global;
 use std::marker::Model;
 use strip_tool::prelude::{Elf, ImageCommand, edit_named};
@@ -25,12 +25,12 @@ use tool_output::{Outputs, Stop};
 /// gets holds a NUL byte.
 #[derive(Drop)]
 pub struct CopyCommand<'a> {
-    changes: &'a Changes,
+    changes: &'a ChangeLists,
     out: &'a str,
 }
 
 impl<'a> Model for CopyCommand<'a> {
-    ghost use Rattle.copy_changes.specs.Stated.{stated_changes, HasPlainNames};
+    ghost use Rattle.rebuild_changes.specs.Stated.{stated_changes, HasPlainNames};
     ghost use Rattle.copy_tool.specs.Writes.{Copying, copying_of};
 
     ghost Value = { Copying };
@@ -42,7 +42,7 @@ impl<'a> Model for CopyCommand<'a> {
 
 impl<'a> CopyCommand<'a> {
     /// The command of these changes and this file.
-    pub fn new(changes: &'a Changes, out: &'a str) -> CopyCommand<'a>
+    pub fn new(changes: &'a ChangeLists, out: &'a str) -> CopyCommand<'a>
         requires { HasPlainNames changes.now }
         ensures { result ≡ copying_of (stated_changes changes.now) out.now }
     {
@@ -51,8 +51,8 @@ impl<'a> CopyCommand<'a> {
 }
 
 /// The image with the changes is written to the new file, while the old one is open: what is not
-/// changed is copied range by range. What is refused has the message that says why: then no file is
-/// made.
+/// changed is copied range by range. What is rejected has the message that says why: then no file
+/// is made.
 impl ImageCommand for CopyCommand<'_> {
     ghost named = { λ _. codes "copy" };
 
@@ -77,7 +77,7 @@ impl ImageCommand for CopyCommand<'_> {
 /// Opens a file, writes its image with the changes to a new file of another name, and closes it.
 fn copy_named<F: Files, O: Sink, E: Sink>(
     alloc: Global,
-    changes: &Changes,
+    changes: &ChangeLists,
     file: &str,
     out: &str,
     files: &mut F,
@@ -98,12 +98,12 @@ fn copy_named<F: Files, O: Sink, E: Sink>(
 }
 
 /// Reads the files of the changes, and then writes the image of a file with the changes to a new
-/// file of another name. A file that is not there, and what is refused, has its message: then no
+/// file of another name. A file that is not there, and what is rejected, has its message: then no
 /// file is made. The files of `-u` come first, then those of `-a`, then the file itself, and the
-/// first that is not there ends it. The answer tells whether something was refused.
+/// first that is not there ends it. It returns whether something was rejected.
 ///
 /// It stops by `Read` where a read failed, by `Write` where a put or a write of the file failed,
-/// and by `Memory`. Then the name of the new file holds what it held or a front of the image. The
+/// and by `Memory`. Then the name of the new file holds what it held or a prefix of the image. The
 /// bytes of the files of `-u` and `-a` are held meanwhile, and the tables that change.
 pub fn copy_file<F: Files, O: Sink, E: Sink>(
     alloc: Global,

@@ -7,9 +7,9 @@ ghost use Rattle.tool_output.specs.Reports.{Reports, refusal_report};
 ghost use Rattle.tool_output.specs.Steps.{LeavesOutputs};
 ghost use Rattle.copy_tool.specs.Faults.{named_text, copy_fault_text, fault_stop};
 
-use copy_changes::CopyFault;
 use elf_outside::Sink;
 use elf_types::{ElfError, Octets, put_bytes, put_error, put_text};
+use rebuild_changes::CopyFault;
 use tool_output::{FileName, Line, Message, Outputs, Stop};
 
 /// Appends a name between two texts.
@@ -83,7 +83,7 @@ fn say_fault<O: Sink, E: Sink>(
     })
 }
 
-/// Refuses a file for a fault, by its message, or stops where the fault is no refusal: then nothing
+/// Rejects a file for a fault, by its message, or stops where the fault is no refusal: then nothing
 /// is written.
 pub(crate) fn refuse_fault<O: Sink, E: Sink>(
     file: &[u8],

@@ -1,21 +1,21 @@
-//! The files of the words, each read whole and closed again.
+//! The files of the arguments, each read whole and closed again.
 
 ghost use Rattle.std.specs.Prelude.{◌≡◌, ◌++◌, ◌∷◌, true, [], codes, Some, None, if◌then◌else◌, IfOk, IfErr, IfSome, OnOk};
 ghost use Rattle.elf_types.specs.declared.errors.ElfError.TheVariants.{Memory};
-ghost use Rattle.strip_tool.specs.command_outcomes.Files.{bytes_named, bytes_of_each};
+ghost use Rattle.strip_tool.specs.elfkit_outcomes.Files.{bytes_named, bytes_of_each};
 ghost use Rattle.tool_output.specs.Reports.{refusal_report};
 ghost use Rattle.tool_output.specs.Steps.{Performs, LeavesOutputs};
-ghost use Rattle.copy_tool.specs.Files.{ReadsWhole, ReadsFiles, length_held, lengths_named, named_bytes, pairs, byte_names, file_names, with_file, onto, filled, seen_in};
+ghost use Rattle.copy_tool.specs.Files.{ReadsWhole, ReadsFiles, length_held, lengths_named, named_bytes, pairs, byte_names, file_names, with_file, onto, list_if_all_found, seen_in};
 
-use copy_changes::{NameBytes, NamedFile};
 use elf_outside::reads::read_range;
 use elf_outside::{Files, OpenFault, Sink, Source};
 use elf_types::{ElfError, List, Octets};
+use rebuild_changes::{NameBytes, NamedFile};
 use std::alloc::Global;
 use tool_output::{FileName, Message, Outputs, Stop};
 use tool_text::Text;
 
-/// All bytes of a source. It refuses `Memory`, and `Read` where a read failed.
+/// All bytes of a source. It fails with `Memory`, and `Read` where a read failed.
 fn read_whole<S: Source>(alloc: Global, src: &mut S) -> Result<Octets, ElfError>
     ensures { ReadsWhole S.Source result src.old src.new }
 {
@@ -23,7 +23,7 @@ fn read_whole<S: Source>(alloc: Global, src: &mut S) -> Result<Octets, ElfError>
     read_range(alloc, src, 0, len)
 }
 
-/// Refuses a file that is not there, by its message: then there are no bytes.
+/// Rejects a file that is not there, by its message: then there are no bytes.
 #[tactic(auto, unfolding(tool_output::specs::Reports::refusal_report))]
 fn refuse_absent<O: Sink, E: Sink>(
     name: &FileName<'_>,
@@ -66,7 +66,7 @@ fn read_file<F: Files, O: Sink, E: Sink>(
     Stop::unless_refused(read)
 }
 
-/// Appends bytes under a name. It refuses `Memory` alone.
+/// Appends bytes under a name. It fails with `Memory` alone.
 fn push_named(
     alloc: Global,
     name: &Text,
@@ -80,7 +80,7 @@ fn push_named(
     read.push(NameBytes { name, bytes })
 }
 
-/// Appends bytes under a name, and answers that they are there. It stops by `Memory` alone.
+/// Appends bytes under a name, and returns that they are there. It stops by `Memory` alone.
 fn put_named(
     alloc: Global,
     name: &Text,
@@ -97,8 +97,8 @@ fn put_named(
     }
 }
 
-/// Reads a file, and appends its bytes under the name of its section. The answer tells whether the
-/// file is there; one that is not has its message.
+/// Reads a file, and appends its bytes under the name of its section. It returns whether the file
+/// is there; one that is not has its message.
 fn add_file<F: Files, O: Sink, E: Sink>(
     alloc: Global,
     each: &NamedFile,
@@ -108,7 +108,7 @@ fn add_file<F: Files, O: Sink, E: Sink>(
 ) -> Result<bool, Stop>
     ensures reads { ReadsFiles F.Files O.Sink E.Sink (with_file (pairs read.old) each.now)
         (λ named. length_held (named each.now.file))
-        (filled result (pairs read.new)) files.old files.new outputs.old outputs.new }
+        (list_if_all_found result (pairs read.new)) files.old files.new outputs.old outputs.new }
     ensures names { IfOk result (λ there. there ≡ true →
         byte_names read.new ≡ byte_names read.old ++ each.now.name ∷ []) }
 {
@@ -119,8 +119,8 @@ fn add_file<F: Files, O: Sink, E: Sink>(
     }
 }
 
-/// Reads files, one after another, and appends the bytes of each. The answer tells whether all are
-/// there; the first one that is not has its message, and ends it.
+/// Reads files, one after another, and appends the bytes of each. It returns whether all are there;
+/// the first one that is not has its message, and ends it.
 fn fill_files<F: Files, O: Sink, E: Sink>(
     alloc: Global,
     named: &[NamedFile],
@@ -131,7 +131,7 @@ fn fill_files<F: Files, O: Sink, E: Sink>(
     ensures reads { ReadsFiles F.Files O.Sink E.Sink
         (λ map. onto (pairs read.old) (bytes_of_each map named.now))
         (λ map. lengths_named map named.now)
-        (filled result (pairs read.new)) files.old files.new outputs.old outputs.new }
+        (list_if_all_found result (pairs read.new)) files.old files.new outputs.old outputs.new }
     ensures names { IfOk result (λ there. there ≡ true →
         byte_names read.new ≡ byte_names read.old ++ file_names named.now) }
 {
@@ -152,9 +152,9 @@ fn where_all(there: bool, read: List<NameBytes>) -> Option<List<NameBytes>>
 }
 
 /// Reads files, one after another: the bytes of each, under the name of its section, or none where
-/// one is not there. That one has its message, and those behind it are not opened. Each is asked
-/// for once. It stops by `Read` where a read failed, by `Write` where the message could not be
-/// written, and by `Memory`.
+/// one is not there. That one has its message, and those after it are not opened. Each is asked for
+/// once. It stops by `Read` where a read failed, by `Write` where the message could not be written,
+/// and by `Memory`.
 pub fn read_files<F: Files, O: Sink, E: Sink>(
     alloc: Global,
     named: &[NamedFile],

@@ -1,19 +1,17 @@
 //! The new file of an open one, with changes.
 
-ghost use Rattle.std.specs.Prelude.{◌≡◌, codes, false, IsTrue};
+ghost use Rattle.std.specs.Prelude.{◌≡◌, codes, false};
 ghost use Rattle.elf_object.specs.Object.{is_dirty};
-ghost use Rattle.elf_object.specs.Valid.{IsTied};
-ghost use Rattle.copy_contents.specs.strip_laws.Made.{FitsClass};
 ghost use Rattle.strip_tool.specs.Copies.{IsOverSource};
 ghost use Rattle.tool_output.specs.Made.{written_outcome};
-ghost use Rattle.strip_tool.specs.object_writing.Writes.{WritesFile};
-ghost use Rattle.copy_changes.specs.Stated.{stated_changes, HasPlainNames};
+ghost use Rattle.strip_tool.specs.tool_files.ElfImages.Writes.{WritesFile};
+ghost use Rattle.rebuild_changes.specs.Stated.{stated_changes, HasPlainNames};
 ghost use Rattle.copy_tool.specs.Writes.{copied_done};
 
 use crate::faults::refuse_fault;
-use copy_changes::Changes;
-use copy_contents::plan_copied;
 use elf_outside::{Files, Sink, Source};
+use rebuild_changes::ChangeLists;
+use rebuild_copy::plan_copied;
 use std::alloc::Global;
 use strip_tool::prelude::Elf;
 use strip_tool::write_plan;
@@ -21,16 +19,16 @@ use tool_output::{Outputs, Stop};
 
 /// Writes the image with changes of an object in which nothing is dirty, and whose base is its
 /// source, to a new file, and hands the source back. What is not changed is copied range by range
-/// of the source. Where it is refused, the message says why, and no file is made. The answer tells
-/// whether it was refused.
+/// of the source. Where it is rejected, the message says why, and no file is made. It returns
+/// whether it was rejected.
 ///
 /// It stops by `Read` where a read of the source failed, by `Write` where a put or a write of the
-/// file failed, and by `Memory`. Then the name of the file holds what it held or a front of the
+/// file failed, and by `Memory`. Then the name of the file holds what it held or a prefix of the
 /// image.
 pub fn write_copied<S: Source, F: Files, O: Sink, E: Sink>(
     alloc: Global,
     elf: Elf<S>,
-    changes: &Changes,
+    changes: &ChangeLists,
     file: &[u8],
     out: &str,
     files: &mut F,
@@ -38,8 +36,6 @@ pub fn write_copied<S: Source, F: Files, O: Sink, E: Sink>(
 ) -> (S, Result<bool, Stop>)
     requires over { IsOverSource S.Source elf }
     requires clean { is_dirty elf.o ≡ false }
-    requires tied { IsTrue elf.told → IsTied elf.o }
-    requires fits { FitsClass elf.o }
     requires names { HasPlainNames changes.now }
     ensures { WritesFile S.Source F.Files O.Sink E.Sink
         (written_outcome (codes "copy")

@@ -5,18 +5,18 @@ use Rattle.elf_types.specs.Answers.{◌>>=◌}
 use Rattle.elf_outside.specs.Counts.{Rose}
 use Rattle.elf_outside.specs.declared.sources.Source.{Ghosts}
 use Rattle.elf_object.specs.Object.{Object}
-use Rattle.strip_rebuild.specs.elf_descriptor.State.{State}
+use Rattle.rebuild_object.specs.elf_descriptor.State.{State}
 use Rattle.elf_object.specs.Sections.{in_turn}
-use Rattle.command_objects.specs.Copied.{Changes as StatedChanges, CopyFault as StatedFault, names_in, with_bytes, with_name, with_changes}
-use Rattle.copy_edits.specs.strip_removed.Calls.{ReadsNames}
-use Rattle.copy_changes.specs.declared.changes.Changes.{Changes}
-use Rattle.copy_changes.specs.declared.faults.CopyFault.{CopyFault}
-use Rattle.copy_changes.specs.declared.faults.CopyFault.TheVariants as faults
-use Rattle.copy_changes.specs.Stated.{stated_changes}
-use Rattle.copy_edits.specs.Names.{names_now}
-use Rattle.copy_edits.specs.Steps.{Finds, Alters}
-use Rattle.copy_edits.proofs.FindLaws.{found_end}
-use Rattle.copy_edits.proofs.StepLaws.{find_then, find_end, alter_then, alter_end, alter_as}
+use Rattle.rebuild_model.specs.Copied.{Changes as StatedChanges, CopyFault as StatedFault, names_in, with_bytes, with_name, with_changes}
+use Rattle.rebuild_edits.specs.rebuild_select.Calls.{ReadsNames}
+use Rattle.rebuild_changes.specs.declared.changes.ChangeLists.{ChangeLists}
+use Rattle.rebuild_changes.specs.declared.faults.CopyFault.{CopyFault}
+use Rattle.rebuild_changes.specs.declared.faults.CopyFault.TheVariants as faults
+use Rattle.rebuild_changes.specs.Stated.{stated_changes}
+use Rattle.rebuild_edits.specs.Edits.Names.{names_now}
+use Rattle.rebuild_edits.specs.Edits.Steps.{Finds, Alters}
+use Rattle.rebuild_edits.proofs.edits.FindLaws.{found_end}
+use Rattle.rebuild_edits.proofs.edits.StepLaws.{find_then, find_end, alter_then, alter_end, alter_as}
 use Rattle.elf_copy.specs.Copies.{after_names, after_updates}
 
 -- the names could not be worked out
@@ -30,7 +30,7 @@ plan_end {S} {T} h answer e old new never reads =
     (found_end {T = T} {U = Unit {0}} h (λ (u : Unit {0}). u) (Ok tt) e old new never reads)
 
 -- sections were renamed
-module _ {S : Type 0} (ch : Changes) (renewed : Bool) (old mid : State S) where
+module _ {S : Type 0} (ch : ChangeLists) (renewed : Bool) (old mid : State S) where
   pub renamed_then : (marks : List ℕ) (q : Result (Unit {0}) CopyFault) (new : State S)
       → Finds (λ marks. names_now old.o marks ch.rename)
       (in_turn with_name (names_in old.o) (stated_changes ch).rename) (Ok marks) old mid

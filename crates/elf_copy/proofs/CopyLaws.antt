@@ -9,29 +9,29 @@ use Rattle.elf_outside.specs.declared.sources.Source.{Ghosts}
 use Rattle.elf_object.specs.Object.{Object}
 use Rattle.elf_object.specs.Due.{homes_due}
 use Rattle.elf_object.specs.Words.{Wants, Answers}
-use Rattle.strip_rebuild.specs.elf_descriptor.State.{State}
-use Rattle.strip_rebuild.specs.elf_descriptor.Reads.{Queries}
-use Rattle.command_objects.specs.Arranged.{Rebuilt}
-use Rattle.command_objects.specs.Rebuilt.{rebuilt, renews_names}
-use Rattle.command_objects.specs.Removed.{with_found, with_followers, is_named, removed_by_name}
-use Rattle.command_objects.specs.Copied.{Changes, CopyFault as StatedFault, or_strip, copied}
-use Rattle.copy_edits.specs.strip_removed.Calls as calls
-use Rattle.copy_edits.specs.strip_removed.Steps.{IsRemovable}
-use Rattle.copy_edits.proofs.strip_removed.TopLaws.{are_removable}
-use Rattle.strip_rebuild.specs.declared.rebuilding.Rebuilt.{Rebuilt as Made}
-use Rattle.strip_rebuild.specs.Answers.{RebuildAnswers, EarlyBy, early_refusal, rebuild_due}
-use Rattle.strip_rebuild.specs.Makes.{AsksFor}
-use Rattle.strip_rebuild.proofs.AskLaws.{asks_reads, asks_as, asks_stop, asks_more, asks_twice}
-use Rattle.copy_changes.specs.declared.faults.CopyFault.{CopyFault}
-use Rattle.copy_changes.specs.declared.faults.CopyFault.TheVariants as faults
-use Rattle.copy_changes.specs.Stated.{stated_fault, IsUnread, outer_result}
+use Rattle.rebuild_object.specs.elf_descriptor.State.{State}
+use Rattle.rebuild_object.specs.elf_descriptor.Reads.{Queries}
+use Rattle.rebuild_model.specs.Arranged.{Rebuilt}
+use Rattle.rebuild_model.specs.Rebuilt.{rebuilt, renews_names}
+use Rattle.rebuild_model.specs.Removed.{with_found, with_followers, is_named, removed_by_name}
+use Rattle.rebuild_model.specs.Copied.{Changes, CopyFault as StatedFault, or_strip, copied}
+use Rattle.rebuild_edits.specs.rebuild_select.Calls as calls
+use Rattle.rebuild_edits.specs.rebuild_select.Steps.{IsRemovable}
+use Rattle.rebuild_edits.proofs.rebuild_select.TopLaws.{are_removable}
+use Rattle.rebuild_object.specs.rebuild_keep.declared.rebuilding.Rebuilt.{Rebuilt as Made}
+use Rattle.rebuild_object.specs.rebuild_keep.Answers.{RebuildAnswers, EarlyBy, early_refusal, rebuild_due}
+use Rattle.rebuild_object.specs.rebuild_keep.Makes.{AsksFor}
+use Rattle.rebuild_object.proofs.rebuild_keep.AskLaws.{asks_reads, asks_as, asks_stop, asks_more, asks_twice}
+use Rattle.rebuild_changes.specs.declared.faults.CopyFault.{CopyFault}
+use Rattle.rebuild_changes.specs.declared.faults.CopyFault.TheVariants as faults
+use Rattle.rebuild_changes.specs.Stated.{stated_copy_fault, IsWithoutDeviceFault, outer_result}
 use Rattle.elf_copy.specs.Copies.{seen_made, CopyAnswers, changed_anew, IsUsable, IsUnusable, Finishes, EndsEarly, EndsChanged, copy_due, CopiesWithout, Copies}
 use Rattle.elf_copy.proofs.FinishLaws.{rebuilt_usable}
 
 -- ---- What was asked for
 
 -- an answer in which nothing was read
-pub unread_rose : {T : Type 0} (r : Result T CopyFault) (a b : ℕ) → IsUnread r
+pub unread_rose : {T : Type 0} (r : Result T CopyFault) (a b : ℕ) → IsWithoutDeviceFault r
     → ReadRose (outer_result r) a b
 unread_rose (Ok x) a b unread = tt
 unread_rose (Err (faults.Strip Read)) a b unread = absurd unread
@@ -101,7 +101,7 @@ module _ {S : Type 0} (g : Ghosts S) (c : Changes) (removed : List ℕ) (old mid
   -- none was made
   stated_stop : (e : ElfError) (r : Result Rebuilt ElfError)
       (next : Rebuilt → Result Rebuilt StatedFault) → RebuildAnswers (Err e) r
-      → IfSome (stated_fault (faults.Strip e)) (λ d. (or_strip r >>= next) ≡ Err d)
+      → IfSome (stated_copy_fault (faults.Strip e)) (λ d. (or_strip r >>= next) ≡ Err d)
   stated_stop Memory r next is = tt
   stated_stop Read r next is = tt
   stated_stop Write r next is = absurd is
@@ -131,8 +131,8 @@ removable_by_name names o =
     are_removable o false (with_found o (λ before s. is_named names o s) [])
     (Ok (with_followers o false (with_found o (λ before s. is_named names o s) []))) refl
 
-pub ok_same : {A : Type 0} (a b : A) → ◌≡◌ {A = Result A ElfError} (Ok a) (Ok b) → a ≡ b
-ok_same a b is = cc
+pub ok_values_same : {A : Type 0} (a b : A) → ◌≡◌ {A = Result A ElfError} (Ok a) (Ok b) → a ≡ b
+ok_values_same a b is = cc
 
 copied_is : (c : Changes) (o : Object)
     → (or_strip (rebuilt o (removed_by_name c.remove o))
@@ -147,13 +147,13 @@ module _ {S : Type 0} (g : Ghosts S) (c : Changes) (old mid new : State S) where
       → (IsTrue old.told
       → ◌≡◌ {A = Result (List ℕ) ElfError} (Ok (removed_by_name c.remove old.o)) (Ok removed))
       → IsRemovable old.o removed
-      → Queries {T = List ℕ} g (calls.removed_by_name c.remove) [] (Ok removed) old mid
+      → Queries {T = List ℕ} g (calls.removal_by_name c.remove) [] (Ok removed) old mid
       → CopiesWithout g c removed q mid new → Copies g c q old new
   copied_all removed q found removable queries without =
       let same = queries.object in
       let told_on : IsTrue old.told → IsTrue mid.told = λ t. queries.reads.told ∙ t in
       let exact : IsTrue old.told → removed ≡ removed_by_name c.remove old.o =
-      λ t. sym (ok_same (removed_by_name c.remove old.o) removed (found t)) in
+      λ t. sym (ok_values_same (removed_by_name c.remove old.o) removed (found t)) in
       record {
         answer = λ t.
             subst (λ (r : Result Rebuilt StatedFault). CopyAnswers q r) (copied_is c old.o)
@@ -186,11 +186,11 @@ module _ {S : Type 0} (g : Ghosts S) (c : Changes) (old mid : State S) where
   outer_only e told w x is = cc
 
   outer_given : (e : ElfError) → (e ≡ Memory) ⊎ (e ≡ Read) → (r : Result Rebuilt StatedFault)
-      → IfSome (stated_fault (faults.Strip e)) (λ d. r ≡ Err d)
+      → IfSome (stated_copy_fault (faults.Strip e)) (λ d. r ≡ Err d)
   outer_given e (inl is) r =
-      subst (λ (x : ElfError). IfSome (stated_fault (faults.Strip x)) (λ d. r ≡ Err d)) (sym is) tt
+      subst (λ (x : ElfError). IfSome (stated_copy_fault (faults.Strip x)) (λ d. r ≡ Err d)) (sym is) tt
   outer_given e (inr is) r =
-      subst (λ (x : ElfError). IfSome (stated_fault (faults.Strip x)) (λ d. r ≡ Err d)) (sym is) tt
+      subst (λ (x : ElfError). IfSome (stated_copy_fault (faults.Strip x)) (λ d. r ≡ Err d)) (sym is) tt
 
   outer_early : (e : ElfError) → (e ≡ Memory) ⊎ (e ≡ Read) → (o : Object) (removed : List ℕ)
       → EarlyBy (early_refusal o removed) e
@@ -201,7 +201,7 @@ module _ {S : Type 0} (g : Ghosts S) (c : Changes) (old mid : State S) where
 
   pub copied_stop : (e : ElfError) (w : Wants)
       → Answers old.told w (Err e) (Ok (removed_by_name c.remove old.o))
-      → Queries {T = List ℕ} g (calls.removed_by_name c.remove) [] (Err e) old mid
+      → Queries {T = List ℕ} g (calls.removal_by_name c.remove) [] (Err e) old mid
       → Copies g c (Err (faults.Strip e)) old mid
   copied_stop e w found queries =
       let removed = removed_by_name c.remove old.o in

@@ -8,35 +8,35 @@ use Rattle.elf_types.specs.declared.errors.ElfError.{ElfError}
 use Rattle.elf_types.specs.declared.errors.ElfError.TheVariants.{Memory, Read, Write, TooLarge, NoSection, Unfit}
 use Rattle.elf_types.specs.declared.records.Part.TheVariants as part
 use Rattle.elf_types.specs.Answers.{refused_if, first_refusal, answered, FollowsBy, ◌>>=◌}
-use Rattle.strip_rebuild.specs.elf_descriptor.State.{State}
-use Rattle.strip_rebuild.specs.elf_descriptor.Edits.{StepsTo}
+use Rattle.rebuild_object.specs.elf_descriptor.State.{State}
+use Rattle.rebuild_object.specs.elf_descriptor.Edits.{StepsTo}
 use Rattle.elf_object.specs.Object.{Object, Section}
 use Rattle.elf_object.specs.Calls.{update_ehdr_refusal}
 use Rattle.elf_object.specs.Steps.{stored_ehdr}
 use Rattle.elf_xlate.specs.Headers.{ehdr_fits}
 use Rattle.elf_object.specs.Sections.{is_among, number_or_0}
-use Rattle.command_objects.specs.Followed.{Renumbering, renumbering, kept_sections, kept_from_1, followed, renumbered, is_section_number}
-use Rattle.command_objects.specs.Arranged.{Rebuilt, arranged, tail_refusal, placed_from, parts_from}
-use Rattle.command_objects.specs.Rebuilt.{rebuilt, rebuilt_object, rebuilt_sections, rebuilt_index, rebuilt_tail, renews_names, index_refusal}
-use Rattle.command_objects.specs.Copied.{Changes, CopyFault as StatedFault, or_strip, with_changes}
-use Rattle.copy_edits.specs.object_making.Placing.{made_of, arranged_refusal, placed_state, arranged_state}
+use Rattle.rebuild_model.specs.Followed.{Renumbering, renumbering, kept_sections, kept_from_1, followed, renumbered, is_section_number}
+use Rattle.rebuild_model.specs.Arranged.{Rebuilt, arranged, tail_refusal, placed_from, parts_from}
+use Rattle.rebuild_model.specs.Rebuilt.{rebuilt, rebuilt_object, rebuilt_sections, rebuilt_index, rebuilt_tail, renews_names, index_refusal}
+use Rattle.rebuild_model.specs.Copied.{Changes, CopyFault as StatedFault, or_strip, with_changes}
+use Rattle.rebuild_edits.specs.rebuild_making.Placing.{made_of, arranged_refusal, placed_state, arranged_state}
 use Rattle.elf_layout.specs.Layout.{some_above, limit_of}
-use Rattle.copy_edits.specs.strip_removed.Steps.{IsRemovable}
-use Rattle.strip_rebuild.proofs.NumberLaws.{zero_stays, kept_with_0}
-use Rattle.strip_laws.proofs.RebuiltLaws.{rebuilt_known}
-use Rattle.copy_laws.proofs.Reopened.{front_is}
-use Rattle.copy_laws.proofs.AllChanges.{places_leave}
-use Rattle.copy_changes.specs.declared.faults.CopyFault.{CopyFault}
-use Rattle.copy_changes.specs.declared.faults.CopyFault.TheVariants as faults
-use Rattle.copy_changes.specs.Stated.{stated_fault, IsUnread}
-use Rattle.copy_edits.specs.Steps.{Alters}
-use Rattle.copy_edits.proofs.StepLaws.{told_on, refused_bind}
-use Rattle.elf_copy.specs.Copies.{placed, changed_placed, usable_at, IsUsable, IsNoSection, Places}
+use Rattle.rebuild_edits.specs.rebuild_select.Steps.{IsRemovable}
+use Rattle.rebuild_object.proofs.rebuild_keep.NumberLaws.{zero_stays, kept_with_0}
+use Rattle.law_rebuild.proofs.strip.RebuiltLaws.{rebuilt_known}
+use Rattle.law_rebuild.proofs.copy.Reopened.{front_is}
+use Rattle.law_rebuild.proofs.copy.AllChanges.{places_leave}
+use Rattle.rebuild_changes.specs.declared.faults.CopyFault.{CopyFault}
+use Rattle.rebuild_changes.specs.declared.faults.CopyFault.TheVariants as faults
+use Rattle.rebuild_changes.specs.Stated.{stated_copy_fault, IsWithoutDeviceFault}
+use Rattle.rebuild_edits.specs.Edits.Steps.{Alters}
+use Rattle.rebuild_edits.proofs.edits.StepLaws.{told_on, refused_bind}
+use Rattle.elf_copy.specs.Copies.{placed_copy, changed_placed, usable_at, IsUsable, IsNoSection, PlacesObject}
 
 -- ---- A refusal of a step, as a fault
 
 pub strip_given : {A : Type 0} (e : ElfError) (r : Result A ElfError) → r ≡ Err e
-    → IfSome (stated_fault (faults.Strip e)) (λ d. or_strip r ≡ Err d)
+    → IfSome (stated_copy_fault (faults.Strip e)) (λ d. or_strip r ≡ Err d)
 strip_given Memory r is = tt
 strip_given Read r is = tt
 strip_given {A} e r is = ap (λ (x : Result A ElfError). or_strip x) is
@@ -68,7 +68,7 @@ tail_large o n d is = by_test (some_above (limit_of o.header.class) (parts_from 
 module _ {S : Type 0} (tail : Option ℕ) (old new : State S) where
   pub placed_all : StepsTo {A = Unit {0}} {E = ElfError} (Ok tt) old new (arranged_state old tail)
       → Ok (made_of new.o tail) ≡ arranged (made_of old.o tail)
-      → Places (placed tail old.o) tail (Ok tt) old new
+      → PlacesObject (placed_copy tail old.o) tail (Ok tt) old new
   placed_all state is = record {
     told = ap (λ (s : State S). s.told) state ∙ arranged_told old tail;
     unread = tt;
@@ -95,11 +95,11 @@ module _ {S : Type 0} (tail : Option ℕ) (old new : State S) where
       → StepsTo {A = Unit {0}} {E = ElfError} (Err e) old new (arranged_state old tail)
       → ◌≡◌ {A = Result Rebuilt ElfError} (Err e) (arranged (made_of old.o tail))
       → ◌≡◌ {A = Result (Unit {0}) ElfError} (Err e) (answered (arranged_refusal old.o tail) tt)
-      → Places (placed tail old.o) tail (Err (faults.Strip e)) old new
+      → PlacesObject (placed_copy tail old.o) tail (Err (faults.Strip e)) old new
   placed_end e state is answer = record {
     told = ap (λ (s : State S). s.told) state;
     unread =
-        subst (λ (d : ElfError). IsUnread {T = Unit {0}} (Err (faults.Strip d)))
+        subst (λ (d : ElfError). IsWithoutDeviceFault {T = Unit {0}} (Err (faults.Strip d)))
         (sym (large_only e answer)) tt;
     placed = λ t. strip_given e (arranged (made_of old.o tail)) (sym is);
   }
@@ -109,25 +109,25 @@ module _ {S : Type 0} (tail : Option ℕ) (old new : State S) where
 module _ {S : Type 0} (c : Changes) (renewed : Bool) (tail : Option ℕ) (old mid : State S) where
   pub changed_placed_then : (q : Result (Unit {0}) CopyFault) (new : State S)
       → Alters {T = Unit {0}} (with_changes c renewed old.o) (Ok tt) old mid
-      → Places (placed tail mid.o) tail q mid new
-      → Places (changed_placed c renewed tail old.o) tail q old new
+      → PlacesObject (placed_copy tail mid.o) tail q mid new
+      → PlacesObject (changed_placed c renewed tail old.o) tail q old new
   changed_placed_then q new first second = record {
     told = second.told ∙ first.told;
     unread = second.unread;
     placed = λ t.
         subst (λ (r : Result Object StatedFault).
-        FollowsBy (λ (u : Unit {0}). made_of new.o tail) stated_fault q (r >>= placed tail))
+        FollowsBy (λ (u : Unit {0}). made_of new.o tail) stated_copy_fault q (r >>= placed_copy tail))
         (sym (first.altered t)) (second.placed (told_on old mid first.told t));
   }
 
   pub changed_placed_end : (f : CopyFault)
       → Alters {T = Unit {0}} (with_changes c renewed old.o) (Err f) old mid
-      → Places (changed_placed c renewed tail old.o) tail (Err f) old mid
+      → PlacesObject (changed_placed c renewed tail old.o) tail (Err f) old mid
   changed_placed_end f first = record {
     told = first.told;
     unread = first.unread;
     placed = λ t.
-        refused_bind (with_changes c renewed old.o) (placed tail) (stated_fault f)
+        refused_bind (with_changes c renewed old.o) (placed_copy tail) (stated_copy_fault f)
         (first.altered t);
   }
 
@@ -178,7 +178,7 @@ module _ (o : Object) (renewed : Bool) (index count : ℕ) (b : Bool)
       let both : false ≡ true = sym fails ∙ is ∙ holds in cc
 
 pub no_section_unread : (T : Type 0) (e : ElfError) → IsNoSection e
-    → IsUnread {T = T} (Err (faults.Strip e))
+    → IsWithoutDeviceFault {T = T} (Err (faults.Strip e))
 no_section_unread T Read is = absurd is
 no_section_unread T Write is = absurd is
 no_section_unread T e is = tt

@@ -1,4 +1,4 @@
-pub use Rattle.strip_rebuild.proofs as strip_rebuild
+pub use Rattle.rebuild_object.proofs.rebuild_keep
 pub mod NamingLaws
 pub mod ChangeLaws
 pub mod FinishLaws

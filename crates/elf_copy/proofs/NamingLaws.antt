@@ -10,22 +10,22 @@ use Rattle.strtab_build.specs.Table.{place_of}
 use Rattle.elf_object.specs.Object.{Object, Section}
 use Rattle.elf_object.specs.Steps.{with_own}
 use Rattle.elf_object.specs.Strings.{or_empty_name}
-use Rattle.strip_rebuild.specs.elf_descriptor.State.{State}
+use Rattle.rebuild_object.specs.elf_descriptor.State.{State}
 use Rattle.elf_object.specs.Sections.{in_turn}
-use Rattle.command_objects.specs.Rebuilt.{table_refusal}
-use Rattle.command_objects.specs.Copied.{CopyFault as StatedFault, or_strip, with_added, with_section_flags, named_section, with_names, named, changes_names}
-use Rattle.copy_names.specs.declared.naming.NewNames.{NewNames}
-use Rattle.copy_changes.specs.declared.changes.Changes.{Changes}
-use Rattle.copy_changes.specs.declared.faults.CopyFault.{CopyFault}
-use Rattle.copy_changes.specs.Stated.{stated_changes}
-use Rattle.copy_edits.specs.Names.{names_now}
-use Rattle.copy_edits.specs.Steps.{IsThere, KeepsIndex, Alters}
-use Rattle.copy_edits.proofs.StepLaws.{find_then, alter_as}
-use Rattle.copy_names.specs.declared.naming.Naming.{Naming}
-use Rattle.copy_names.specs.declared.naming.Naming.TheVariants.{Stay, NoTable, TooLarge, Anew}
-use Rattle.copy_names.specs.Texts.{all_texts, IsTableOf}
-use Rattle.copy_names.specs.Stores.{IsNaming, placed_name, with_places, with_table, named_by, HasTable}
-use Rattle.elf_copy.specs.Copies.{added_named, flagged_named, names_stored, after_names, IsUsable}
+use Rattle.rebuild_model.specs.Rebuilt.{table_refusal}
+use Rattle.rebuild_model.specs.Copied.{CopyFault as StatedFault, or_strip, with_added, with_section_flags, named_section, with_names, named, changes_names}
+use Rattle.rebuild_edits.specs.declared.naming.NewNameTable.{NewNameTable}
+use Rattle.rebuild_changes.specs.declared.changes.ChangeLists.{ChangeLists}
+use Rattle.rebuild_changes.specs.declared.faults.CopyFault.{CopyFault}
+use Rattle.rebuild_changes.specs.Stated.{stated_changes}
+use Rattle.rebuild_edits.specs.Edits.Names.{names_now}
+use Rattle.rebuild_edits.specs.Edits.Steps.{IsPresentSection, KeepsIndex, Alters}
+use Rattle.rebuild_edits.proofs.edits.StepLaws.{find_then, alter_as}
+use Rattle.rebuild_edits.specs.declared.naming.Naming.{Naming}
+use Rattle.rebuild_edits.specs.declared.naming.Naming.TheVariants.{Stay, NoTable, TooLarge, Anew}
+use Rattle.rebuild_edits.specs.Texts.{all_texts, IsTableOf}
+use Rattle.rebuild_edits.specs.Stores.{IsNaming, with_name_place, with_places, with_table, named_by, HasNameTable}
+use Rattle.elf_copy.specs.Copies.{added_named, flagged_named, changed_names_stored, after_names, IsUsable}
 
 -- ---- A new table
 
@@ -57,7 +57,7 @@ map_alike {A} {B} f g same (x ∷ l) =
 
 section_alike : (texts : List (List ℕ)) (places : List ℕ)
     → places ≡ 0 ∷ map (λ text. place_of text texts) texts
-    → (row : ℕ × Section) → placed_name places row.0 row.1 ≡ named_section texts row.0 row.1
+    → (row : ℕ × Section) → with_name_place places row.0 row.1 ≡ named_section texts row.0 row.1
 section_alike texts places is row =
     ap (λ (n : ℕ).
     if row.0 == 0 then row.1
@@ -66,14 +66,14 @@ section_alike texts places is row =
 
 sections_alike : (o : Object) (texts : List (List ℕ)) (places : List ℕ)
     → places ≡ 0 ∷ map (λ text. place_of text texts) texts
-    → map (λ row. placed_name places row.0 row.1) (enumerate_from 0 o.sections)
+    → map (λ row. with_name_place places row.0 row.1) (enumerate_from 0 o.sections)
     ≡ map (λ row. named_section texts row.0 row.1) (enumerate_from 0 o.sections)
 sections_alike o texts places is =
-    map_alike (λ (row : ℕ × Section). placed_name places row.0 row.1)
+    map_alike (λ (row : ℕ × Section). with_name_place places row.0 row.1)
     (λ (row : ℕ × Section). named_section texts row.0 row.1) (section_alike texts places is)
     (enumerate_from 0 o.sections)
 
-table_is : (o : Object) (texts : List (List ℕ)) (names : NewNames) → IsTableOf texts names
+table_is : (o : Object) (texts : List (List ℕ)) (names : NewNameTable) → IsTableOf texts names
     → with_table o names ≡ with_names o texts
 unfolding with_table with_places with_names
 table_is o texts names is =
@@ -99,7 +99,7 @@ module _ (o : Object) (names : List (Option (List ℕ))) where
   unfolding named
   named_with = refl
 
-module _ (o : Object) (marks : List ℕ) (ch : Changes) (renewed : Bool) where
+module _ (o : Object) (marks : List ℕ) (ch : ChangeLists) (renewed : Bool) where
   abbrev all_names : List (Option (List ℕ))
   all_names =
       names_now o marks ch.rename ++ map (λ change. Some change.0) (stated_changes ch).add
@@ -114,7 +114,7 @@ module _ (o : Object) (marks : List ℕ) (ch : Changes) (renewed : Bool) where
   renewed_as b p is = ap (λ (r : Bool). named r p all_names) is
 
   changed_as : (b : Bool) (p : Object) → changes_names (stated_changes ch) ≡ b
-      → names_stored (stated_changes ch) renewed (names_now o marks ch.rename) p
+      → changed_names_stored (stated_changes ch) renewed (names_now o marks ch.rename) p
       ≡ (if b then named renewed p all_names else Ok p)
   changed_as b p is = ap (λ (r : Bool). if r then named renewed p all_names else Ok p) is
 
@@ -134,7 +134,7 @@ module _ (o : Object) (marks : List ℕ) (ch : Changes) (renewed : Bool) where
       → IsNaming (changes_names (stated_changes ch)) renewed (all_texts o marks ch) naming
       → (p : Object)
       → named_by naming p
-      ≡ names_stored (stated_changes ch) renewed (names_now o marks ch.rename) p
+      ≡ changed_names_stored (stated_changes ch) renewed (names_now o marks ch.rename) p
   naming_is Stay is p = sym (changed_as false p is)
   naming_is NoTable is p =
       sym (changed_as true p is.0 ∙ renewed_as false p is.1 ∙ named_without p all_names)
@@ -152,7 +152,7 @@ bind_alike : {A B E : Type 0} (r : Result A E) (f g : A → Result B E)
 bind_alike (Ok x) f g same = same x
 bind_alike (Err e) f g same = refl
 
-flagged_is : (o : Object) (marks : List ℕ) (ch : Changes) (renewed : Bool) (naming : Naming)
+flagged_is : (o : Object) (marks : List ℕ) (ch : ChangeLists) (renewed : Bool) (naming : Naming)
     → IsNaming (changes_names (stated_changes ch)) renewed (all_texts o marks ch) naming
     → flagged_named (stated_changes ch) (names_now o marks ch.rename) naming o
     ≡ after_names (stated_changes ch) renewed o (names_now o marks ch.rename)
@@ -160,12 +160,12 @@ flagged_is o marks ch renewed naming is =
     let c = stated_changes ch in
     let names = names_now o marks ch.rename in
     bind_alike (in_turn (with_section_flags names) o c.flags) (added_named c naming)
-    (λ (p : Object). in_turn with_added p c.add >>= names_stored c renewed names)
+    (λ (p : Object). in_turn with_added p c.add >>= changed_names_stored c renewed names)
     (λ p. bind_alike (in_turn with_added p c.add) (named_by naming)
-    (names_stored c renewed names) (naming_is o marks ch renewed naming is))
+    (changed_names_stored c renewed names) (naming_is o marks ch renewed naming is))
 
 -- behind the plan
-pub planned : {S : Type 0} (ch : Changes) (renewed : Bool) (marks : List ℕ) (naming : Naming)
+pub naming_planned : {S : Type 0} (ch : ChangeLists) (renewed : Bool) (marks : List ℕ) (naming : Naming)
     (q : Result (Unit {0}) CopyFault) (old mid new : State S)
     → IsNaming (changes_names (stated_changes ch)) renewed (all_texts old.o marks ch) naming
     → mid.o ≡ old.o → mid.told ≡ old.told
@@ -173,7 +173,7 @@ pub planned : {S : Type 0} (ch : Changes) (renewed : Bool) (marks : List ℕ) (n
     q mid new
     → Alters (after_names (stated_changes ch) renewed old.o (names_now old.o marks ch.rename))
     q old new
-planned {S} ch renewed marks naming q old mid new is same told flagged =
+naming_planned {S} ch renewed marks naming q old mid new is same told flagged =
     find_then (λ (n : Naming). tt {0}) (Ok tt)
     (λ (o : Object) (u : Unit {0}).
     after_names (stated_changes ch) renewed o (names_now o marks ch.rename))
@@ -189,8 +189,8 @@ planned {S} ch renewed marks naming q old mid new is same told flagged =
 
 -- ---- The section of the names
 
-there_stays : (o p : Object) → KeepsIndex o p → IsThere o o.header.shstrndx
-    → IsThere p p.header.shstrndx
+there_stays : (o p : Object) → KeepsIndex o p → IsPresentSection o o.header.shstrndx
+    → IsPresentSection p p.header.shstrndx
 there_stays o p keeps there =
     let index = keeps.index in
     let count = keeps.count in
@@ -206,20 +206,20 @@ usable_stays o p renewed keeps (inr there) = inr (there_stays o p keeps there)
 pub usable_as : (o p : Object) (renewed : Bool) → p ≡ o → IsUsable o renewed → IsUsable p renewed
 usable_as o p renewed same is = subst (λ (q : Object). IsUsable q renewed) (sym same) is
 
-named_there : (o : Object) → IsUsable o true → IsThere o o.header.shstrndx
+named_there : (o : Object) → IsUsable o true → IsPresentSection o o.header.shstrndx
 named_there o (inl none) = let never : true ≡ false = none.1 in cc
 named_there o (inr there) = there
 
-pub table_there : (change renewed : Bool) (texts : List (List ℕ)) (naming : Naming) (o : Object)
-    → IsNaming change renewed texts naming → IsUsable o renewed → HasTable naming o
-table_there change renewed texts Stay o is usable = tt
-table_there change renewed texts NoTable o is usable = tt
-table_there change renewed texts TooLarge o is usable = tt
-table_there change renewed texts (Anew names) o is usable =
+pub name_table_there : (change renewed : Bool) (texts : List (List ℕ)) (naming : Naming) (o : Object)
+    → IsNaming change renewed texts naming → IsUsable o renewed → HasNameTable naming o
+name_table_there change renewed texts Stay o is usable = tt
+name_table_there change renewed texts NoTable o is usable = tt
+name_table_there change renewed texts TooLarge o is usable = tt
+name_table_there change renewed texts (Anew names) o is usable =
     named_there o (subst (λ (r : Bool). IsUsable o r) is.1 usable)
 
-pub table_stays : (naming : Naming) (o p : Object) → KeepsIndex o p → HasTable naming o
-    → HasTable naming p
+pub table_stays : (naming : Naming) (o p : Object) → KeepsIndex o p → HasNameTable naming o
+    → HasNameTable naming p
 table_stays Stay o p keeps has = tt
 table_stays NoTable o p keeps has = tt
 table_stays TooLarge o p keeps has = tt

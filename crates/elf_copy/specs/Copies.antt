@@ -6,24 +6,24 @@ use Rattle.elf_types.specs.Answers.{FollowsBy, ◌>>=◌}
 use Rattle.elf_outside.specs.declared.sources.Source.{Ghosts}
 use Rattle.elf_object.specs.Object.{Object}
 use Rattle.elf_object.specs.Due.{homes_due}
-use Rattle.strip_rebuild.specs.elf_descriptor.State.{State}
+use Rattle.rebuild_object.specs.elf_descriptor.State.{State}
 use Rattle.elf_object.specs.Sections.{in_turn}
-use Rattle.command_objects.specs.Arranged.{Rebuilt, arranged}
-use Rattle.command_objects.specs.Rebuilt.{rebuilt, renews_names}
-use Rattle.command_objects.specs.Removed.{removed_by_name}
-use Rattle.command_objects.specs.Copied.{Changes, CopyFault as StatedFault, or_strip, names_in, with_name, with_section_flags, with_added, named, changes_names, with_changes, copied}
-use Rattle.copy_edits.specs.object_making.Placing.{made_of}
-use Rattle.copy_edits.specs.strip_removed.Calls.{names_home}
-use Rattle.copy_edits.specs.strip_removed.Steps.{IsRemovable}
-use Rattle.strip_rebuild.specs.declared.rebuilding.Rebuilt.{Rebuilt as Made}
-use Rattle.strip_rebuild.specs.Answers.{EarlyBy, early_refusal, rebuild_due}
-use Rattle.strip_rebuild.specs.Makes.{AsksFor}
-use Rattle.copy_changes.specs.declared.faults.CopyFault.{CopyFault}
-use Rattle.copy_changes.specs.declared.faults.CopyFault.TheVariants as faults
-use Rattle.copy_changes.specs.Stated.{stated_fault, IsUnread, outer_result}
-use Rattle.copy_edits.specs.Steps.{IsThere}
-use Rattle.copy_names.specs.declared.naming.Naming.{Naming}
-use Rattle.copy_names.specs.Stores.{named_by}
+use Rattle.rebuild_model.specs.Arranged.{Rebuilt, arranged}
+use Rattle.rebuild_model.specs.Rebuilt.{rebuilt, renews_names}
+use Rattle.rebuild_model.specs.Removed.{removed_by_name}
+use Rattle.rebuild_model.specs.Copied.{Changes, CopyFault as StatedFault, or_strip, names_in, with_name, with_section_flags, with_added, named, changes_names, with_changes, copied}
+use Rattle.rebuild_edits.specs.rebuild_making.Placing.{made_of}
+use Rattle.rebuild_edits.specs.rebuild_select.Calls.{names_home}
+use Rattle.rebuild_edits.specs.rebuild_select.Steps.{IsRemovable}
+use Rattle.rebuild_object.specs.rebuild_keep.declared.rebuilding.Rebuilt.{Rebuilt as Made}
+use Rattle.rebuild_object.specs.rebuild_keep.Answers.{EarlyBy, early_refusal, rebuild_due}
+use Rattle.rebuild_object.specs.rebuild_keep.Makes.{AsksFor}
+use Rattle.rebuild_changes.specs.declared.faults.CopyFault.{CopyFault}
+use Rattle.rebuild_changes.specs.declared.faults.CopyFault.TheVariants as faults
+use Rattle.rebuild_changes.specs.Stated.{stated_copy_fault, IsWithoutDeviceFault, outer_result}
+use Rattle.rebuild_edits.specs.Edits.Steps.{IsPresentSection}
+use Rattle.rebuild_edits.specs.declared.naming.Naming.{Naming}
+use Rattle.rebuild_edits.specs.Stores.{named_by}
 
 -- ---- Answers
 
@@ -36,15 +36,15 @@ seen_parts s tail = record { object = s.o; tail = tail }
 
 -- the stated object or fault, but for want of memory and failed reads
 abbrev pub CopyAnswers : Result Made CopyFault → Result Rebuilt StatedFault → Type 0
-CopyAnswers result stated = FollowsBy seen_made stated_fault result stated
+CopyAnswers result stated = FollowsBy seen_made stated_copy_fault result stated
 
 -- an object with its places, as a step of copy
-abbrev pub placed : Option ℕ → Object → Result Rebuilt StatedFault
-placed tail o = or_strip (arranged (made_of o tail))
+abbrev pub placed_copy : Option ℕ → Object → Result Rebuilt StatedFault
+placed_copy tail o = or_strip (arranged (made_of o tail))
 
 -- what the changes and the places make of an object that was made anew
 abbrev pub changed_placed : Changes → Bool → Option ℕ → Object → Result Rebuilt StatedFault
-changed_placed c renewed tail o = with_changes c renewed o >>= placed tail
+changed_placed c renewed tail o = with_changes c renewed o >>= placed_copy tail
 
 abbrev pub changed_anew : Changes → Bool → Rebuilt → Result Rebuilt StatedFault
 changed_anew c renewed r = changed_placed c renewed r.tail r.object
@@ -62,9 +62,9 @@ flagged_named c names naming o =
     in_turn (with_section_flags names) o c.flags >>= added_named c naming
 
 -- what is stated of the names in the end
-abbrev pub names_stored : Changes → Bool → List (Option (List ℕ)) → Object
+abbrev pub changed_names_stored : Changes → Bool → List (Option (List ℕ)) → Object
     → Result Object StatedFault
-names_stored c renewed names o =
+changed_names_stored c renewed names o =
     if changes_names c
     then named renewed o (names ++ map (λ change. Some change.0) c.add)
     else Ok o
@@ -74,7 +74,7 @@ abbrev pub after_names : Changes → Bool → Object → List (Option (List ℕ)
     → Result Object StatedFault
 after_names c renewed o names =
     in_turn (with_section_flags names) o c.flags >>= λ flagged.
-    in_turn with_added flagged c.add >>= names_stored c renewed names
+    in_turn with_added flagged c.add >>= changed_names_stored c renewed names
 
 -- what follows the bytes
 abbrev pub after_updates : Changes → Bool → Object → Result Object StatedFault
@@ -85,7 +85,7 @@ after_updates c renewed o = in_turn with_name (names_in o) c.rename >>= after_na
 -- the string index is the number of a section from 1 on, or 0 where no table of names is renewed
 abbrev pub IsUsable : Object → Bool → Type 0
 IsUsable o renewed =
-    ((o.header.shstrndx ≡ 0) × (renewed ≡ false)) ⊎ IsThere o o.header.shstrndx
+    ((o.header.shstrndx ≡ 0) × (renewed ≡ false)) ⊎ IsPresentSection o o.header.shstrndx
 
 -- by a test of the numbers
 abbrev pub usable_at : ℕ → ℕ → Bool → Bool
@@ -102,11 +102,11 @@ IsChecked o renewed (Ok x) = IsUsable o renewed
 IsChecked o renewed (Err e) = (IsUsable o renewed → ⊥) × IsNoSection e
 
 -- a step that ends in an object with its places
-pub record Places {S : Type 0} (answer : Result Rebuilt StatedFault) (tail : Option ℕ)
+pub record PlacesObject {S : Type 0} (answer : Result Rebuilt StatedFault) (tail : Option ℕ)
     (result : Result (Unit {0}) CopyFault) (old new : State S) : Type 0 where
   pub told : new.told ≡ old.told
-  pub unread : IsUnread result
-  pub placed : IsTrue old.told → FollowsBy (λ _. made_of new.o tail) stated_fault result answer
+  pub unread : IsWithoutDeviceFault result
+  pub placed : IsTrue old.told → FollowsBy (λ _. made_of new.o tail) stated_copy_fault result answer
 
 -- refused, since the index names no section
 abbrev pub IsUnusable : Result Made CopyFault → Type 0
@@ -118,7 +118,7 @@ pub record Finishes (c : Changes) (renewed : Bool) (anew : Rebuilt) (result : Re
     : Type 0 where
   pub ends : CopyAnswers result (changed_anew c renewed anew)
       ⊎ ((IsUsable anew.object renewed → ⊥) × IsUnusable result)
-  pub unread : IsUnread result
+  pub unread : IsWithoutDeviceFault result
   pub made : IfOk result (λ r. r.elf.told ≡ true)
 
 -- ---- Over every source

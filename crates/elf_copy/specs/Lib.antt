@@ -1,2 +1,2 @@
-pub use Rattle.strip_rebuild.specs as strip_rebuild
+pub use Rattle.rebuild_object.specs.rebuild_keep
 pub mod Copies

@@ -1,20 +1,20 @@
-//! The changes of an object that was made anew, from the last one back.
+//! The changes of an object that was rebuilt, from the last one back.
 
 ghost use Rattle.std.specs.Prelude.{◌≡◌, Err, IsTrue};
-ghost use Rattle.command_objects.specs.Copied.{with_changes};
-ghost use Rattle.copy_changes.specs.Stated.{HasPlainNames, stated_changes};
-ghost use Rattle.copy_edits.specs.Names.{names_now};
-ghost use Rattle.copy_edits.specs.Steps.{Alters};
-ghost use Rattle.copy_names.specs.Stores.{HasTable};
+ghost use Rattle.rebuild_model.specs.Copied.{with_changes};
+ghost use Rattle.rebuild_changes.specs.Stated.{HasPlainNames, stated_changes};
+ghost use Rattle.rebuild_edits.specs.Edits.Names.{names_now};
+ghost use Rattle.rebuild_edits.specs.Edits.Steps.{Alters};
+ghost use Rattle.rebuild_edits.specs.Stores.{HasNameTable};
 ghost use Rattle.elf_copy.specs.Copies.{added_named, flagged_named, after_names, after_updates, IsUsable};
 
-use copy_changes::{Changes, CopyFault};
-use copy_edits::{add_sections, flag_sections, rename_sections, update_sections};
-use copy_names::{Naming, plan_names, store_names};
 use elf_outside::NoSource;
 use elf_types::List;
+use rebuild_changes::{ChangeLists, CopyFault};
+use rebuild_edits::edits::{add_sections, flag_sections, rename_sections, update_sections};
+use rebuild_edits::{Naming, plan_names, store_names};
+use rebuild_object::prelude::Elf;
 use std::alloc::Global;
-use strip_rebuild::prelude::Elf;
 
 /// A fault in place of names, which are dropped.
 fn refuse_names(_naming: Naming, fault: CopyFault) -> Result<(), CopyFault>
@@ -27,10 +27,10 @@ fn refuse_names(_naming: Naming, fault: CopyFault) -> Result<(), CopyFault>
 fn add_and_name(
     alloc: Global,
     elf: &mut Elf<NoSource>,
-    changes: &Changes,
+    changes: &ChangeLists,
     naming: Naming,
 ) -> Result<(), CopyFault>
-    requires { HasTable naming elf.old.o }
+    requires { HasNameTable naming elf.old.o }
     ensures { Alters (added_named (stated_changes changes.now) naming elf.old.o)
         result elf.old elf.new }
 {
@@ -45,10 +45,10 @@ fn flag_and_add(
     alloc: Global,
     elf: &mut Elf<NoSource>,
     marks: &List<u64>,
-    changes: &Changes,
+    changes: &ChangeLists,
     naming: Naming,
 ) -> Result<(), CopyFault>
-    requires { HasTable naming elf.old.o }
+    requires { HasNameTable naming elf.old.o }
     ensures { Alters (flagged_named (stated_changes changes.now)
         (names_now elf.old.o marks.now changes.now.rename) naming elf.old.o)
         result elf.old elf.new }
@@ -64,7 +64,7 @@ fn plan_and_flag(
     alloc: Global,
     elf: &mut Elf<NoSource>,
     marks: &List<u64>,
-    changes: &Changes,
+    changes: &ChangeLists,
     renewed: bool,
 ) -> Result<(), CopyFault>
     requires told { IsTrue elf.old.told }
@@ -83,7 +83,7 @@ fn plan_and_flag(
 fn rename_and_plan(
     alloc: Global,
     elf: &mut Elf<NoSource>,
-    changes: &Changes,
+    changes: &ChangeLists,
     renewed: bool,
 ) -> Result<(), CopyFault>
     requires told { IsTrue elf.old.told }
@@ -103,7 +103,7 @@ fn rename_and_plan(
 pub(crate) fn make_changes(
     alloc: Global,
     elf: &mut Elf<NoSource>,
-    changes: &Changes,
+    changes: &ChangeLists,
     renewed: bool,
 ) -> Result<(), CopyFault>
     requires told { IsTrue elf.old.told }

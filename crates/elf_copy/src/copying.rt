@@ -2,24 +2,24 @@
 
 ghost use Rattle.std.specs.Prelude.{◌≡◌, ◌⊎◌, ◌<◌, false, true, length, IsTrue};
 ghost use Rattle.elf_object.specs.Object.{is_dirty};
-ghost use Rattle.copy_edits.specs.strip_removed.Steps.{IsRemovable};
-ghost use Rattle.copy_changes.specs.Stated.{HasPlainNames, stated_changes};
-ghost use Rattle.elf_copy.specs.Copies.{placed, changed_placed, seen_parts, seen_made, usable_at, IsUsable, IsChecked, Places, Finishes, CopiesWithout, Copies};
+ghost use Rattle.rebuild_edits.specs.rebuild_select.Steps.{IsRemovable};
+ghost use Rattle.rebuild_changes.specs.Stated.{HasPlainNames, stated_changes};
+ghost use Rattle.elf_copy.specs.Copies.{placed_copy, changed_placed, seen_parts, seen_made, usable_at, IsUsable, IsChecked, PlacesObject, Finishes, CopiesWithout, Copies};
 
 use crate::changing::make_changes;
-use copy_changes::{Changes, CopyFault};
-use copy_edits::prelude::{SectionSet, arrange, removed_by_name};
 use elf_outside::{NoSource, Source};
 use elf_types::ElfError;
+use rebuild_changes::{ChangeLists, CopyFault};
+use rebuild_edits::prelude::{SectionSet, arrange, removed_by_name, renews_names};
+use rebuild_object::prelude::{Elf, Rebuilt};
+use rebuild_object::rebuild;
 use std::alloc::Global;
-use strip_rebuild::prelude::{Elf, renews_names};
-use strip_rebuild::{Rebuilt, rebuild};
 
-/// Gives what is not loaded its places behind a tail.
+/// Gives what is not loaded its places after a tail.
 fn place(elf: &mut Elf<NoSource>, tail: Option<u64>) -> Result<(), CopyFault>
     requires { (elf.old.o.header.shstrndx ≡ 0)
         ⊎ (elf.old.o.header.shstrndx < length elf.old.o.sections) }
-    ensures { Places (placed tail elf.old.o) tail result elf.old elf.new }
+    ensures { PlacesObject (placed_copy tail elf.old.o) tail result elf.old elf.new }
 {
     match arrange(elf, tail) {
         Ok(()) => Ok(()),
@@ -31,14 +31,14 @@ fn place(elf: &mut Elf<NoSource>, tail: Option<u64>) -> Result<(), CopyFault>
 fn change_and_place(
     alloc: Global,
     elf: &mut Elf<NoSource>,
-    changes: &Changes,
+    changes: &ChangeLists,
     renewed: bool,
     tail: Option<u64>,
 ) -> Result<(), CopyFault>
     requires told { IsTrue elf.old.told }
     requires plain { HasPlainNames changes.now }
     requires usable { IsUsable elf.old.o renewed }
-    ensures { Places (changed_placed (stated_changes changes.now) renewed tail elf.old.o) tail
+    ensures { PlacesObject (changed_placed (stated_changes changes.now) renewed tail elf.old.o) tail
         result elf.old elf.new }
 {
     match make_changes(alloc, elf, changes, renewed) {
@@ -54,7 +54,7 @@ fn is_usable(index: u32, count: u32, renewed: bool) -> bool
     if index == 0 { !renewed } else { index < count }
 }
 
-/// Refuses a string index that is the number of no section, or 0 where there is to be a table of
+/// Rejects a string index that is the number of no section, or 0 where there must be a table of
 /// names.
 fn check_index(elf: &Elf<NoSource>, renewed: bool) -> Result<(), ElfError>
     ensures { IsChecked elf.now.o renewed result }
@@ -67,11 +67,11 @@ fn check_index(elf: &Elf<NoSource>, renewed: bool) -> Result<(), ElfError>
     Err(ElfError::NoSection { index, count })
 }
 
-/// Changes an object that was made anew, and whose string index is usable.
+/// Changes an object that was rebuilt, and whose string index is usable.
 fn finish_usable(
     alloc: Global,
     mut elf: Elf<NoSource>,
-    changes: &Changes,
+    changes: &ChangeLists,
     renewed: bool,
     tail: Option<u64>,
 ) -> Result<Rebuilt, CopyFault>
@@ -86,11 +86,11 @@ fn finish_usable(
     }
 }
 
-/// Changes an object that was made anew.
+/// Changes an object that was rebuilt.
 fn finish(
     alloc: Global,
     made: Rebuilt,
-    changes: &Changes,
+    changes: &ChangeLists,
     renewed: bool,
 ) -> Result<Rebuilt, CopyFault>
     requires told { made.elf.told ≡ true }
@@ -108,7 +108,7 @@ fn finish(
 fn copy_without<S: Source>(
     alloc: Global,
     elf: &mut Elf<S>,
-    changes: &Changes,
+    changes: &ChangeLists,
     removed: &SectionSet,
 ) -> Result<Rebuilt, CopyFault>
     requires clean { is_dirty elf.old.o ≡ false }
@@ -124,21 +124,21 @@ fn copy_without<S: Source>(
     }
 }
 
-/// The object with changes, made anew as `rebuild` makes it: without the sections of some names and
+/// The object with changes, rebuilt as `rebuild` makes it: without the sections of some names and
 /// what goes with them; then with other bytes, other names, other flags and new sections, each kind
 /// in turn; and where a name changed with a new table of all names. Nothing of the object is dirty,
-/// and no name that a section gets holds a NUL byte. It refuses what `rebuild` refuses, and then as
+/// and no name that a section gets holds a NUL byte. It fails as `rebuild` does, and then as
 /// `update_sections`, `rename_sections`, `flag_sections`, `add_sections`, `store_names` and
-/// `arrange` refuse, in this order; and besides `Memory` and `Read`. Over a source that does not
-/// tell its bytes it may refuse `NoSection` of the string index that was made. It marks nothing of
-/// the object dirty, and keeps a copy of the bytes of the changes. It asks for at most the names,
-/// and what `rebuild` asks for.
+/// `arrange` reject, in this order; and besides `Memory` and `Read`. Over a source that does not
+/// tell its bytes it may reject `NoSection` of the string index that was made. It marks nothing of
+/// the object dirty, and keeps a copy of the bytes of the changes. It reads at most the names, and
+/// what `rebuild` reads.
 ///
 /// Source: objcopy(1) of the development tools.
 pub fn copy_of<S: Source>(
     alloc: Global,
     elf: &mut Elf<S>,
-    changes: &Changes,
+    changes: &ChangeLists,
 ) -> Result<Rebuilt, CopyFault>
     requires clean { is_dirty elf.old.o ≡ false }
     requires plain { HasPlainNames changes.now }

@@ -1,10 +1,37 @@
-//! An image with sections removed, given other bytes, renamed, given other flags, and added: an
-//! object that is made anew of one that is read (objcopy(1) of the development tools).
+//! An object with changes: sections are removed, get other bytes, another name or other flags, and
+//! are added (objcopy(1) of the development tools).
+//!
+//! The command `copy` is in copy_tool; rebuild_copy plans its file range by range.
+//!
+//! - `copy_of`: the object with changes, over no file, or a `CopyFault` that says why there is
+//!   none.
+//! - `ChangeLists`: five lists, which are done one after another: `remove`, `update`, `rename`,
+//!   `flags`, `add`.
+//! - `NameBytes`: a section's name, and bytes or another name for it; `NameBits` has flags.
+//! - `Rebuilt`: what is made: the object, and its tail.
+//! - `plan_copied`: of rebuild_copy: the plan of the file with the changes, without the object in
+//!   memory.
+//!
+//! From `test_rebuild`:
+//!
+//! ```text
+//! fn is_changed<S: Source>(rt: &HostRuntime, elf: &mut Elf<S>, changes: &ChangeLists) -> bool
+//!     requires { HasPlainNames changes.now }
+//! {
+//!     if elf.dirty() {
+//!         return other(rt, &"a dirty object", "one that is as it was opened");
+//!     }
+//!     match copy_of(rt.alloc(), elf, changes) {
+//!         Ok(mut made) => are_made(rt, &mut made.elf),
+//!         Err(fault) => other(rt, &kind_and_name(&fault).0, "a copy"),
+//!     }
+//! }
+//! ```
 #![tactic(auto)]
 
 mod changing;
 mod copying;
 
-pub use copy_changes::{Changes, CopyFault, NameBits, NameBytes};
 pub use copying::copy_of;
-pub use strip_rebuild::Rebuilt;
+pub use rebuild_changes::{ChangeLists, CopyFault, NameBits, NameBytes};
+pub use rebuild_object::prelude::Rebuilt;

@@ -18,8 +18,8 @@ use Rattle.section_table.specs.elf_ident.Reading.{IsFittingFront, IsCounted}
 use Rattle.section_table.specs.elf_object.Object.{Object, Section, Home, home_piece}
 use Rattle.section_table.specs.elf_object.Open.{standing_header, begun, opened, opened_section, home_of, home_bytes}
 use Rattle.elf_types.specs.Lists.{AreBytes}
-use Rattle.writing_laws.specs.object_laws.Laws.{BegunFits, BeginningsAreTied}
-use Rattle.writing_laws.specs.Based.{BeginningsAreBased}
+use Rattle.law_object.specs.Laws.{BegunFits, BeginningsAreTied}
+use Rattle.law_object.specs.Writing.Based.{BeginningsAreBased}
 use Rattle.section_table.specs.section_data.Views.{CellView, opened_cell}
 use Rattle.section_table.specs.section_data.Held.{cell_is_loaded}
 use Rattle.section_table.specs.section_data.Leaves.{LiesIn}

@@ -9,8 +9,8 @@ use Rattle.section_table.specs.elf_outside.declared.sources.Source.{Ghosts}
 use Rattle.section_table.specs.elf_object.Object.{Object, Section}
 use Rattle.section_table.specs.elf_object.Open.{created_over, new_ehdr}
 use Rattle.elf_types.specs.Lists.{AreBytes}
-use Rattle.writing_laws.specs.object_laws.Laws.{BeginningsAre, BeginningsAreTied}
-use Rattle.writing_laws.specs.Based.{BeginningsAreBased}
+use Rattle.law_object.specs.Laws.{BeginningsAre, BeginningsAreTied}
+use Rattle.law_object.specs.Writing.Based.{BeginningsAreBased}
 use Rattle.section_table.specs.section_data.Held.{cell_is_loaded}
 use Rattle.section_table.specs.Sections.{SectionView as Scn}
 use Rattle.elf_descriptor.specs.declared.body.Body.{Body}

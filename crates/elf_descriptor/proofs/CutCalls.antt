@@ -11,8 +11,8 @@ use Rattle.section_table.proofs.elf_outside.WriteLemmas.{written_is_torn}
 use Rattle.section_table.specs.elf_object.Blocks.{extents_meet}
 use Rattle.section_table.specs.elf_object.Object.{Object, Section}
 use Rattle.elf_types.specs.Lists.{AreBytes}
-use Rattle.writing_laws.specs.Based.{some_unmarked}
-use Rattle.writing_laws.proofs.DisturbedLaws.{meeting_to}
+use Rattle.law_object.specs.Writing.Based.{some_unmarked}
+use Rattle.law_object.proofs.writing.DisturbedLaws.{meeting_to}
 use Rattle.elf_descriptor.specs.declared.body.Body.{Body}
 use Rattle.elf_descriptor.specs.declared.body.Base.{Base}
 use Rattle.elf_descriptor.specs.declared.body.Base.TheVariants as bases

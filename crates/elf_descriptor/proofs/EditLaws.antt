@@ -11,7 +11,7 @@ use Rattle.section_table.specs.elf_outside.declared.sources.Source.{Ghosts}
 use Rattle.section_table.specs.elf_object.Object.{Object}
 use Rattle.section_table.specs.elf_object.Calls.{Call, step, after_answer}
 use Rattle.section_table.specs.elf_object.Valid.{IsObject, KeepsObject, KeepsTied}
-use Rattle.writing_laws.specs.Based.{KeepsBased}
+use Rattle.law_object.specs.Writing.Based.{KeepsBased}
 use Rattle.section_table.specs.section_data.Views.{CellView}
 use Rattle.section_table.specs.section_data.Held.{HeldIs, cell_is_loaded}
 use Rattle.section_table.specs.section_data.Leaves.{LiesIn}

@@ -23,7 +23,7 @@ use Rattle.section_table.specs.elf_object.Calls.{Call, newscn_refusal}
 use Rattle.section_table.specs.elf_object.Calls as calls
 use Rattle.section_table.specs.elf_object.Words.{Edits, result_map}
 use Rattle.section_table.specs.elf_object.Valid.{KeepsObject, KeepsTied}
-use Rattle.writing_laws.specs.Based.{KeepsBased}
+use Rattle.law_object.specs.Writing.Based.{KeepsBased}
 use Rattle.section_table.specs.section_data.Held.{cell_is_loaded}
 use Rattle.section_table.specs.Sections.{SectionView as Scn, absent_scn, new_scn}
 use Rattle.elf_descriptor.specs.declared.body.Body.{Body}

@@ -8,7 +8,7 @@ use Rattle.section_table.specs.elf_outside.declared.sources.Source.{Ghosts}
 use Rattle.section_table.specs.elf_object.Steps.{with_phdrs}
 use Rattle.section_table.specs.elf_object.Calls as calls
 use Rattle.section_table.specs.elf_object.Valid.{KeepsObject, KeepsTied}
-use Rattle.writing_laws.specs.Based.{KeepsBased}
+use Rattle.law_object.specs.Writing.Based.{KeepsBased}
 use Rattle.elf_descriptor.specs.declared.body.Body.{Body}
 use Rattle.elf_descriptor.specs.Views.{object_of, state_of, HasCounts}
 use Rattle.elf_descriptor.specs.Sound.{IsElf}

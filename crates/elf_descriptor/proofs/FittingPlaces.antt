@@ -23,11 +23,11 @@ use Rattle.section_table.specs.elf_object.Derived.{derived_header, numbered_shdr
 use Rattle.section_table.specs.elf_object.Layout.{parts_of, places_of, section_part, segments_place, section_place, table_place}
 use Rattle.section_table.specs.elf_object.Refusal.{refusal}
 use Rattle.section_table.specs.elf_object.Valid.{IsObject, IsSection}
-use Rattle.writing_laws.specs.object_laws.Laws.{SizesAreLengths}
-use Rattle.writing_laws.proofs.object_laws.KeepLaws.{at_or, section_at_is}
-use Rattle.writing_laws.proofs.object_laws.PlaceLaws.{IsFitting, zero_fits, ends_within}
-use Rattle.writing_laws.proofs.object_laws.PlacedLaws.{ehdr_fits_each, ehdr_fits_all, shdr_fits_each, shdr_fits_all, part_of_section, place_fits, each_row}
-use Rattle.writing_laws.proofs.object_laws.PartLaws.{length-parts_of}
+use Rattle.law_object.specs.Laws.{SizesAreLengths}
+use Rattle.law_object.proofs.KeepLaws.{at_or, section_at_is}
+use Rattle.law_object.proofs.PlaceLaws.{IsFitting, zero_fits, ends_within}
+use Rattle.law_object.proofs.PlacedLaws.{ehdr_fits_each, ehdr_fits_all, shdr_fits_each, shdr_fits_all, part_of_section, place_fits, each_row}
+use Rattle.law_object.proofs.PartLaws.{length-parts_of}
 use Rattle.section_table.specs.section_data.Sizes.{data_size}
 use Rattle.section_table.specs.Sections.{absent_scn}
 use Rattle.elf_descriptor.specs.declared.body.Body.{Body}

@@ -27,11 +27,11 @@ use Rattle.section_table.specs.elf_object.Image.{front_blocks}
 use Rattle.section_table.specs.elf_object.Refusal.{content_refusal, unfit_segment}
 use Rattle.section_table.specs.elf_object.Changed.{front_differs, block_of}
 use Rattle.section_table.proofs.elf_object.PassedLaws.{not_not}
-use Rattle.writing_laws.specs.object_laws.Laws.{SizesAreLengths}
-use Rattle.writing_laws.proofs.object_laws.LengthLaws.{length-ehdr_bytes, length-phdrs_bytes, length-shdrs_bytes}
-use Rattle.writing_laws.proofs.object_laws.StandLaws.{section_count-placed}
-use Rattle.writing_laws.proofs.object_laws.PlacedLaws.{ehdr_fits_each, ehdr_fits_all}
-use Rattle.writing_laws.proofs.object_laws.SettledLaws.{unrefused}
+use Rattle.law_object.specs.Laws.{SizesAreLengths}
+use Rattle.law_object.proofs.LengthLaws.{length-ehdr_bytes, length-phdrs_bytes, length-shdrs_bytes}
+use Rattle.law_object.proofs.StandLaws.{section_count-placed}
+use Rattle.law_object.proofs.PlacedLaws.{ehdr_fits_each, ehdr_fits_all}
+use Rattle.law_object.proofs.SettledLaws.{unrefused}
 use Rattle.elf_descriptor.specs.declared.body.Written.{Written}
 use Rattle.elf_descriptor.specs.declared.body.Body.{Body}
 use Rattle.elf_descriptor.specs.Views.{object_of, written_of}

@@ -19,8 +19,8 @@ use Rattle.section_table.specs.elf_xlate.Headers.{IsEhdr, HasNarrowCounts, Holds
 use Rattle.section_table.specs.elf_ident.Reading.{IsStored, IsPhdrTable, IsShdrTable}
 use Rattle.section_table.specs.elf_object.Blocks.{same_extent, same_block}
 use Rattle.section_table.specs.elf_object.Open.{phdrs_bytes, shdrs_bytes}
-use Rattle.writing_laws.proofs.object_laws.LengthLaws.{length-ehdr_bytes, length-phdr_bytes, length-shdr_bytes, length-phdrs_bytes, length-shdrs_bytes}
-use Rattle.writing_laws.proofs.object_laws.ReopenLaws.{entry_bytes}
+use Rattle.law_object.proofs.LengthLaws.{length-ehdr_bytes, length-phdr_bytes, length-shdr_bytes, length-phdrs_bytes, length-shdrs_bytes}
+use Rattle.law_object.proofs.ReopenLaws.{entry_bytes}
 use Rattle.section_table.specs.elf_object.Layout.{section_place}
 use Rattle.section_table.specs.elf_layout.declared.parts.Places.{Places}
 use Rattle.section_table.specs.Sections.{SectionView as Scn, absent_scn}

@@ -23,7 +23,7 @@ use Rattle.section_table.specs.elf_object.Calls as calls
 use Rattle.section_table.specs.elf_object.Due.{holds_items, homes_due}
 use Rattle.section_table.specs.elf_object.Valid.{IsPiece, KeepsObject, KeepsTied}
 use Rattle.section_table.proofs.elf_object.StepLaws.{same_kind-same, section_count-with_own, piece_count-with_own, section_at-with_own, section_at-with_own_other, piece_at-with_own, piece_at-with_own_other}
-use Rattle.writing_laws.specs.Based.{KeepsBased}
+use Rattle.law_object.specs.Writing.Based.{KeepsBased}
 use Rattle.section_table.specs.section_data.Views.{CellView}
 use Rattle.section_table.specs.section_data.Held.{piece_in}
 use Rattle.section_table.specs.section_data.Leaves.{OwnsKind, replaced}

@@ -1,9 +1,8 @@
-pub use Rattle.section_table.proofs.elf_object
+pub use Rattle.law_object.proofs.elf_object
 pub use Rattle.section_table.proofs.elf_outside
-pub use Rattle.section_table.proofs.elf_xlate
-pub use Rattle.writing_laws.proofs.object_laws
+pub use Rattle.law_object.proofs.elf_xlate
+pub use Rattle.law_object.proofs as law_object
 pub use Rattle.section_table.proofs.section_data
-pub use Rattle.writing_laws.proofs as writing_laws
 pub mod Refusals
 pub mod Marks
 pub mod Objects

@@ -20,7 +20,7 @@ use Rattle.section_table.specs.elf_object.Steps.{with_own, with_section, own_pie
 use Rattle.section_table.specs.elf_object.Valid.{IsPiece, OthersOwn, KeepsObject, KeepsTied}
 use Rattle.section_table.specs.elf_object.Calls as calls
 use Rattle.section_table.proofs.elf_object.PieceLaws.{IsOwn}
-use Rattle.writing_laws.specs.Based.{KeepsBased}
+use Rattle.law_object.specs.Writing.Based.{KeepsBased}
 use Rattle.section_table.specs.section_data.Views.{CellView, IsCell}
 use Rattle.section_table.specs.section_data.Held.{piece_in, piece_holds_items, ready}
 use Rattle.section_table.specs.section_data.Leaves.{Owns, LiesIn}

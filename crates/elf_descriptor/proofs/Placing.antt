@@ -22,11 +22,11 @@ use Rattle.elf_types.specs.declared.errors.ElfError.{ElfError}
 use Rattle.elf_types.specs.Answers.{answered}
 use Rattle.section_table.specs.elf_object.Calls.{update_null}
 use Rattle.section_table.specs.elf_object.Valid.{KeepsObject, KeepsTied}
-use Rattle.writing_laws.specs.object_laws.Laws.{SizesAreLengths}
-use Rattle.writing_laws.proofs.object_laws.PlaceLaws.{AreNotTooLarge, IsFitting, not_too_large}
-use Rattle.writing_laws.proofs.object_laws.PlacedLaws.{size_fits, update_passes}
-use Rattle.writing_laws.proofs.object_laws.StandLaws.{length-standing}
-use Rattle.writing_laws.specs.Based.{KeepsBased}
+use Rattle.law_object.specs.Laws.{SizesAreLengths}
+use Rattle.law_object.proofs.PlaceLaws.{AreNotTooLarge, IsFitting, not_too_large}
+use Rattle.law_object.proofs.PlacedLaws.{size_fits, update_passes}
+use Rattle.law_object.proofs.StandLaws.{length-standing}
+use Rattle.law_object.specs.Writing.Based.{KeepsBased}
 use Rattle.section_table.specs.section_data.Sizes.{data_size}
 use Rattle.section_table.specs.Sections.{SectionView as Scn, absent_scn}
 use Rattle.elf_descriptor.specs.declared.body.Body.{Body}

@@ -7,7 +7,7 @@ use Rattle.section_table.specs.elf_object.Object.{Object, Section, section_at, a
 use Rattle.section_table.specs.elf_object.Open.{home_bytes}
 use Rattle.elf_types.specs.Lists.{AreBytes}
 use Rattle.section_table.specs.elf_object.Valid.{IsObject}
-use Rattle.writing_laws.specs.Based.{IsBased, HomeStands, some_unmarked}
+use Rattle.law_object.specs.Writing.Based.{IsBased, HomeStands, some_unmarked}
 use Rattle.section_table.specs.section_data.Views.{CellView}
 use Rattle.section_table.specs.section_data.Held.{cell_is_loaded}
 use Rattle.section_table.specs.Sections.{SectionView as Scn, absent_scn}

@@ -19,13 +19,13 @@ use Rattle.section_table.specs.elf_object.Refusal.{refusal}
 use Rattle.section_table.specs.elf_object.Settled.{settled_over, settled}
 use Rattle.section_table.specs.elf_object.Valid.{IsObject, IsTied}
 use Rattle.section_table.proofs.elf_object.SettledSections.{settled-told}
-use Rattle.writing_laws.specs.object_laws.Laws.{UpdatesKeep, UpdatesTie}
-use Rattle.writing_laws.proofs.object_laws.ImageLaws.{placed-dirty}
-use Rattle.writing_laws.proofs.object_laws.StandLaws.{section_count-placed}
-use Rattle.writing_laws.proofs.object_laws.CountLaws.{headers_of}
-use Rattle.writing_laws.proofs.object_laws.FrontLaws.{ArePhdrs, AreShdrs, IsReadable}
-use Rattle.writing_laws.proofs.object_laws.SettledLaws.{placed_readable, section_raw, settle-dirty}
-use Rattle.writing_laws.specs.Based.{IsBased, UpdatesKeepBased}
+use Rattle.law_object.specs.Laws.{UpdatesKeep, UpdatesTie}
+use Rattle.law_object.proofs.ImageLaws.{placed-dirty}
+use Rattle.law_object.proofs.StandLaws.{section_count-placed}
+use Rattle.law_object.proofs.CountLaws.{headers_of}
+use Rattle.law_object.proofs.FrontLaws.{ArePhdrs, AreShdrs, IsReadable}
+use Rattle.law_object.proofs.SettledLaws.{placed_readable, section_raw, settle-dirty}
+use Rattle.law_object.specs.Writing.Based.{IsBased, UpdatesKeepBased}
 use Rattle.section_table.proofs.section_data.Loading.{opened_lies}
 use Rattle.section_table.specs.section_data.Held.{cell_is_loaded}
 use Rattle.section_table.specs.Sections.{SectionView as Scn, absent_scn, reopened_scn}

@@ -7,7 +7,7 @@ use Rattle.std.proofs.lemmas.List.Elements.{All-get_or}
 use Rattle.section_table.specs.elf_outside.declared.sources.Source.{Ghosts}
 use Rattle.section_table.specs.elf_object.Object.{Section, Piece, section_at, absent_section}
 use Rattle.section_table.specs.elf_object.Open.{home_bytes}
-use Rattle.writing_laws.specs.Based.{IsBased, HomeStands, some_unmarked}
+use Rattle.law_object.specs.Writing.Based.{IsBased, HomeStands, some_unmarked}
 use Rattle.section_table.specs.section_data.Views.{CellView, passes_end}
 use Rattle.section_table.specs.section_data.Held.{is_untouched}
 use Rattle.section_table.specs.section_data.Leaves.{unloaded as unloaded_cell}

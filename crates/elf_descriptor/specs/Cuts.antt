@@ -5,7 +5,7 @@ use Rattle.section_table.specs.elf_outside.declared.sources.Source.{Ghosts as So
 use Rattle.section_table.specs.elf_object.Blocks.{extents_meet}
 use Rattle.section_table.specs.elf_object.Object.{Object, section_at}
 use Rattle.section_table.specs.elf_object.Due.{is_loaded}
-use Rattle.writing_laws.specs.Based.{some_unmarked}
+use Rattle.law_object.specs.Writing.Based.{some_unmarked}
 use Rattle.elf_descriptor.specs.State.{State}
 
 -- ---- What may be written

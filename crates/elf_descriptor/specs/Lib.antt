@@ -1,12 +1,11 @@
-pub use Rattle.section_table.specs.elf_ident
-pub use Rattle.section_table.specs.elf_layout
-pub use Rattle.section_table.specs.elf_object
-pub use Rattle.section_table.specs.elf_outside
-pub use Rattle.section_table.specs.elf_xlate
-pub use Rattle.writing_laws.specs.object_laws
+pub use Rattle.law_object.specs.elf_ident
+pub use Rattle.law_object.specs.elf_layout
+pub use Rattle.law_object.specs.elf_object
+pub use Rattle.law_object.specs.elf_outside
+pub use Rattle.law_object.specs.elf_xlate
+pub use Rattle.law_object.specs as law_object
 pub use Rattle.section_table.specs.section_data
 pub use Rattle.section_table.specs.strtab_build
-pub use Rattle.writing_laws.specs as writing_laws
 pub mod State
 pub mod Views
 pub mod Sound

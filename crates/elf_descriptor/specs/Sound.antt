@@ -5,7 +5,7 @@ use Rattle.elf_types.specs.declared.records.Order.{Order}
 use Rattle.section_table.specs.elf_ident.Reading.{IsStored, IsPhdrTable, IsShdrTable}
 use Rattle.section_table.specs.elf_object.Object.{Object}
 use Rattle.section_table.specs.elf_object.Valid.{IsObject, IsTied}
-use Rattle.writing_laws.specs.Based.{IsBased}
+use Rattle.law_object.specs.Writing.Based.{IsBased}
 use Rattle.section_table.specs.section_data.Leaves.{LiesIn}
 use Rattle.section_table.specs.section_data.Held.{HeldIs}
 use Rattle.section_table.specs.Sections.{SectionView as Scn}

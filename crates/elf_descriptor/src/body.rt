@@ -22,10 +22,10 @@ mod sizes;
 mod spares;
 mod storing;
 
-/// The front as it stands in the image that was opened or last written.
+/// The front as it is in the image that was opened or last written.
 #[derive(Drop)]
 pub struct Written {
-    /// The header, with the counts and the string index as they stand.
+    /// The header, with the counts and the string index as they are.
     pub header: Ehdr,
     /// Bytes 9 to 15 of the identification.
     pub pad: [u8; 7],
@@ -68,7 +68,7 @@ pub struct Body {
     pub sections: Sections,
     /// The base bytes.
     pub base: Base,
-    /// The front as it stands in the image; a created object has none.
+    /// The front as it is in the image; a created object has none.
     pub written: Option<Written>,
     /// Memory for a front that is written next.
     pub spare: Option<Spare>,

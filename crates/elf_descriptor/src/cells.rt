@@ -19,9 +19,9 @@ use crate::held::Held;
 use elf_types::{Class, ElfError, Kind};
 use section_table::prelude::{Cell, Source};
 
-/// Makes each item of a piece of a kind be at hand: it is own, or its home is loaded. It
-/// refuses in this order: `NoData`, `WrongKind` with the kind that the piece holds, and for the
-/// clean home piece `OutOfFile` and `Ragged`; then `Memory` or `Read`.
+/// Makes sure that each item of a piece of a kind is in memory: it is own, or its home is loaded.
+/// It fails with, in this order: `NoData`, `WrongKind` with the kind that the piece holds, and for
+/// the clean home piece `OutOfFile` and `Ragged`; then `Memory` or `Read`.
 pub fn fetch_list<S: Source>(
     cell: &mut Cell,
     src: &mut S,

@@ -47,7 +47,7 @@ impl<S: Source> Model for Elf<S> {
 }
 
 impl<S: Source> Elf<S> {
-    /// Gives the source back. It refuses nothing and takes no memory.
+    /// Gives the source back. It rejects nothing and takes no memory.
     ///
     /// Source: elf_end of elf(3E).
     pub fn end(self) -> S

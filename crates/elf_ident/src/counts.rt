@@ -32,7 +32,7 @@ pub struct Counts {
 /// The bytes of the longest section header, that of class 64.
 const MAX_SHDR_SIZE: usize = 64;
 
-/// Whether a count or the string index stands in section 0.
+/// Whether a count or the string index is in section 0.
 fn needs_first(h: &Ehdr) -> bool
     ensures { result ≡ needs_first h.now }
 {
@@ -47,7 +47,7 @@ fn lies_in(len: u64, at: u64, count: u64, size: u64) -> bool
     at <= len && count <= (len - at) / size
 }
 
-/// What a header is refused by before section 0 is looked at: `Version`, `TooLarge`, `ShTable`, in
+/// What a header is rejected by before section 0 is looked at: `Version`, `TooLarge`, `ShTable`, in
 /// this order.
 #[tactic(auto, unfolding(crate::specs::Front::header_refusal))]
 fn check_header(h: &Ehdr, len: u64) -> Result<(), ElfError>
@@ -76,7 +76,8 @@ fn check_header(h: &Ehdr, len: u64) -> Result<(), ElfError>
     Ok(())
 }
 
-/// What a header is refused by for its true counts: `ShTable`, `PhTable`, `TooMany`, in this order.
+/// What a header is rejected by for its true counts: `ShTable`, `PhTable`, `TooMany`, in this
+/// order.
 #[tactic(auto, unfolding(crate::specs::Front::count_refusal))]
 fn check_counts(h: &Ehdr, c: &Counts, len: u64) -> Result<(), ElfError>
     requires { h.now.phnum ≡ 0 → c.now.phnum ≡ 0 }
@@ -162,8 +163,8 @@ fn counts_by(h: &Ehdr, first: &Shdr, len: u64) -> Result<Counts, ElfError>
     Ok(counts)
 }
 
-/// Reads the header of section 0 where it is needed; a header of zeros stands for it else. It
-/// refuses `Read` alone.
+/// Reads the header of section 0 where it is needed; a header of zeros stands for it else. It fails
+/// with `Read` alone.
 fn read_first_section<S: Source>(src: &mut S, h: &Ehdr) -> Result<Shdr, ElfError>
     requires { IsTrue (needs_first h.now) → h.now.shoff + shdr_size h.now.class ≤ S.size src.old }
     ensures first { IfSome (S.holds src.old) (λ image.
@@ -196,7 +197,7 @@ fn read_shdr_by<S: Source>(src: &mut S, h: &Ehdr, bytes: &mut [u8]) -> Result<Sh
 /// (`e_version`), `TooLarge` (more than 2^40 bytes), `ShTable` (of the header's own fields, and
 /// where section 0 is needed and does not lie in the image), `Read` (of section 0), `ShTable` (the
 /// table does not lie in the image), `PhTable`, `TooMany` (more than 2^20 entries of a table). It
-/// asks for at most one section header, where section 0 is needed, and takes no memory.
+/// reads at most one section header, where section 0 is needed, and takes no memory.
 pub fn read_counts<S: Source>(src: &mut S, h: &Ehdr) -> Result<Counts, ElfError>
     ensures counts { IfSome (S.holds src.old) (λ image. Follows result (counts_in h.now image)) }
     ensures sound { IfOk result (AreCounts h.now (S.size src.old)) }

@@ -36,8 +36,8 @@ fn kind_by(head: &[u8]) -> FileKind
 }
 
 /// What a source holds, `elf_kind` of elf(3E): an archive, an ELF image, or something else, also
-/// where it is shorter than eight bytes. It asks for at most eight bytes, takes no memory and
-/// refuses `Read` alone.
+/// where it is shorter than eight bytes. It reads at most eight bytes, takes no memory and fails
+/// with `Read` alone.
 ///
 /// Source: gABI chapter 4, "ELF Identification", and chapter 7, "Archive File".
 pub fn kind_of_source<S: Source>(src: &mut S) -> Result<FileKind, ElfError>
@@ -49,7 +49,7 @@ pub fn kind_of_source<S: Source>(src: &mut S) -> Result<FileKind, ElfError>
     kind_with(src, &mut head)
 }
 
-/// The same by a buffer of eight bytes.
+/// What a source holds, read into a buffer of eight bytes.
 fn kind_with<S: Source>(src: &mut S, head: &mut [u8]) -> Result<FileKind, ElfError>
     requires { length head.old ≡ 8 }
     ensures kind { IfSome (S.holds src.old) (λ image. Follows result (Ok (file_kind image))) }

@@ -16,10 +16,10 @@ use elf_outside::Source;
 use elf_types::{Ehdr, ElfError, Phdrs, Shdrs};
 use std::alloc::Global;
 
-/// The header of an image as it stands there, and its true counts.
+/// The header of an image as it is there, and its true counts.
 #[derive(Drop)]
 pub struct Head {
-    /// The header, with the counts and the string index as they stand.
+    /// The header, with the counts and the string index as they are.
     pub header: Ehdr,
     /// Bytes 9 to 15 of the identification.
     pub pad: [u8; 7],
@@ -27,14 +27,14 @@ pub struct Head {
     pub counts: Counts,
 }
 
-/// The front of an image.
+/// The headers of an image.
 #[derive(Drop)]
 pub struct Front {
     /// The header, with the true counts and the true string index.
     pub ehdr: Ehdr,
     /// Bytes 9 to 15 of the identification.
     pub pad: [u8; 7],
-    /// `e_phnum`, `e_shnum` and `e_shstrndx` as they stand in the image.
+    /// `e_phnum`, `e_shnum` and `e_shstrndx` as they are in the image.
     pub written: [u16; 3],
     /// The program headers.
     pub phdrs: Phdrs,
@@ -42,11 +42,11 @@ pub struct Front {
     pub shdrs: Shdrs,
 }
 
-/// Reads the header, and section 0 where a count stands there: what `read_front` reads before the
-/// two tables, which lie in the image where it answers. It refuses what `read_front` refuses, in
-/// its order, but for `Memory`: it takes none.
+/// Reads the header, and section 0 where a count is there: what `read_front` reads before the two
+/// tables, which lie in the image where it succeeds. It fails as `read_front` does, in its order,
+/// but for `Memory`: it takes none.
 ///
-/// It asks for at most one header and one section header.
+/// It reads at most one header and one section header.
 ///
 /// Source: gABI chapter 4, "ELF Header" and "Sections", chapter 5, "Program Header".
 pub fn read_head<S: Source>(src: &mut S) -> Result<Head, ElfError>
@@ -68,7 +68,7 @@ pub fn read_head<S: Source>(src: &mut S) -> Result<Head, ElfError>
     })
 }
 
-/// Reads the two tables. It refuses `Memory` and `Read` alone.
+/// Reads the two tables. It fails with `Memory` and `Read` alone.
 fn read_tables<S: Source>(
     alloc: Global,
     src: &mut S,
@@ -119,20 +119,20 @@ fn front_of(head: Head, phdrs: Phdrs, shdrs: Shdrs) -> Front
     }
 }
 
-/// Reads the front of an image, as elf_begin of elf(3E) does: the header with its true counts
+/// Reads the headers of an image, as elf_begin of elf(3E) does: the header with its true counts
 /// (after extended numbering), the bytes 9 to 15 of the identification, and the two tables. Also
 /// where the source does not tell its bytes, all numbers of a front fit the class, and both tables
 /// lie in the image.
 ///
-/// The first refusal of these is the answer: `Short` (fewer than 16 bytes), `Magic`, `Class`,
+/// The first refusal of these is the result: `Short` (fewer than 16 bytes), `Magic`, `Class`,
 /// `Order`, `Version` (of the identification), `Short` (fewer bytes than the class's header),
 /// `Version` (`e_version`), `TooLarge` (more than 2^40 bytes), `ShTable`, `PhTable` (a table that
 /// is not well formed or does not lie in the image), `TooMany` (more than 2^20 entries of a table).
 /// `Read` and `Memory` may come at any read before. No other refusal comes, also where the source
 /// does not tell its bytes.
 ///
-/// It asks for at most one header and one section header, and for the two tables where nothing is
-/// refused. The table of program headers takes one read, and that of section headers one for each
+/// It reads at most one header and one section header, and the two tables where nothing is
+/// rejected. The table of program headers takes one read, and that of section headers one for each
 /// 1,024 of them.
 ///
 /// Source: gABI chapter 4, "ELF Header" and "Sections", chapter 5, "Program Header".

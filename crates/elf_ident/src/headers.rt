@@ -44,7 +44,7 @@ fn order_named(code: u8) -> Option<Order>
 }
 
 /// The class and the order that an identification names, or the first of `Magic`, `Class`, `Order`
-/// and `Version` that it is refused by.
+/// and `Version` that it is rejected by.
 #[tactic(auto, unfolding(crate::specs::Front::ident_in, crate::specs::Front::no_ident))]
 fn ident(bytes: &[u8]) -> Result<(Class, Order), ElfError>
     requires { length bytes.now ≡ EI_NIDENT }
@@ -67,8 +67,8 @@ fn ident(bytes: &[u8]) -> Result<(Class, Order), ElfError>
     Ok((class, order))
 }
 
-/// Reads the identification into `start`. It refuses, in this order, `Short` (fewer than 16 bytes),
-/// `Read`, `Magic`, `Class`, `Order`, `Version`.
+/// Reads the identification into `start`. It fails with, in this order, `Short` (fewer than 16
+/// bytes), `Read`, `Magic`, `Class`, `Order`, `Version`.
 fn read_ident<S: Source>(src: &mut S, start: &mut [u8]) -> Result<(Class, Order), ElfError>
     requires { length start.old ≡ EI_NIDENT }
     ensures ident { IfSome (S.holds src.old) (λ image. Follows result (ident_in image)) }
@@ -85,7 +85,7 @@ fn read_ident<S: Source>(src: &mut S, start: &mut [u8]) -> Result<(Class, Order)
     ident(start)
 }
 
-/// Reads the bytes of the header after the identification into the front of `rest`. It refuses
+/// Reads the bytes of the header after the identification into the start of `rest`. It fails with
 /// `Short` (fewer bytes than the class's header), then `Read`.
 fn read_rest<S: Source>(src: &mut S, class: Class, rest: &mut [u8]) -> Result<(), ElfError>
     requires len { length rest.old ≡ ehdr_size C64 - EI_NIDENT }
@@ -112,11 +112,10 @@ fn pad_of(bytes: &[u8]) -> [u8; 7]
     pad
 }
 
-/// The header of an image as it stands there, and bytes 9 to 15 of its identification. It refuses,
+/// The header of an image as it is there, and bytes 9 to 15 of its identification. It fails with,
 /// in this order, `Short` (fewer than 16 bytes), `Magic`, `Class`, `Order`, `Version` (of the
 /// identification), `Short` (fewer bytes than the class's header), and `Read` at either of its two
-/// reads, that of 16 bytes and that of the rest. It asks for at most one header, and takes no
-/// memory.
+/// reads, that of 16 bytes and that of the rest. It reads at most one header, and takes no memory.
 ///
 /// Source: gABI chapter 4, "ELF Header" and "ELF Identification".
 pub fn read_header<S: Source>(src: &mut S) -> Result<(Ehdr, [u8; 7]), ElfError>
@@ -132,7 +131,7 @@ pub fn read_header<S: Source>(src: &mut S) -> Result<(Ehdr, [u8; 7]), ElfError>
     read_header_by(src, &mut bytes)
 }
 
-/// The same by a buffer.
+/// Reads the header as `read_header` does, into a buffer.
 fn read_header_by<S: Source>(src: &mut S, bytes: &mut [u8]) -> Result<(Ehdr, [u8; 7]), ElfError>
     requires { length bytes.old ≡ ehdr_size C64 }
     ensures header { IfSome (S.holds src.old) (λ image. Follows result (header_in image)) }

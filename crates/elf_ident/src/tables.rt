@@ -28,8 +28,8 @@ fn table_size(count: u64, entry_size: usize) -> u64
     count * entry_size as u64
 }
 
-/// The table of `count` program headers. It takes one read, and none where there are none. It
-/// refuses `Memory` and `Read` alone.
+/// The table of `count` program headers. It takes one read, and none where there are none. It fails
+/// with `Memory` and `Read` alone.
 ///
 /// Source: gABI chapter 5, "Program Header".
 pub fn read_phdrs<S: Source>(
@@ -51,7 +51,7 @@ pub fn read_phdrs<S: Source>(
     get_phdrs(alloc, h.class, h.order, bytes.as_slice())
 }
 
-/// The same of the entries that are read at once.
+/// The number of bytes of the entries that are read at once.
 fn piece_size(count: u64, entry_size: usize) -> u64
     requires few { count ≤ 1024 }
     requires small { entry_size ≤ shdr_size C64 }
@@ -62,7 +62,7 @@ fn piece_size(count: u64, entry_size: usize) -> u64
 }
 
 /// Appends the section headers that bytes hold, of whose number the size of one is a divisor. It
-/// refuses `Memory` alone.
+/// fails with `Memory` alone.
 fn add_shdrs(h: &Ehdr, bytes: &[u8], shdrs: &mut Shdrs) -> Result<(), ElfError>
     requires { length bytes.now % shdr_size h.now.class ≡ 0 }
     ensures value { OnOk result (shdrs.new ≡ shdrs.old
@@ -81,7 +81,7 @@ fn add_shdrs(h: &Ehdr, bytes: &[u8], shdrs: &mut Shdrs) -> Result<(), ElfError>
     Ok(())
 }
 
-/// Reads the section headers from the place `at` on into `bytes`, and appends them. It refuses
+/// Reads the section headers from the place `at` on into `bytes`, and appends them. It fails with
 /// `Memory` and `Read` alone.
 fn read_piece<S: Source>(
     src: &mut S,
@@ -108,7 +108,7 @@ fn read_piece<S: Source>(
 }
 
 /// Reads a table of section headers by a buffer, as many at once as fit in it, and appends them to
-/// a list that is empty. It refuses `Memory` and `Read` alone.
+/// a list that is empty. It fails with `Memory` and `Read` alone.
 fn read_pieces<S: Source>(
     src: &mut S,
     h: &Ehdr,
@@ -180,7 +180,7 @@ fn read_many<S: Source>(alloc: Global, src: &mut S, h: &Ehdr, count: u64) -> Res
 }
 
 /// The table of `count` section headers. It takes one read for each 1,024 of them, and none where
-/// there are none. It refuses `Memory` and `Read` alone.
+/// there are none. It fails with `Memory` and `Read` alone.
 ///
 /// Source: gABI chapter 4, "Sections".
 pub fn read_shdrs<S: Source>(

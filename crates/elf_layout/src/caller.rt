@@ -1,4 +1,4 @@
-//! The layout with `ELF_F_LAYOUT`: the parts stand where the caller puts them.
+//! The layout with `ELF_F_LAYOUT`: the parts are where the caller puts them.
 
 ghost use Rattle.std.specs.Prelude.{◌≡◌, ◌≤◌, ◌⊎◌, IfOk, IfErr, Ok, Err, true};
 ghost use Rattle.std.specs.Option.{SomeIff};
@@ -10,11 +10,11 @@ use crate::parts::{PartAt, Places};
 use elf_types::{Addrs, ElfError};
 use std::alloc::Global;
 
-/// The places of parts that stand where the caller puts them, in an image that has `base` bytes
+/// The places of parts that are where the caller puts them, in an image that has `base` bytes
 /// already.
 ///
-/// It refuses, in this order, `Overlap` where two parts share a byte, `TooLarge` where the image's
-/// length is above `limit`, and `Memory`.
+/// It fails with, in this order, `Overlap` where two parts share a byte, `TooLarge` where the
+/// image's length is above `limit`, and `Memory`.
 pub fn place_by_caller(
     alloc: Global,
     parts: &[PartAt],
@@ -66,7 +66,7 @@ fn longer_within(length: u64, part: &PartAt, limit: u64) -> Option<u64>
     Some(length.max(part.at + part.len))
 }
 
-/// The positions of the parts, in their order. It refuses `Memory` alone.
+/// The positions of the parts, in their order. It fails with `Memory` alone.
 #[tactic(auto, unfolding(crate::specs::Layout::positions))]
 fn positions(alloc: Global, parts: &[PartAt]) -> Result<Addrs, ElfError>
     ensures ok { IfOk result (λ at. at ≡ positions parts.now) }

@@ -19,7 +19,7 @@ struct Extent {
 
 /// Two parts that share a byte at the positions `at`, if there are any: of the parts that are
 /// filled and not empty, in the order by position, then by rank, the first that a later one meets,
-/// and the one next after it. A part's rank is its place in the list. It refuses `Memory` alone.
+/// and the one next after it. A part's rank is its place in the list. It fails with `Memory` alone.
 ///
 /// A part that meets a later one meets the next one too, which begins no later. So neighbours alone
 /// are compared, after a sort.
@@ -35,7 +35,7 @@ pub fn overlap(alloc: Global, parts: &[PartAt]) -> Result<Option<(Part, Part)>, 
 }
 
 /// The ranks of the parts that are not empty, by position and then by rank. A part's rank is its
-/// place in the list. It refuses `Memory` alone.
+/// place in the list. It fails with `Memory` alone.
 pub fn ranks_by_position(alloc: Global, parts: &[PartAt]) -> Result<List<usize>, ElfError>
     ensures ok { IfOk result (λ ranks. ranks ≡ ranks_by_position parts.now) }
     ensures inside { IfOk result (λ ranks. All (λ rank. rank < length parts.now) ranks) }
@@ -45,7 +45,7 @@ pub fn ranks_by_position(alloc: Global, parts: &[PartAt]) -> Result<List<usize>,
     ranks_of(alloc, &extents)
 }
 
-/// The ranks of extents. It refuses `Memory` alone.
+/// The ranks of extents. It fails with `Memory` alone.
 fn ranks_of(alloc: Global, extents: &[Extent]) -> Result<List<usize>, ElfError>
     ensures ok { IfOk result (λ ranks. ranks ≡ map (λ e. e.rank) extents.now) }
     ensures err { IfErr result (λ e. e ≡ Memory) }
@@ -54,7 +54,7 @@ fn ranks_of(alloc: Global, extents: &[Extent]) -> Result<List<usize>, ElfError>
     Ok(List::from_vec(ranks))
 }
 
-/// The parts that are not empty, with their ranks, by position and then by rank. It refuses
+/// The parts that are not empty, with their ranks, by position and then by rank. It fails with
 /// `Memory` alone.
 fn sorted_extents(alloc: Global, parts: &[PartAt]) -> Result<Vec<Extent>, ElfError>
     ensures ok { IfOk result (λ extents. extents.items ≡ sorted_extents_of parts.now) }
@@ -65,8 +65,8 @@ fn sorted_extents(alloc: Global, parts: &[PartAt]) -> Result<Vec<Extent>, ElfErr
     Ok(extents)
 }
 
-/// The parts that are not empty, with their ranks, in the order of the parts. It refuses `Memory`
-/// alone.
+/// The parts that are not empty, with their ranks, in the order of the parts. It fails with
+/// `Memory` alone.
 fn extents(alloc: Global, parts: &[PartAt]) -> Result<Vec<Extent>, ElfError>
     ensures ok { IfOk result (λ extents. extents.items ≡ extents_of parts.now) }
     ensures err { IfErr result (λ e. e ≡ Memory) }

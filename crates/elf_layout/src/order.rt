@@ -1,4 +1,4 @@
-//! The layout without `ELF_F_LAYOUT`: the parts stand one after the other.
+//! The layout without `ELF_F_LAYOUT`: the parts are one after the other.
 
 ghost use Rattle.std.specs.Prelude.{◌≡◌, ◌≤◌, ◌⊎◌, IfOk, IfErr, Ok, Err, false};
 ghost use Rattle.std.specs.Option.{SomeIff};
@@ -10,10 +10,10 @@ use crate::rounding::rounded_within;
 use elf_types::{Addrs, ElfError};
 use std::alloc::Global;
 
-/// The places of parts that stand one after the other, each at a multiple of its alignment. Parts
+/// The places of parts that are one after the other, each at a multiple of its alignment. Parts
 /// without bytes in the image leave the end where it is.
 ///
-/// It refuses `TooLarge` where a position or the image's length is above `limit`, and `Memory`.
+/// It fails with `TooLarge` where a position or the image's length is above `limit`, and `Memory`.
 pub fn place_in_order(alloc: Global, parts: &[PartAt], limit: u64) -> Result<Places, ElfError>
     ensures ok { IfOk result (λ places. placing_within parts.now false 0 limit ≡ Ok places) }
     ensures err { IfErr result (λ e.
@@ -35,8 +35,8 @@ pub fn place_in_order(alloc: Global, parts: &[PartAt], limit: u64) -> Result<Pla
     Ok(Places { at, end: length })
 }
 
-/// Where a part stands that comes next from the end so far, and the end after it. None exactly
-/// where one of the two is above `limit`.
+/// Where a part is that comes next from the end so far, and the end after it. None exactly where
+/// one of the two is above `limit`.
 #[tactic(auto, unfolding(crate::specs::Layout::end_after, crate::specs::Layout::place_of))]
 fn next_within(end: u64, part: &PartAt, limit: u64) -> Option<(u64, u64)>
     requires { end ≤ limit }

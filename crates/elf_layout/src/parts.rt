@@ -37,7 +37,7 @@ impl PartAt {
 /// number, and the section header table. A part's rank is its place in this list.
 pub type Parts = List<PartAt>;
 
-/// Where the parts of an image stand.
+/// Where the parts of an image are.
 #[derive(Drop)]
 pub struct Places {
     /// Each part's position, in the order of the parts, in bytes from the start of the image.

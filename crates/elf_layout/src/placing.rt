@@ -13,19 +13,19 @@ use crate::parts::{PartAt, Parts, Places};
 use elf_types::{Class, ElfError};
 use std::alloc::Global;
 
-/// Where the parts of an image stand, and the image's length in bytes.
+/// Where the parts of an image are, and the image's length in bytes.
 ///
-/// Without `layout` each part stands at the end so far, rounded up to its alignment, from 0 on;
-/// `at` and `base` do not count, and a part that is not filled leaves the end where it is. With
-/// `layout` (`ELF_F_LAYOUT` of elf(3E)) each part stands at its `at`, and the image keeps the
-/// `base` bytes that it has already. The length is the greatest end of a part that is filled and
-/// not empty, and with `layout` at least `base`.
+/// Without `layout` each part is at the end so far, rounded up to its alignment, from 0 on; `at`
+/// and `base` do not count, and a part that is not filled leaves the end where it is. With `layout`
+/// (`ELF_F_LAYOUT` of elf(3E)) each part is at its `at`, and the image keeps the `base` bytes that
+/// it has already. The length is the greatest end of a part that is filled and not empty, and with
+/// `layout` at least `base`.
 ///
-/// It refuses, in this order: `Overlap`, with `layout`, where two such parts share a byte; of the
-/// parts in the order by position, then by rank, it names the first that a later one meets, and the
-/// one next after it. Then `TooLarge`, where the length, or without `layout` a position, is above
-/// 2^40 in class 64 and 2^32 - 1 in class 32. `Memory` may come in place of a value and of these
-/// two.
+/// It fails with, in this order: `Overlap`, with `layout`, where two such parts share a byte; of
+/// the parts in the order by position, then by rank, it names the first that a later one meets, and
+/// the one next after it. Then `TooLarge`, where the length, or without `layout` a position, is
+/// above 2^40 in class 64 and 2^32 - 1 in class 32. `Memory` may come in place of a value and of
+/// these two.
 #[tactic(auto, unfolding(crate::specs::Layout::placing), using(crate::proofs::Placed::may_want))]
 pub fn place(
     alloc: Global,
@@ -51,7 +51,7 @@ pub fn place(
     place_within(alloc, parts.as_slice(), layout, base, limit(class))
 }
 
-/// The same under any limit on the length and on the positions.
+/// Where the parts are, under any limit on the length and on the positions.
 #[tactic(auto, using(crate::proofs::Successive::placing_anew))]
 fn place_within(
     alloc: Global,

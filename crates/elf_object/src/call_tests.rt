@@ -87,7 +87,7 @@ fn calls_are_due_the_home()
     ensures header { due ehdr symbols64 [] ≡ 0 }
 {}
 
-/// A call that is refused before a home is read is due nothing.
+/// A call that is rejected before a home is read is due nothing.
 fn refused_calls_are_due_nothing()
     ensures no_section { due (section_data 3 0) symbols64 [] ≡ 0 }
     ensures wrong_kind { (word 2 0 0).answer symbols64 ≡ Err (WrongKind kind.Sym) }
@@ -102,7 +102,7 @@ fn homes_are_due_once()
         ≡ 48 }
 {}
 
-/// A call wants memory unless its piece holds its items, and fails to read only where something is
+/// A call needs memory unless its piece holds its items, and fails to read only where something is
 /// due.
 fn held_items_want_nothing()
     ensures unread { wants (section_data 2 0) symbols64 [] []
@@ -118,7 +118,7 @@ fn held_items_want_nothing()
         ≡ record { memory = false; read = false } }
 {}
 
-/// Want of memory and a failed read come after the stated refusals, and in a call that reads a home
+/// Out of memory and a failed read come after the stated refusals, and in a call that reads a home
 /// they may come before those that are found in its items.
 fn want_of_memory_comes_after_refusals()
     ensures no_section { Answers true wanting (Err Memory) (sym_answer symbols64 9 0 0) → ⊥ }
@@ -131,7 +131,7 @@ fn want_of_memory_comes_after_refusals()
     ensures edit { Edits (Err Read) symbols64 symbols64 (newscn.answer symbols64) symbols64 → ⊥ }
 {}
 
-/// In an update want of memory comes in place of a length, of an overlap and of too large an image
+/// In an update out of memory comes in place of a length, of an overlap and of too large an image
 /// alone.
 fn updates_want_memory_before_overlaps()
     ensures overlap { Updates {S = ℕ} out_of_memory 0 0 (Err (Overlap part.Header part.Table)) 1 }
@@ -147,7 +147,7 @@ fn untold_bytes_refuse_late()
         (Err (NoSection 3 3)) → ⊥ }
 {}
 
-/// An answer that is a reference is seen as the value that stands there.
+/// A result that is a reference is seen as the value that is there.
 fn shown(bytes: &[u8]) -> Result<&[u8], ElfError>
     ensures answer { Answers true wanting (seen result) (Ok bytes.now) }
     ensures shape { IsLike AlikeBytes (seen result) (Ok bytes.now) }
@@ -156,7 +156,7 @@ fn shown(bytes: &[u8]) -> Result<&[u8], ElfError>
     Ok(bytes)
 }
 
-/// A lend answers the items that are lent.
+/// A lend returns the items that are lent.
 fn lent(list: &mut Words) -> Result<&mut Words, ElfError>
     ensures answer { Answers true wanting (result_map (λ w. items.Word w.now) result)
         (Ok (items.Word list.old)) }

@@ -70,7 +70,7 @@ fn numbers_need_section_0()
         ≡ None }
 {}
 
-/// An update that is refused for a home out of the file reads nothing.
+/// An update that is rejected for a home out of the file reads nothing.
 fn refused_updates_are_due_nothing()
     ensures refused { update_null.answer (step (newdata 1 two_bytes) missing) ≡ Err (OutOfFile 2) }
     ensures to { update_to_due (step (newdata 1 two_bytes) missing) [] ≡ 0 }

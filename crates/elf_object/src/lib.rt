@@ -1,5 +1,9 @@
-//! What the library means: the plain object of an ELF image, its calls, its layout and its image.
-//! The definitions stand in `specs/`; here are small functions that compute some of them.
+//! What the library means: the plain object of an ELF image, each call on it, its dirty marks, its
+//! layout and its image, as definitions.
+//!
+//! specs/Object.antt has the object, specs/Calls.antt what each call returns and leaves,
+//! specs/Layout.antt where parts are placed. Small functions here compute some of them. The code of
+//! the calls is in elf_descriptor.
 #![tactic(auto)]
 
 pub mod derived;

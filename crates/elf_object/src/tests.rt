@@ -39,7 +39,7 @@ fn symbols_are_read()
     ensures no_section { data_answer symbols64 9 0 ≡ Err (NoSection 9 3) }
 {}
 
-/// The count and the string index may stand in section 0.
+/// The count and the string index may be in section 0.
 fn extended_numbers_are_read()
     ensures counts { header_of (object_in (numbered64 3)) ≡ header_of symbols64 }
     ensures count { (header_of (object_in (numbered64 3))).shnum ≡ 3 }
@@ -138,8 +138,8 @@ fn edited_items_show_in_the_image()
         ≡ Ok (named_symbol 0x1010) }
 {}
 
-/// A value of 2^32 fits no symbol of class 32: the call that stores it is refused, and after a lend
-/// the update.
+/// A value of 2^32 fits no symbol of class 32: the call that stores it is rejected, and after a
+/// lend the update.
 fn values_that_do_not_fit_are_refused()
     ensures stored { (stored_value (2 ^ 32)).answer symbols32 ≡ Err (Unfit (part.Piece 2 0) 1) }
     ensures kept { step (stored_value (2 ^ 32)) symbols32 ≡ symbols32 }
@@ -239,7 +239,7 @@ fn raw_bytes_stay()
     ensures reserved { (replace 0 0 (Bytes [])).answer symbols64 ≡ Err Reserved }
 {}
 
-/// Pieces stand at their alignments, and the fill byte stands in the gaps, also between parts.
+/// Pieces are at their alignments, and the fill byte is in the gaps, also between parts.
 fn gaps_have_the_fill_byte()
     ensures filled { (set_fill 0xaa).answer symbols64 ≡ Ok tt }
     ensures piece { (newdata_aligned 1 (Bytes (0x62 ∷ [])) 8).answer

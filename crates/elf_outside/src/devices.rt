@@ -13,7 +13,7 @@ use crate::sources::{Failed, Source};
 /// - `rest_after` is what the device's `rest` holds after the list of these two numbers.
 ///
 /// The writes leave `faults`, `taken` and `rest_after`; a read leaves `given` and `write_faults`,
-/// since they stand in `rest`.
+/// since they are in `rest`.
 pub trait Device: Source {
     ghost write_faults: { Self → ℕ };
 
@@ -21,9 +21,9 @@ pub trait Device: Source {
 
     ghost rest_after: { Self → List (List ℕ) };
 
-    /// Puts `buf` over the bytes from the place `at` on. The range lies in the device.
-    /// `Failed` comes only where the count of failed writes rose; then each byte of the range is
-    /// the old one or the new one, and all else is as before.
+    /// Puts `buf` over the bytes from the place `at` on. The range lies in the device. `Failed`
+    /// comes only where the count of failed writes increased; then each byte of the range is the
+    /// old one or the new one, and all else is as before.
     fn write_at(&mut self, at: u64, buf: &[u8]) -> Result<(), Failed>
         requires { at + length buf.now ≤ Self.size self.old }
         ensures len { Self.size self.new ≡ Self.size self.old }
@@ -37,9 +37,9 @@ pub trait Device: Source {
         ensures taken { Self.taken self.new ≡ Self.taken self.old }
         ensures rest_after { rest_after self.new ≡ rest_after self.old };
 
-    /// Cuts the device to `n` bytes, or lengthens it to `n` by zero bytes.
-    /// `Failed` comes only where the count of failed writes rose; then the length is the old one or
-    /// the new one, and the bytes are those that belong to it.
+    /// Cuts the device to `n` bytes, or lengthens it to `n` by zero bytes. `Failed` comes only
+    /// where the count of failed writes increased; then the length is the old one or the new one,
+    /// and the bytes are those that belong to it.
     fn set_len(&mut self, n: u64) -> Result<(), Failed>
         ensures ok { OnOk result (Resizes (Self.size self.old) (Self.size self.new)
             (Self.holds self.old) (Self.holds self.new) n) }
@@ -51,9 +51,8 @@ pub trait Device: Source {
         ensures taken { Self.taken self.new ≡ Self.taken self.old }
         ensures rest_after { rest_after self.new ≡ rest_after self.old };
 
-    /// Puts `buf` after the last byte.
-    /// `Failed` comes only where the count of failed writes rose; then a front of `buf` stands
-    /// there, and all else is as before.
+    /// Puts `buf` after the last byte. `Failed` comes only where the count of failed writes
+    /// increased; then a prefix of `buf` is there, and all else is as before.
     fn append(&mut self, buf: &[u8]) -> Result<(), Failed>
         ensures ok { OnOk result (Lengthens (Self.size self.old) (Self.size self.new)
             (Self.holds self.old) (Self.holds self.new) buf.now) }

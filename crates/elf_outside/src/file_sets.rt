@@ -44,7 +44,7 @@ pub trait Files {
 
     /// Opens a file for reading. The file holds the bytes of the name, all its counts are 0, and no
     /// name changes. `NotThere` comes exactly where the name is not there, and `Failed` only where
-    /// the total of failed reads rose.
+    /// the total of failed reads increased.
     fn open(&mut self, alloc: Global, name: &str) -> Result<Self::File, OpenFault>
         ensures { Opens (meanings tells named read_faults write_faults taken given live)
             Self.File.Source Self.File.Device.own self.old self.new name.now result };
@@ -54,9 +54,9 @@ pub trait Files {
         ensures { Opens (meanings tells named read_faults write_faults taken given live)
             Self.File.Source Self.File.Device.own self.old self.new name.now result };
 
-    /// Makes an empty file of the name, in place of one that was there. It never answers
-    /// `NotThere`, and `Failed` only where the total of failed writes rose. After a refusal the
-    /// name is as before or holds the empty text. No other name changes.
+    /// Makes an empty file of the name, in place of one that was there. It never returns
+    /// `NotThere`, and `Failed` only where the total of failed writes increased. After a refusal
+    /// the name is as before or holds the empty text. No other name changes.
     fn create(&mut self, alloc: Global, name: &str) -> Result<Self::File, OpenFault>
         ensures others { SameOthers (tells self.old) (named self.old)
             (tells self.new) (named self.new) name.now }

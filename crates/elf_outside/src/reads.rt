@@ -7,7 +7,8 @@ use crate::sources::{Failed, Source};
 use elf_types::{ElfError, Octets};
 use std::alloc::Global;
 
-/// Fills `buf` with the bytes from the place `at` on. It refuses `Read` alone and takes no memory.
+/// Fills `buf` with the bytes from the place `at` on. It fails with `Read` alone and takes no
+/// memory.
 pub fn read<S: Source>(src: &mut S, at: u64, buf: &mut [u8]) -> Result<(), ElfError>
     requires { at + length buf.old ≤ S.size src.old }
     ensures bytes { OnOk result
@@ -21,8 +22,8 @@ pub fn read<S: Source>(src: &mut S, at: u64, buf: &mut [u8]) -> Result<(), ElfEr
     }
 }
 
-/// The `len` bytes from the place `at` on. An empty range reads nothing, wherever it stands. It
-/// refuses `Memory`, before it reads, and `Read`.
+/// The `len` bytes from the place `at` on. An empty range reads nothing, wherever it is. It fails
+/// with `Memory`, before it reads, and `Read`.
 pub fn read_range<S: Source>(
     alloc: Global,
     src: &mut S,
@@ -44,7 +45,7 @@ pub fn read_range<S: Source>(
     Ok(Octets::from_vec(bytes))
 }
 
-/// The `N` bytes from the place `at` on. It refuses `Read` alone and takes no memory.
+/// The `N` bytes from the place `at` on. It fails with `Read` alone and takes no memory.
 pub fn read_array<S: Source, const N: usize>(src: &mut S, at: u64) -> Result<[u8; N], ElfError>
     requires { at + N ≤ S.size src.old }
     ensures bytes { IfOk result (λ array.

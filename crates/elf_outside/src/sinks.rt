@@ -9,8 +9,8 @@ use crate::sources::Failed;
 /// A sequence of bytes that only grows at its end.
 ///
 /// - `wrote` is the bytes so far, where the sink tells them.
-/// - `faults` counts the puts that failed: it never falls, and a put fails only where it rose, or
-///   stands at 2^64 - 1.
+/// - `faults` counts the puts that failed: it never falls, and a put fails only where it increased,
+///   or is at 2^64 - 1.
 /// - `rest` is what the object keeps besides; it is empty where nothing else is said.
 pub trait Sink {
     ghost wrote: { Self → Option (List ℕ) };
@@ -19,8 +19,8 @@ pub trait Sink {
 
     ghost rest: { Self → List (List ℕ) };
 
-    /// Appends `buf`. `Failed` comes only where the count of faults rose; then a front of `buf` was
-    /// appended.
+    /// Appends `buf`. `Failed` comes only where the count of faults increased; then a prefix of
+    /// `buf` was appended.
     fn put(&mut self, buf: &[u8]) -> Result<(), Failed>
         ensures ok { OnOk result (Appends (wrote self.old) (wrote self.new) buf.now) }
         ensures err { OnErr result (AppendsFront (wrote self.old) (wrote self.new) buf.now) }

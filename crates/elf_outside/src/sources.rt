@@ -13,8 +13,8 @@ pub struct Failed;
 /// - `size` is the number of bytes; every source tells it.
 /// - `holds` is the bytes, where the source tells them: a source in memory does, a file does not.
 /// - `rest` is what the object keeps besides; it is empty where nothing else is said.
-/// - `faults` counts the reads that failed: it never falls, and a read fails only where it rose, or
-///   stands at 2^64 - 1.
+/// - `faults` counts the reads that failed: it never falls, and a read fails only where it
+///   increased, or is at 2^64 - 1.
 /// - `taken` counts the bytes that were asked for: a read raises it by the length of its buffer, by
 ///   exactly that while the sum stays below 2^64, and never by more.
 ///
@@ -36,7 +36,7 @@ pub trait Source {
         ensures ranged { IfSome (holds self.now) (λ bytes. All (λ n. n < 2 ^ 8) bytes) };
 
     /// Reads the bytes from the place `at` into the whole of `buf`. The range lies in the source.
-    /// `Failed` comes only where the count of faults rose; the buffer then holds anything.
+    /// `Failed` comes only where the count of faults increased; the buffer then holds anything.
     fn read_at(&mut self, at: u64, buf: &mut [u8]) -> Result<(), Failed>
         requires { at + length buf.old ≤ size self.old }
         ensures leaves { LeavesBy size holds rest self.old self.new }

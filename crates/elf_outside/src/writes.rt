@@ -10,7 +10,7 @@ use crate::sinks::Sink;
 use crate::sources::Failed;
 use elf_types::ElfError;
 
-/// Appends a text to a sink. It refuses `Write` alone and takes no memory.
+/// Appends a text to a sink. It fails with `Write` alone and takes no memory.
 pub fn put<K: Sink>(out: &mut K, text: &[u8]) -> Result<(), ElfError>
     ensures puts { Puts K.Sink result out.old out.new text.now }
     ensures err { IfErr result (λ e. e ≡ ElfError.Write) }
@@ -21,7 +21,7 @@ pub fn put<K: Sink>(out: &mut K, text: &[u8]) -> Result<(), ElfError>
     }
 }
 
-/// Appends `n` zero bytes to a sink. It refuses `Write` alone and takes no memory.
+/// Appends `n` zero bytes to a sink. It fails with `Write` alone and takes no memory.
 pub fn put_zeros<K: Sink>(out: &mut K, n: u64) -> Result<(), ElfError>
     ensures puts { Puts K.Sink result out.old out.new (replicate n 0) }
     ensures err { IfErr result (λ e. e ≡ ElfError.Write) }
@@ -32,7 +32,7 @@ pub fn put_zeros<K: Sink>(out: &mut K, n: u64) -> Result<(), ElfError>
     }
 }
 
-/// Puts a piece over the bytes of a device from the place `at` on. It refuses `Write` alone and
+/// Puts a piece over the bytes of a device from the place `at` on. It fails with `Write` alone and
 /// takes no memory.
 pub fn write_at<D: Device>(device: &mut D, at: u64, piece: &[u8]) -> Result<(), ElfError>
     requires { at + length piece.now ≤ D.size device.old }
@@ -46,8 +46,8 @@ pub fn write_at<D: Device>(device: &mut D, at: u64, piece: &[u8]) -> Result<(), 
     }
 }
 
-/// Cuts a device to `n` bytes, or lengthens it to `n` by zero bytes. It refuses `Write` alone, and
-/// then the device is as long as before or has that length. It takes no memory.
+/// Cuts a device to `n` bytes, or lengthens it to `n` by zero bytes. It fails with `Write` alone,
+/// and then the device is as long as before or has that length. It takes no memory.
 pub fn set_len<D: Device>(device: &mut D, n: u64) -> Result<(), ElfError>
     ensures uses { UsesDevice D.Source D.Device.own result device.old device.new 0 0 }
     ensures ok { OnOk result (Resizes (D.size device.old) (D.size device.new)

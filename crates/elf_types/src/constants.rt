@@ -43,9 +43,9 @@ pub const SHN_LORESERVE: u32 = 0xff00;
 pub const SHN_ABS: u32 = 0xfff1;
 /// A common block that is not allocated yet.
 pub const SHN_COMMON: u32 = 0xfff2;
-/// The index does not fit: it stands in `sh_link` of section 0, or in a `SHT_SYMTAB_SHNDX` section.
+/// The index does not fit: it is in `sh_link` of section 0, or in a `SHT_SYMTAB_SHNDX` section.
 pub const SHN_XINDEX: u32 = 0xffff;
-/// The number of program headers does not fit: it stands in `sh_info` of section 0.
+/// The number of program headers does not fit: it is in `sh_info` of section 0.
 pub const PN_XNUM: u32 = 0xffff;
 
 // ---- Section types (gABI chapter 4, "Sections"; the types of version and hash sections are GNU's)
@@ -135,7 +135,7 @@ pub const STT_SECTION: u8 = 3;
 pub const STT_FILE: u8 = 4;
 /// A symbol of which a process has one.
 pub const STB_GNU_UNIQUE: u8 = 10;
-/// A function that answers the address to use.
+/// A function that returns the address to use.
 pub const STT_GNU_IFUNC: u8 = 10;
 
 // ---- Archives (ar.h)
@@ -156,8 +156,8 @@ pub const MAX_PIECES: u64 = 1 << 20;
 /// The greatest alignment of a piece in its section.
 pub const MAX_PIECE_ALIGN: u64 = 1 << 20;
 
-/// Each constant is the number that stands beside its name in the tables of specs/Constants. It is
-/// for the reader and for proofs, and does nothing.
+/// Each constant is the number that is beside its name in the tables of specs/Constants. It is for
+/// the reader and for proofs, and does nothing.
 pub fn constants_are()
     ensures identification { are_numbers identification ≡ true }
     ensures numbering { are_numbers numbering ≡ true }

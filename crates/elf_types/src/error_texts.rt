@@ -1,6 +1,6 @@
 //! The texts of kinds, parts and errors, appended to a list of bytes.
 //!
-//! Each call refuses `Memory` alone; what the list held then still stands, some bytes behind it.
+//! Each call fails with `Memory` alone; what the list held then stays, with some bytes after it.
 
 ghost use Rattle.std.specs.Prelude.{◌≡◌, ◌++◌, [], OnOk, IfOk, IfErr, codes};
 ghost use Rattle.elf_types.specs.Writers.{WantsMemory, Extends};
@@ -168,7 +168,7 @@ pub fn put_error(out: &mut Octets, e: &ElfError) -> Result<(), ElfError>
     }
 }
 
-/// The text of an error. It refuses `Memory` alone.
+/// The text of an error. It fails with `Memory` alone.
 pub fn text(alloc: Global, e: &ElfError) -> Result<Octets, ElfError>
     ensures ok { IfOk result (λ text. text ≡ error_text e.now) }
     ensures err { IfErr result (λ e. e ≡ ElfError.Memory) }

@@ -1,4 +1,4 @@
-//! What elfkit's calls refuse.
+//! What elfkit's calls reject.
 
 ghost use Rattle.std.specs.Prelude.{◌≡◌};
 ghost use Rattle.elf_types.specs.declared.errors.ElfError.TheVariants.{Memory};
@@ -6,7 +6,7 @@ ghost use Rattle.elf_types.specs.declared.errors.ElfError.TheVariants.{Memory};
 use crate::records::{Kind, Part};
 use std::alloc::{AllocError, AllocFailed};
 
-/// Why a call of the library was refused. A variant on a section, a piece, an item, a string, an
+/// Why a call of the library was rejected. A variant on a section, a piece, an item, a string, an
 /// alignment or a place carries the numbers that show it. One on the image as a whole, on the
 /// outside, on section 0 or on a flag carries none.
 #[derive(Clone, Copy, Debug, PartialEq, Eq)]
@@ -121,7 +121,7 @@ pub enum ElfError {
         /// The alignment.
         align: u64,
     },
-    /// The symbols do not stand in the order that the hash section needs.
+    /// The symbols are not in the order that the hash section needs.
     Unsorted {
         /// The index of the first symbol out of order.
         at: u64,

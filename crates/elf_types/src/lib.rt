@@ -1,5 +1,37 @@
-//! The base types of elfkit: the records of an ELF image, the list in which they are kept, the
-//! kinds of items, the error type, and the names and texts under which all of them are shown.
+//! The base types of elfkit: the records of an ELF image, growing lists, the error type, the
+//! constants of the gABI and the names that tools show for machines, types and tags.
+//!
+//! Almost every crate depends on this one. `Ehdr`, `Phdr`, `Shdr`, `Sym`, `Rel`, `Rela` and `Dyn`
+//! serve both classes; `ScnId` names a section, `DataId` a piece of its data. A table of names that
+//! one tool alone shows belongs to that tool.
+//!
+//! - `List`: a list that returns `ElfError::Memory` where it cannot grow: `new`, `push`,
+//!   `from_slice`, `as_slice`; `Octets` is the one of bytes, `Syms` that of symbols.
+//! - `ElfError`: every error of the library; `text` returns its message.
+//! - `kind_of`: the kind of a section's items, by its header.
+//! - `has_flag`: whether a section header has a flag; `bind`, `stt` and `vis` take a symbol's
+//!   fields apart.
+//! - `machine_name`: the name of a machine, or None; so `etype_name`, `section_type_name`,
+//!   `tag_name` and others.
+//!
+//! From `test_rebuild`:
+//!
+//! ```text
+//! fn put_alone(
+//!     list: &mut List<NameBytes>,
+//!     alloc: Global,
+//!     name: &[u8],
+//!     bytes: &[u8],
+//! ) -> Result<(), ElfError>
+//!     requires { list.old ≡ [] }
+//!     ensures { OnOk result (list.new ≡ (record { name = name.now; bytes = bytes.now } ∷ [])) }
+//! {
+//!     let name = Octets::from_slice(alloc, name)?;
+//!     let bytes = Octets::from_slice(alloc, bytes)?;
+//!     list.push(NameBytes { name, bytes })?;
+//!     Ok(())
+//! }
+//! ```
 #![tactic(auto)]
 
 pub mod bytes;

@@ -54,7 +54,7 @@ impl<T: Drop> List<T> {
         }
     }
 
-    /// The empty list with room for `count` items. It refuses `Memory` alone.
+    /// The empty list with room for `count` items. It fails with `Memory` alone.
     pub fn with_capacity(alloc: Global, count: u64) -> Result<List<T>, ElfError>
         ensures ok { IfOk result (λ l. l ≡ []) }
         ensures err { IfErr result (λ e. e ≡ ElfError.Memory) }
@@ -63,7 +63,7 @@ impl<T: Drop> List<T> {
         Ok(List { items })
     }
 
-    /// Appends an item. It refuses `Memory` alone, and then the list is as before.
+    /// Appends an item. It fails with `Memory` alone, and then the list is as before.
     pub fn push(&mut self, v: T) -> Result<(), ElfError>
         ensures ok { OnOk result (self.new ≡ self.old ++ v ∷ []) }
         ensures unchanged { OnErr result (self.new ≡ self.old) }
@@ -126,7 +126,7 @@ impl<T: Copy> List<T> {
         self.items.get(i as usize).copied()
     }
 
-    /// The list of a slice's items. It refuses `Memory` alone.
+    /// The list of a slice's items. It fails with `Memory` alone.
     pub fn from_slice(alloc: Global, items: &[T]) -> Result<List<T>, ElfError>
         ensures ok { IfOk result (λ l. l ≡ items.now) }
         ensures err { IfErr result (λ e. e ≡ ElfError.Memory) }
@@ -136,7 +136,7 @@ impl<T: Copy> List<T> {
         Ok(list)
     }
 
-    /// Appends items. It refuses `Memory` alone, and then the list is as before.
+    /// Appends items. It fails with `Memory` alone, and then the list is as before.
     pub fn extend(&mut self, v: &[T]) -> Result<(), ElfError>
         ensures ok { OnOk result (self.new ≡ self.old ++ v.now) }
         ensures unchanged { OnErr result (self.new ≡ self.old) }
@@ -153,7 +153,7 @@ impl<T: Copy> List<T> {
         self.items.truncate(n as usize);
     }
 
-    /// Makes room for `count` more items. It refuses `Memory` alone; the items stay.
+    /// Makes room for `count` more items. It fails with `Memory` alone; the items stay.
     pub fn reserve(&mut self, count: u64) -> Result<(), ElfError>
         ensures same { self.new ≡ self.old }
         ensures err { IfErr result (λ e. e ≡ ElfError.Memory) }

@@ -1,6 +1,6 @@
 //! Numbers as text, appended to a list of bytes.
 //!
-//! Each call refuses `Memory` alone; what the list held then still stands, some bytes behind it.
+//! Each call fails with `Memory` alone; what the list held then stays, with some bytes after it.
 
 ghost use Rattle.std.specs.Prelude.{◌≡◌, ◌++◌, ◌≤◌, ◌<◌, false, length, drop, decimal, OnOk, IfErr};
 ghost use Rattle.std.specs.Fmt.{digits, digit_glyph, signed_decimal};

@@ -18,9 +18,9 @@ use byteorder::{BigEndian, LittleEndian};
 use elf_types::{Class, Dyn, ElfError, Kind, List, Order, Rel, Rela, Sym};
 use std::alloc::Global;
 
-/// The items of a section's data that bytes hold. It refuses in this order: `Ragged` exactly where
-/// the size of the kind's item does not divide the number of bytes, then `Memory`. The kind `Empty`
-/// gives `Items::Empty`, whatever the bytes are.
+/// The items of a section's data that bytes hold. It fails with, in this order: `Ragged` exactly
+/// where the size of the kind's item does not divide the number of bytes, then `Memory`. The kind
+/// `Empty` gives `Items::Empty`, whatever the bytes are.
 ///
 /// Source: gelf_xlatetom of gelf(3E).
 #[tactic(auto, using(crate::proofs::Decoded::decoded_kind, crate::proofs::Decoded::decoded_count))]
@@ -84,7 +84,7 @@ fn decode_items<T: Endian, const WIDE: bool>(
     }
 }
 
-/// The items of a list of whole items. It refuses `Memory` alone.
+/// The items of a list of whole items. It fails with `Memory` alone.
 pub fn decode_list<C: Codec<R>, R: Drop>(alloc: Global, bytes: &[u8]) -> Result<List<R>, ElfError>
     requires { length bytes.now % C.size ≡ 0 }
     ensures ok { IfOk result (λ l.

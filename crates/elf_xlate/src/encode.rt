@@ -15,9 +15,9 @@ use crate::records::{Codec, Form};
 use byteorder::{BigEndian, LittleEndian};
 use elf_types::{Class, Dyn, Octets, Order, Rel, Rela, Sym};
 
-/// Appends the file form of items. It refuses in this order: `Unfit` with the index of the first
-/// item that does not fit the class, exactly where there is one, then `Memory`. After a refusal
-/// `out` is as before.
+/// Appends the file form of items. It fails with, in this order: `Unfit` with the index of the
+/// first item that does not fit the class, exactly where there is one, then `Memory`. After a
+/// refusal `out` is as before.
 ///
 /// Source: gelf_xlatetof of gelf(3E).
 pub fn to_file(
@@ -46,7 +46,7 @@ pub fn to_file(
 /// The most bytes of items that are written at a time.
 const AT_ONCE: usize = 1024;
 
-/// Appends the bytes of items, which are tested and written some at a time. Where it answers false,
+/// Appends the bytes of items, which are tested and written some at a time. Where it returns false,
 /// one does not fit or there is no memory, and there may be bytes of some.
 #[tactic(auto, unfolding(crate::proofs::Words::items))]
 fn encode_items<T: Endian, const WIDE: bool>(items: &Items, out: &mut Octets) -> bool
@@ -153,7 +153,7 @@ fn put_fitting<C: Codec<R>, R: Copy>(items: &[R], out: &mut [u8]) -> bool
 
 /// Writes the file form of the items from the index `from` on and before the index `to`. They are
 /// items of the list, all items fit the class, and `out` has just as many bytes as the form. It
-/// refuses nothing and takes no memory.
+/// rejects nothing and takes no memory.
 ///
 /// Source: gelf_xlatetof of gelf(3E).
 pub fn put_items(items: &Items, class: Class, order: Order, from: u64, to: u64, out: &mut [u8])
@@ -170,7 +170,7 @@ pub fn put_items(items: &Items, class: Class, order: Order, from: u64, to: u64, 
     )
 }
 
-/// The same in a byte order and a class that are types.
+/// Writes a range of items as `put_items` does, in a byte order and a class that are types.
 #[tactic(auto, using(crate::proofs::Pieces::range_passes), unfolding(crate::proofs::Words::items))]
 fn encode_range<T: Endian, const WIDE: bool>(items: &Items, from: usize, to: usize, out: &mut [u8])
     requires order { from ≤ to }

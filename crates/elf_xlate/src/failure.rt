@@ -1,8 +1,8 @@
-//! What a translation refuses.
+//! What a translation rejects.
 
 use thiserror::Error;
 
-/// Why a translation was refused.
+/// Why a translation was rejected.
 #[derive(Clone, Copy, Debug, PartialEq, Eq, Error)]
 pub enum XlateError {
     /// There is no memory for the call.

@@ -7,7 +7,7 @@ ghost use Rattle.elf_xlate.specs.Items.{signed_width};
 
 use crate::byte_order::Endian;
 
-/// The byte that stands at a place in class 32 and at another in class 64.
+/// The byte that is at a place in class 32 and at another in class 64.
 #[inline(always)]
 #[tactic(auto, using(crate::proofs::Bytes::of_a_byte), unfolding(crate::specs::Fields::number_in))]
 pub fn get_one<T: Endian, const WIDE: bool>(bytes: &[u8], narrow: usize, broad: usize) -> u8
@@ -72,8 +72,8 @@ pub fn get_signed<T: Endian, const WIDE: bool>(bytes: &[u8], narrow: usize, broa
     signed::<WIDE>(get_native::<T, WIDE>(bytes, narrow, broad))
 }
 
-/// The signed number for which a number of the class stands: one of four bytes in class 32, of
-/// eight in class 64.
+/// The signed number for which a number of the class is: one of four bytes in class 32, of eight in
+/// class 64.
 #[inline(always)]
 fn signed<const WIDE: bool>(n: u64) -> i64
     requires { IsTrue (fits (class_of WIDE) n) }

@@ -99,7 +99,7 @@ pub fn unfit(items: &Items, class: Class) -> Option<u64>
     }
 }
 
-/// The same in class 32.
+/// The index of the first item that does not fit class 32.
 #[tactic(auto, unfolding(crate::specs::Translation::first_unfit))]
 fn narrow_unfit(items: &Items) -> Option<u64>
     ensures { result ≡ first_unfit C32 items.now }
@@ -114,7 +114,7 @@ fn narrow_unfit(items: &Items) -> Option<u64>
     }
 }
 
-/// The same of a list.
+/// The index of the first item of a list that does not fit class 32.
 fn first_not_narrow<T: Fit>(items: &[T]) -> Option<usize>
     ensures { result ≡ first_not (T.fitting C32) items.now }
 {
@@ -143,7 +143,7 @@ pub(crate) trait Fit {
     // Whether it fits.
     ghost fitting: { Class → Self → Bool };
 
-    /// Whether it fits its fields in a class.
+    /// Whether the item fits its fields in a class.
     fn fits_class(&self, class: Class) -> bool
         ensures { result ≡ fitting class self.now };
 }

@@ -126,7 +126,7 @@ impl<T: Endian, const WIDE: bool> Codec<Shdr> for Form<T, WIDE> {
 }
 
 /// The program header that bytes hold. There are as many bytes as the header has: 32 in class 32,
-/// 56 in class 64. It refuses nothing and takes no memory.
+/// 56 in class 64. It rejects nothing and takes no memory.
 ///
 /// Source: gABI chapter 5, "Program Header"; gelf_getphdr of gelf(3E).
 pub fn get_phdr(class: Class, order: Order, bytes: &[u8]) -> Phdr
@@ -139,7 +139,7 @@ pub fn get_phdr(class: Class, order: Order, bytes: &[u8]) -> Phdr
 }
 
 /// The section header that bytes hold. There are as many bytes as the header has: 40 in class 32,
-/// 64 in class 64. It refuses nothing and takes no memory.
+/// 64 in class 64. It rejects nothing and takes no memory.
 ///
 /// Source: gABI chapter 4, "Sections"; gelf_getshdr of gelf(3E).
 pub fn get_shdr(class: Class, order: Order, bytes: &[u8]) -> Shdr
@@ -151,8 +151,8 @@ pub fn get_shdr(class: Class, order: Order, bytes: &[u8]) -> Shdr
     in_form!(class, order, decode_one::<Shdr>(bytes))
 }
 
-/// The program headers of a table, of whose bytes the size of one is a divisor. It refuses `Memory`
-/// alone.
+/// The program headers of a table, of whose bytes the size of one is a divisor. It fails with
+/// `Memory` alone.
 ///
 /// Source: gABI chapter 5, "Program Header".
 pub fn get_phdrs(alloc: Global, class: Class, order: Order, bytes: &[u8]) -> Result<Phdrs, ElfError>
@@ -167,8 +167,8 @@ pub fn get_phdrs(alloc: Global, class: Class, order: Order, bytes: &[u8]) -> Res
     in_form!(class, order, decode_list::<Phdr>(alloc, bytes))
 }
 
-/// The section headers of a table, of whose bytes the size of one is a divisor. It refuses `Memory`
-/// alone.
+/// The section headers of a table, of whose bytes the size of one is a divisor. It fails with
+/// `Memory` alone.
 ///
 /// Source: gABI chapter 4, "Sections".
 pub fn get_shdrs(alloc: Global, class: Class, order: Order, bytes: &[u8]) -> Result<Shdrs, ElfError>
@@ -184,7 +184,7 @@ pub fn get_shdrs(alloc: Global, class: Class, order: Order, bytes: &[u8]) -> Res
 }
 
 /// Writes a program header. `out` has just the header's size, and the header fits the class. It
-/// refuses nothing and takes no memory.
+/// rejects nothing and takes no memory.
 ///
 /// Source: gABI chapter 5, "Program Header"; gelf_update_phdr of gelf(3E).
 pub fn put_phdr(class: Class, order: Order, p: &Phdr, out: &mut [u8])
@@ -196,7 +196,7 @@ pub fn put_phdr(class: Class, order: Order, p: &Phdr, out: &mut [u8])
 }
 
 /// Writes a section header. `out` has just the header's size, and the header fits the class. It
-/// refuses nothing and takes no memory.
+/// rejects nothing and takes no memory.
 ///
 /// Source: gABI chapter 4, "Sections"; gelf_update_shdr of gelf(3E).
 pub fn put_shdr(class: Class, order: Order, h: &Shdr, out: &mut [u8])

@@ -111,8 +111,8 @@ fn encode_ehdr<T: Endian, const WIDE: bool>(h: &Ehdr, pad: [u8; 7], out: &mut [u
 }
 
 /// The ELF header of a class and an order that bytes hold, with the two counts and the string index
-/// as they stand there, before extended numbering. There are as many bytes as the header has: 52 in
-/// class 32, 64 in class 64. It refuses nothing and takes no memory.
+/// as they are there, before extended numbering. There are as many bytes as the header has: 52 in
+/// class 32, 64 in class 64. It rejects nothing and takes no memory.
 ///
 /// Source: gABI chapter 4, "ELF Header"; gelf_getehdr of gelf(3E).
 pub fn get_ehdr(class: Class, order: Order, bytes: &[u8]) -> Ehdr
@@ -127,7 +127,7 @@ pub fn get_ehdr(class: Class, order: Order, bytes: &[u8]) -> Ehdr
 
 /// Writes an ELF header in the class and the order that it names; `pad` is the bytes 9 to 15 of its
 /// identification. `out` has just the header's size, the header fits its class, and its two counts
-/// and its string index are below 2^16. It refuses nothing and takes no memory.
+/// and its string index are below 2^16. It rejects nothing and takes no memory.
 ///
 /// Source: gABI chapter 4, "ELF Header"; gelf_update_ehdr of gelf(3E).
 pub fn put_ehdr(h: &Ehdr, pad: [u8; 7], out: &mut [u8])

@@ -1,4 +1,4 @@
-//! Laws of the two forms, for all lists: they speak of the definitions alone.
+//! Theorems on the two forms, for all lists: they speak of the definitions alone.
 
 ghost use Rattle.std.specs.Prelude.{ℕ, List, ◌≡◌, ◌<◌, ◌^◌, length, IsTrue};
 ghost use Rattle.std.specs.List.{All};
@@ -47,7 +47,8 @@ pub fn phdr_both_ways()
         → phdr_bytes class order (phdr_of class order bytes) ≡ bytes }
 {}
 
-/// The same of a section header.
+/// A section header that fits a class, written, is read as it was; and written as it was read, it
+/// has the same bytes.
 pub fn shdr_both_ways()
     ensures written { (class : Class) (order : Order) (h : Shdr) → IsShdr h
         → IsTrue (shdr_fits class h) → shdr_of class order (shdr_bytes class order h) ≡ h }

@@ -1,5 +1,29 @@
 //! Translation between the bytes of an ELF image and records: the items of a section's data, and
 //! the three kinds of headers, in both classes and both byte orders.
+//!
+//! Nothing here reads a source; the bytes and the form (class and order) are parameters.
+//!
+//! - `to_memory`: the items that bytes hold, as `Items` of a kind.
+//! - `to_file`: appends the bytes of items to a list.
+//! - `fsize`: how many bytes so many items take, or None from 2^64 on.
+//! - `get_ehdr`: an ELF header of its bytes, `put_ehdr` its bytes; so `get_phdr`, `get_shdr` and
+//!   `put_phdr`, `put_shdr`.
+//! - `unfit`: the first item that does not fit its class; `ehdr_fits`, `phdr_fits` and `shdr_fits`
+//!   ask of headers.
+//!
+//! From `bench_translation`:
+//!
+//! ```text
+//! pub fn translation_total(alloc: Global, work: &TranslationTask) -> Option<u64> {
+//!     let size = fsize(Kind::Sym, work.class, u64::from(work.symbols))?;
+//!     let bytes = made_bytes(alloc, size)?;
+//!     let items = to_memory(alloc, Kind::Sym, work.class, work.order, bytes.as_slice()).ok()?;
+//!     match work.way {
+//!         Way::Decode => decode_rounds(alloc, work, bytes.as_slice(), sum_of_symbols(&items)),
+//!         Way::Encode => encode_rounds(alloc, work, &items),
+//!     }
+//! }
+//! ```
 #![tactic(auto)]
 
 mod byte_order;

@@ -7,7 +7,7 @@ use crate::byte_order::Endian;
 use byteorder::{BigEndian, LittleEndian};
 use elf_types::Order;
 
-/// The number of at most eight bytes in an order; 0 where there is none. It refuses nothing and
+/// The number of at most eight bytes in an order; 0 where there is none. It rejects nothing and
 /// takes no memory.
 ///
 /// Source: gABI chapter 4, "ELF Identification", Data Encoding.
@@ -21,7 +21,7 @@ pub fn number(order: Order, bytes: &[u8]) -> u64
     }
 }
 
-/// The same in an order that is a type.
+/// The number of at most eight bytes, in an order that is a type.
 #[tactic(auto, using(crate::proofs::Bytes::number_of_none, crate::proofs::Bytes::number_of_all))]
 fn number_in_order<T: Endian>(bytes: &[u8]) -> u64
     requires { length bytes.now ≤ 8 }

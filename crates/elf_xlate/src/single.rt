@@ -10,7 +10,7 @@ use crate::records::{Form, decode_one};
 use byteorder::{BigEndian, LittleEndian};
 use elf_types::{Class, Dyn, Order, Rel, Rela, Sym};
 
-/// The two-byte number that bytes hold. There are as many bytes as an item has. It refuses nothing
+/// The two-byte number that bytes hold. There are as many bytes as an item has. It rejects nothing
 /// and takes no memory.
 ///
 /// Source: gABI chapter 4, "Data Representation".
@@ -21,7 +21,7 @@ pub fn get_half(class: Class, order: Order, bytes: &[u8]) -> u16
     in_form!(class, order, decode_one::<u16>(bytes))
 }
 
-/// The four-byte number that bytes hold. There are as many bytes as an item has. It refuses nothing
+/// The four-byte number that bytes hold. There are as many bytes as an item has. It rejects nothing
 /// and takes no memory.
 ///
 /// Source: gABI chapter 4, "Data Representation".
@@ -32,7 +32,7 @@ pub fn get_word(class: Class, order: Order, bytes: &[u8]) -> u32
     in_form!(class, order, decode_one::<u32>(bytes))
 }
 
-/// The address that bytes hold. There are as many bytes as an item has. It refuses nothing and
+/// The address that bytes hold. There are as many bytes as an item has. It rejects nothing and
 /// takes no memory.
 ///
 /// Source: gABI chapter 4, "Data Representation".
@@ -44,7 +44,7 @@ pub fn get_addr(class: Class, order: Order, bytes: &[u8]) -> u64
     in_form!(class, order, decode_one::<u64>(bytes))
 }
 
-/// The symbol that bytes hold. There are as many bytes as an item has. It refuses nothing and takes
+/// The symbol that bytes hold. There are as many bytes as an item has. It rejects nothing and takes
 /// no memory.
 ///
 /// Source: gABI chapter 4, "Symbol Table"; gelf_getsym of gelf(3E).
@@ -57,7 +57,7 @@ pub fn get_sym(class: Class, order: Order, bytes: &[u8]) -> Sym
     in_form!(class, order, decode_one::<Sym>(bytes))
 }
 
-/// The relocation that bytes hold. There are as many bytes as an item has. It refuses nothing and
+/// The relocation that bytes hold. There are as many bytes as an item has. It rejects nothing and
 /// takes no memory.
 ///
 /// Source: gABI chapter 4, "Relocation"; gelf_getrel of gelf(3E).
@@ -71,7 +71,7 @@ pub fn get_rel(class: Class, order: Order, bytes: &[u8]) -> Rel
 }
 
 /// The relocation with an addend that bytes hold. There are as many bytes as an item has. It
-/// refuses nothing and takes no memory.
+/// rejects nothing and takes no memory.
 ///
 /// Source: gABI chapter 4, "Relocation"; gelf_getrela of gelf(3E).
 pub fn get_rela(class: Class, order: Order, bytes: &[u8]) -> Rela
@@ -84,7 +84,7 @@ pub fn get_rela(class: Class, order: Order, bytes: &[u8]) -> Rela
 }
 
 /// The entry of the dynamic section that bytes hold. There are as many bytes as an item has. It
-/// refuses nothing and takes no memory.
+/// rejects nothing and takes no memory.
 ///
 /// Source: gABI chapter 5, "Dynamic Section"; gelf_getdyn of gelf(3E).
 pub fn get_dyn(class: Class, order: Order, bytes: &[u8]) -> Dyn

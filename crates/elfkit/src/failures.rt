@@ -1,10 +1,10 @@
 //! What the program says when a run stops. It stands outside of what `run` promises.
 
 use elf_outside::{Attempt, RealFiles, RealSink};
+use elfkit_run::Status;
 use std::fs::File;
 use std::io::{Error, ErrorKind, Write};
 use std::rt;
-use tool_output::Status;
 
 /// Says on standard error why a run of this status stopped: the file or the stream of the last call
 /// that failed, what was tried, and what the system said; or that there was no memory. After a

@@ -1,4 +1,27 @@
-//! elfkit: shows, checks and changes ELF images.
+//! The program elfkit: shows, checks and changes ELF images.
+//!
+//! `main` takes the arguments, the files and the two outputs of the process, and ends with the
+//! status of `run`. To call the program from another one, use elfkit_run.
+//!
+//! - `run`: of elfkit_run: the whole program, from arguments to a `Status`, over any files and
+//!   outputs.
+//! - `Args`: of tool_text: the arguments, without the program's name.
+//! - `RealFiles`: of elf_outside: the files of the system; `MemFiles` are files in memory.
+//! - `Status`: of elfkit_run: the exit status; `code` is its number.
+//!
+//! From `test_kit_runs`:
+//!
+//! ```text
+//! fn status_of<F: Files, O: Sink, E: Sink>(
+//!     alloc: Global,
+//!     words: &Args,
+//!     files: &mut F,
+//!     out: &mut O,
+//!     err: &mut E,
+//! ) -> Status {
+//!     run(alloc, words, files, out, err)
+//! }
+//! ```
 #![tactic(auto)]
 
 ghost use Rattle.std.specs.Prelude.{◌≡◌, ◌⊎◌, IfErr};
@@ -7,15 +30,14 @@ mod failures;
 
 use crate::failures::{say_no_memory, say_why};
 use elf_outside::{RealFiles, RealSink, Sink, take_streams};
-use elfkit_run::run;
+use elfkit_run::{Status, run};
 use std::env;
 use std::io::ErrorKind;
 use std::process::ExitCode;
 use std::rt::Env;
-use tool_output::Status;
 use tool_text::Args;
 
-/// The words after the program's name, or the status that ends the program.
+/// The arguments after the program's name, or the status that ends the program.
 fn read_arguments(rt: &(impl Env + AllocGlobal)) -> Result<Args, Status>
     ensures { IfErr result (λ status. (status ≡ Status.BadWords) ⊎ (status ≡ Status.NoMemory)) }
 {
@@ -33,7 +55,7 @@ fn read_arguments(rt: &(impl Env + AllocGlobal)) -> Result<Args, Status>
     Ok(words)
 }
 
-/// The status of a run whose words can't be had, after a message.
+/// The status of a run whose arguments can't be had, after a message.
 fn end_without_words(rt: &HostRuntime, status: Status) -> Status {
     if status != Status::BadWords {
         say_no_memory(rt);
@@ -47,7 +69,7 @@ fn end_without_words(rt: &HostRuntime, status: Status) -> Status {
 
 /// The status of the program.
 fn start(rt: &HostRuntime) -> Status {
-    // (where this fails, the files refuse what would get the descriptor of a stream)
+    // (where this fails, the files reject what would get the descriptor of a stream)
     let _ = take_streams(rt);
     let words = match read_arguments(rt) {
         Ok(words) => words,

@@ -1,7 +1,7 @@
 -- What the handle of an archive holds once the archive that was taken from it is put back.
 use Rattle.std.proofs.Common.{◌≡◌, true, sym, ◌∙◌, subst}
-use Rattle.archive_handle.specs.declared.handle.ArchiveHandle.{ArchiveHandle}
-use Rattle.archive_handle.specs.declared.opened.OpenArchive.{OpenArchive}
+use Rattle.c_handles.specs.declared.archives.handle.ArchiveHandle.{ArchiveHandle}
+use Rattle.c_handles.specs.declared.archives.opened.OpenArchive.{OpenArchive}
 use Rattle.elfkit_c.specs.Archives.{KeepsArchive}
 
 pub keeps_archive : (old new : ArchiveHandle) (archive : OpenArchive) → archive ≡ old.held

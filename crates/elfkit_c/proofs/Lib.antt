@@ -1,5 +1,6 @@
-pub mod ArchiveLaws
-pub mod EditLaws
-pub mod HandleLaws
-pub mod Refusals
-pub mod TranslationLaws
+mod ArchiveLaws
+mod EditLaws
+mod HandleLaws
+mod Refusals
+mod TranslationLaws
+mod WriteLaws

@@ -4,7 +4,7 @@ use Rattle.elf_types.specs.declared.records.Class.{Class}
 use Rattle.elf_types.specs.declared.records.Order.{Order}
 use Rattle.elf_types.specs.declared.records.Kind.{Kind}
 use Rattle.elf_xlate.specs.Translation.{decoded}
-use Rattle.c_translation.specs.Translations.{Translates}
+use Rattle.c_calls.specs.Translation.Translations.{Translates}
 
 pub translated_by : (k kind : Kind) (c class : Class) (f from : Order) (t to : Order)
     (number : ℕ) (old new : List ℕ) → k ≡ kind → c ≡ class → f ≡ from → t ≡ to

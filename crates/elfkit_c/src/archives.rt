@@ -3,26 +3,26 @@
 ghost use Rattle.std.specs.Prelude.{◌≡◌, ◌⊎◌, true, false, length, slice_get, IfSome};
 ghost use Rattle.ar_members.specs.Archives.{begun_walk};
 ghost use Rattle.ar_members.specs.Symbols.{arsyms};
-ghost use Rattle.object_handle.specs.Objects.{IsLoanOf};
-ghost use Rattle.gelf_records.specs.Gives.{Gives};
-ghost use Rattle.c_archives.specs.Forms.{symbol_record, symbol_at, listed};
-ghost use Rattle.c_archives.specs.Steps.{bytes_of, Steps, LiesIn, GivesOrWants};
+ghost use Rattle.c_handles.specs.Objects.Objects.{IsLoanOf};
+ghost use Rattle.c_records.specs.Gives.{GivesInCForm};
+ghost use Rattle.c_calls.specs.Archives.Forms.{symbol_record, archive_symbol_at, counted_symbols};
+ghost use Rattle.c_calls.specs.Archives.Steps.{bytes_of, Steps, BodyLiesIn, GivesOrWants};
 ghost use Rattle.elfkit_c.specs.Handles.{ComesBack};
 ghost use Rattle.elfkit_c.specs.Archives.{BeginsArchive, KeepsArchive, WalksOn, Lists};
 
-use archive_handle::{ArchiveHandle, close_archive, open_archive};
-use c_archives::{
+use c_calls::archives::{
     ArSymRecord, MemberRecord, give_name, give_symbol, give_symbol_name, list_symbols, next_member,
 };
-use gelf_records::code_of;
-use lent_bytes::Lent;
+use c_handles::archives::{ArchiveHandle, close_archive, open_archive};
+use c_handles::lent::Lent;
+use c_records::code_of;
 use std::alloc::Global;
 use std::mem::replace;
 
 /// Opens an archive over bytes that C lends: it reads the first line. The number is 0, or that of
-/// what `Ar::begin` refuses, in its order: `Short`, `Magic`, `TooLarge`; or of `Memory`. The bytes
-/// come back with a refusal, and else when the archive is closed. C may lend the body of a member
-/// once more meanwhile, to `elfkit_begin` or to this call.
+/// what `Ar::begin` fails with, in its order: `Short`, `Magic`, `TooLarge`; or of `Memory`. The
+/// bytes come back with a refusal, and else when the archive is closed. C may lend the body of a
+/// member once more meanwhile, to `elfkit_begin` or to this call.
 ///
 /// Besides C's usual part: the bytes are there, at most 2^63 - 1 of them at a place that is not
 /// null, also where there are none, and nobody writes them until they are back; and the handle is
@@ -68,9 +68,9 @@ pub extern "C" fn elfkit_ar_end(alloc: Global, h: &mut ArchiveHandle, back: &mut
     let _before = replace(back, close_archive(archive));
 }
 
-/// The next member that is not one of the three special ones, or that there is none. It refuses
-/// `BadMember` where the header is bad, each time again, and `Memory`, after which the walk stands
-/// where it stood. A member's body lies in the archive.
+/// The next member that is not one of the three special ones, or that there is none. It fails with
+/// `BadMember` where the header is bad, each time again, and `Memory`, after which the walk is
+/// where it was. A member's body lies in the archive.
 ///
 /// Besides C's usual part: the handle holds an archive.
 ///
@@ -83,7 +83,7 @@ pub extern "C" fn elfkit_ar_next(
 ) -> u32
     requires { h.old.full ≡ true }
     ensures steps { Steps h.old.held h.new.held result out.old out.new }
-    ensures lies { (out.new ≡ out.old) ⊎ LiesIn (length (bytes_of h.old.held)) out.new }
+    ensures lies { (out.new ≡ out.old) ⊎ BodyLiesIn (length (bytes_of h.old.held)) out.new }
     ensures walks { WalksOn h.old h.new }
 {
     let mut archive = h.take(alloc);
@@ -111,8 +111,8 @@ pub extern "C" fn elfkit_ar_name(alloc: Global, h: &mut ArchiveHandle, out: &mut
 }
 
 /// Reads the table of symbols, which the archive keeps, and gives their number: 0 where the first
-/// member is no such table. It refuses `BadMember` where the first header or the table is bad, and
-/// `Memory`. The walk stands where it stood.
+/// member is no such table. It fails with `BadMember` where the first header or the table is bad,
+/// and `Memory`. The walk is where it was.
 ///
 /// Besides C's usual part: the handle holds an archive.
 ///
@@ -120,7 +120,7 @@ pub extern "C" fn elfkit_ar_name(alloc: Global, h: &mut ArchiveHandle, out: &mut
 #[unsafe(no_mangle)]
 pub extern "C" fn elfkit_ar_symbols(alloc: Global, h: &mut ArchiveHandle, count: &mut u64) -> u32
     requires { h.old.full ≡ true }
-    ensures gives { GivesOrWants listed (arsyms (bytes_of h.old.held)) result
+    ensures gives { GivesOrWants counted_symbols (arsyms (bytes_of h.old.held)) result
         (count.old, h.old.held.symbols) (count.new, h.new.held.symbols) }
     ensures lists { Lists h.old h.new }
 {
@@ -130,7 +130,7 @@ pub extern "C" fn elfkit_ar_symbols(alloc: Global, h: &mut ArchiveHandle, count:
     number
 }
 
-/// The symbol at an index among those that `elfkit_ar_symbols` read. It refuses `NoEntry`.
+/// The symbol at an index among those that `elfkit_ar_symbols` read. It fails with `NoEntry`.
 ///
 /// Besides C's usual part: the handle holds an archive.
 ///
@@ -143,7 +143,8 @@ pub extern "C" fn elfkit_ar_symbol(
     out: &mut ArSymRecord,
 ) -> u32
     requires { h.old.full ≡ true }
-    ensures gives { Gives symbol_record (symbol_at h.old.held.symbols i) result out.old out.new }
+    ensures gives { GivesInCForm symbol_record
+        (archive_symbol_at h.old.held.symbols i) result out.old out.new }
     ensures keeps { KeepsArchive h.old h.new }
 {
     let archive = h.take(alloc);

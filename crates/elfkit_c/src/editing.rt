@@ -1,24 +1,24 @@
 //! Edits of an object. Each is exactly that of the plain object, and marks what it changes; where
-//! it is refused the object is as it was.
+//! it is rejected the object is as it was.
 
 ghost use Rattle.std.specs.Prelude.{◌≡◌, true};
 ghost use Rattle.elf_object.specs.Calls as calls;
 ghost use Rattle.elf_descriptor.specs.Edits.{stepped};
-ghost use Rattle.c_editing.specs.From.{phdr_from, shdr_from};
-ghost use Rattle.c_editing.specs.Edited.{Edited, Grown, Copied, StoresEhdr, MakesSection, MakesPiece, SetsFlags};
+ghost use Rattle.c_calls.specs.Editing.From.{phdr_from_record, shdr_from_record};
+ghost use Rattle.c_calls.specs.Editing.Edited.{Edited, Grown, Copied, StoresEhdr, MakesSection, MakesPiece, SetsFlags};
 
-use c_editing::{
-    add_bytes, add_section, new_phdrs, put_bytes, set_fill, set_flags, store_ehdr, store_phdr,
-    store_shdr,
+use c_calls::editing::{
+    add_bytes, append_new_section, new_phdrs, put_piece_bytes, set_fill, set_flags, store_ehdr,
+    store_phdr, store_shdr,
 };
+use c_handles::objects::Handle;
+use c_records::{EhdrRecord, PhdrRecord, ShdrRecord};
 use elf_types::{DataId, ScnId};
 use elf_xlate::Items;
-use gelf_records::{EhdrRecord, PhdrRecord, ShdrRecord};
-use object_handle::Handle;
 use std::alloc::Global;
 
 /// Stores a header's `osabi`, `abiversion`, `etype`, `machine`, `entry`, `phoff`, `shoff`, `flags`
-/// and `shstrndx`; it looks at no other field. It refuses in this order: `NoSection` where
+/// and `shstrndx`; it looks at no other field. It fails with, in this order: `NoSection` where
 /// `shstrndx` is neither 0 nor below the section count, `Unfit`.
 ///
 /// Besides C's usual part: the handle holds an object.
@@ -36,8 +36,8 @@ pub extern "C" fn elfkit_update_ehdr(alloc: Global, h: &mut Handle, x: &EhdrReco
     number
 }
 
-/// Gives the object so many program headers of zeros in place of those that it has. It refuses in
-/// this order: `TooMany` above 65,534, `Memory`.
+/// Gives the object so many program headers of zeros in place of those that it has. It fails with,
+/// in this order: `TooMany` above 65,534, `Memory`.
 ///
 /// Besides C's usual part: the handle holds an object.
 ///
@@ -54,7 +54,7 @@ pub extern "C" fn elfkit_newphdr(alloc: Global, h: &mut Handle, count: u32) -> u
     number
 }
 
-/// Stores a program header. It refuses in this order: `NoEntry`, `Unfit`.
+/// Stores a program header. It fails with, in this order: `NoEntry`, `Unfit`.
 ///
 /// Besides C's usual part: the handle holds an object.
 ///
@@ -62,7 +62,7 @@ pub extern "C" fn elfkit_newphdr(alloc: Global, h: &mut Handle, count: u32) -> u
 #[unsafe(no_mangle)]
 pub extern "C" fn elfkit_update_phdr(alloc: Global, h: &mut Handle, i: u32, x: &PhdrRecord) -> u32
     requires { h.old.full ≡ true }
-    ensures edits { Edited (calls.update_phdr i (phdr_from x.now)) result
+    ensures edits { Edited (calls.update_phdr i (phdr_from_record x.now)) result
         h.old.held.elf h.new.held.elf }
     ensures full { h.new.full ≡ true }
 {
@@ -73,8 +73,8 @@ pub extern "C" fn elfkit_update_phdr(alloc: Global, h: &mut Handle, i: u32, x: &
 }
 
 /// Adds a section at the end, whose header is zeros and which has no piece, and gives its number;
-/// an object without sections gets section 0 before it. It refuses in this order: `TooMany` at 2^20
-/// sections, `Memory`.
+/// an object without sections gets section 0 before it. It fails with, in this order: `TooMany` at
+/// 2^20 sections, `Memory`.
 ///
 /// Besides C's usual part: the handle holds an object.
 ///
@@ -86,12 +86,12 @@ pub extern "C" fn elfkit_newscn(alloc: Global, h: &mut Handle, out: &mut u32) ->
     ensures full { h.new.full ≡ true }
 {
     let mut object = h.take(alloc);
-    let number = add_section(object.as_mut(), out);
+    let number = append_new_section(object.as_mut(), out);
     h.put(object);
     number
 }
 
-/// Stores a section's header. It refuses in this order: `NoSection`, `Reserved` for section 0,
+/// Stores a section's header. It fails with, in this order: `NoSection`, `Reserved` for section 0,
 /// `Unfit`.
 ///
 /// Besides C's usual part: the handle holds an object.
@@ -105,7 +105,7 @@ pub extern "C" fn elfkit_update_shdr(
     x: &ShdrRecord,
 ) -> u32
     requires { h.old.full ≡ true }
-    ensures edits { Edited (calls.update_shdr section (shdr_from x.now)) result
+    ensures edits { Edited (calls.update_shdr section (shdr_from_record x.now)) result
         h.old.held.elf h.new.held.elf }
     ensures full { h.new.full ≡ true }
 {
@@ -115,8 +115,8 @@ pub extern "C" fn elfkit_update_shdr(
     number
 }
 
-/// Gives a piece a copy of these bytes, as they stand in the file, in place of what it holds. It
-/// refuses in this order: `Memory`, `NoSection`, `Reserved` for section 0, `NoData`.
+/// Gives a piece a copy of these bytes, as they are in the file, in place of what it holds. It
+/// fails with, in this order: `Memory`, `NoSection`, `Reserved` for section 0, `NoData`.
 ///
 /// Besides C's usual part: the handle holds an object.
 ///
@@ -135,13 +135,13 @@ pub extern "C" fn elfkit_replace(
     ensures full { h.new.full ≡ true }
 {
     let mut object = h.take(alloc);
-    let number = put_bytes(object.as_mut(), DataId { section, piece }, bytes);
+    let number = put_piece_bytes(object.as_mut(), DataId { section, piece }, bytes);
     h.put(object);
     number
 }
 
-/// Adds a piece with a copy of these bytes, as they stand in the file, to a section, with that
-/// alignment in it, and gives its number in the section. It refuses in this order: `Memory`,
+/// Adds a piece with a copy of these bytes, as they are in the file, to a section, with that
+/// alignment in it, and gives its number in the section. It fails with, in this order: `Memory`,
 /// `NoSection`, `Reserved` for section 0, `TooMany` at 2^20 pieces, `BadAlign` where the alignment
 /// is no power of two or is greater than 2^20; and `Memory`.
 ///
@@ -169,7 +169,7 @@ pub extern "C" fn elfkit_newdata(
 }
 
 /// Sets or clears the flags of the object that `bits` has, `ELF_F_DIRTY` and `ELF_F_LAYOUT`, and
-/// gives those that it has then. It refuses `FlagKept` where `ELF_F_DIRTY` is to be cleared.
+/// gives those that it has then. It fails with `FlagKept` where `ELF_F_DIRTY` would be cleared.
 ///
 /// Besides C's usual part: the handle holds an object.
 ///

@@ -3,7 +3,7 @@
 ghost use Rattle.std.specs.Prelude.{◌≡◌};
 ghost use Rattle.hash_model.specs.Hashes as hashes;
 
-/// The hash of a name in a section of type `SHT_HASH`. It refuses nothing and takes no memory.
+/// The hash of a name in a section of type `SHT_HASH`. It rejects nothing and takes no memory.
 ///
 /// Source: gABI chapter 5, "Hash Table"; elf_hash of elf(3E).
 #[unsafe(no_mangle)]
@@ -13,7 +13,7 @@ pub extern "C" fn elfkit_hash(name: &[u8]) -> u32
     symbol_hashes::elf_hash(name)
 }
 
-/// The hash of a name in GNU's hash section. It refuses nothing and takes no memory.
+/// The hash of a name in GNU's hash section. It rejects nothing and takes no memory.
 ///
 /// Source: GNU's hash section, which is no part of the gABI; elf_gnu_hash of libelf.
 #[unsafe(no_mangle)]

@@ -2,16 +2,16 @@
 
 ghost use Rattle.std.specs.Prelude.{◌≡◌, true, Ok, IfOk};
 ghost use Rattle.elf_object.specs.Calls as calls;
-ghost use Rattle.gelf_records.specs.Forms.{ehdr_record, phdr_record, shdr_record, extent_record, kind_number};
-ghost use Rattle.gelf_records.specs.Gives.{Gives};
-ghost use Rattle.elfkit_c.specs.Handles.{Keeps};
+ghost use Rattle.c_records.specs.Forms.{ehdr_record, phdr_record, shdr_record, extent_record, kind_number};
+ghost use Rattle.c_records.specs.Gives.{GivesInCForm};
+ghost use Rattle.elfkit_c.specs.Handles.{KeepsHandle};
 
-use c_reading::{
+use c_calls::reading::{
     give_ehdr, give_home, give_kind, give_phdr, give_shdr, phdr_count, section_count, string_index,
 };
+use c_handles::objects::Handle;
+use c_records::{EhdrRecord, ExtentRecord, PhdrRecord, ShdrRecord};
 use elf_types::{DataId, ScnId};
-use gelf_records::{EhdrRecord, ExtentRecord, PhdrRecord, ShdrRecord};
-use object_handle::Handle;
 use std::alloc::Global;
 
 /// The ELF header, with its true counts and its true string index.
@@ -24,7 +24,7 @@ pub extern "C" fn elfkit_ehdr(alloc: Global, h: &mut Handle, out: &mut EhdrRecor
     requires { h.old.full ≡ true }
     ensures value { IfOk (calls.ehdr.answer h.old.held.elf.o)
         (λ header. out.new ≡ ehdr_record header) }
-    ensures keeps { Keeps h.old h.new }
+    ensures keeps { KeepsHandle h.old h.new }
 {
     let object = h.take(alloc);
     give_ehdr(object.as_ref(), out);
@@ -40,7 +40,7 @@ pub extern "C" fn elfkit_ehdr(alloc: Global, h: &mut Handle, out: &mut EhdrRecor
 pub extern "C" fn elfkit_phnum(alloc: Global, h: &mut Handle) -> u32
     requires { h.old.full ≡ true }
     ensures value { Ok result ≡ calls.phnum.answer h.old.held.elf.o }
-    ensures keeps { Keeps h.old h.new }
+    ensures keeps { KeepsHandle h.old h.new }
 {
     let object = h.take(alloc);
     let count = phdr_count(object.as_ref());
@@ -57,7 +57,7 @@ pub extern "C" fn elfkit_phnum(alloc: Global, h: &mut Handle) -> u32
 pub extern "C" fn elfkit_shnum(alloc: Global, h: &mut Handle) -> u32
     requires { h.old.full ≡ true }
     ensures value { Ok result ≡ calls.shnum.answer h.old.held.elf.o }
-    ensures keeps { Keeps h.old h.new }
+    ensures keeps { KeepsHandle h.old h.new }
 {
     let object = h.take(alloc);
     let count = section_count(object.as_ref());
@@ -74,7 +74,7 @@ pub extern "C" fn elfkit_shnum(alloc: Global, h: &mut Handle) -> u32
 pub extern "C" fn elfkit_shstrndx(alloc: Global, h: &mut Handle) -> u32
     requires { h.old.full ≡ true }
     ensures value { Ok result ≡ calls.shstrndx.answer h.old.held.elf.o }
-    ensures keeps { Keeps h.old h.new }
+    ensures keeps { KeepsHandle h.old h.new }
 {
     let object = h.take(alloc);
     let count = string_index(object.as_ref());
@@ -82,7 +82,7 @@ pub extern "C" fn elfkit_shstrndx(alloc: Global, h: &mut Handle) -> u32
     count
 }
 
-/// A program header. It refuses `NoEntry`.
+/// A program header. It fails with `NoEntry`.
 ///
 /// Besides C's usual part: the handle holds an object.
 ///
@@ -90,9 +90,9 @@ pub extern "C" fn elfkit_shstrndx(alloc: Global, h: &mut Handle) -> u32
 #[unsafe(no_mangle)]
 pub extern "C" fn elfkit_phdr(alloc: Global, h: &mut Handle, i: u32, out: &mut PhdrRecord) -> u32
     requires { h.old.full ≡ true }
-    ensures gives { Gives phdr_record ((calls.phdr i).answer h.old.held.elf.o) result
+    ensures gives { GivesInCForm phdr_record ((calls.phdr i).answer h.old.held.elf.o) result
         out.old out.new }
-    ensures keeps { Keeps h.old h.new }
+    ensures keeps { KeepsHandle h.old h.new }
 {
     let object = h.take(alloc);
     let number = give_phdr(object.as_ref(), i, out);
@@ -100,7 +100,7 @@ pub extern "C" fn elfkit_phdr(alloc: Global, h: &mut Handle, i: u32, out: &mut P
     number
 }
 
-/// The present header of a section. It refuses `NoSection`.
+/// The present header of a section. It fails with `NoSection`.
 ///
 /// Besides C's usual part: the handle holds an object.
 ///
@@ -113,9 +113,9 @@ pub extern "C" fn elfkit_shdr(
     out: &mut ShdrRecord,
 ) -> u32
     requires { h.old.full ≡ true }
-    ensures gives { Gives shdr_record ((calls.shdr section).answer h.old.held.elf.o) result
+    ensures gives { GivesInCForm shdr_record ((calls.shdr section).answer h.old.held.elf.o) result
         out.old out.new }
-    ensures keeps { Keeps h.old h.new }
+    ensures keeps { KeepsHandle h.old h.new }
 {
     let object = h.take(alloc);
     let number = give_shdr(object.as_ref(), ScnId(section), out);
@@ -123,7 +123,7 @@ pub extern "C" fn elfkit_shdr(
     number
 }
 
-/// Where a section's bytes are in the image. It refuses `NoSection`.
+/// Where a section's bytes are in the image. It fails with `NoSection`.
 ///
 /// Besides C's usual part: the handle holds an object.
 ///
@@ -136,9 +136,9 @@ pub extern "C" fn elfkit_home(
     out: &mut ExtentRecord,
 ) -> u32
     requires { h.old.full ≡ true }
-    ensures gives { Gives extent_record ((calls.home section).answer h.old.held.elf.o) result
+    ensures gives { GivesInCForm extent_record ((calls.home section).answer h.old.held.elf.o) result
         out.old out.new }
-    ensures keeps { Keeps h.old h.new }
+    ensures keeps { KeepsHandle h.old h.new }
 {
     let object = h.take(alloc);
     let number = give_home(object.as_ref(), ScnId(section), out);
@@ -146,7 +146,7 @@ pub extern "C" fn elfkit_home(
     number
 }
 
-/// What the items of a piece are. It refuses in this order: `NoSection`, `NoData`.
+/// What the items of a piece are. It fails with, in this order: `NoSection`, `NoData`.
 ///
 /// Besides C's usual part: the handle holds an object.
 ///
@@ -160,10 +160,10 @@ pub extern "C" fn elfkit_kind(
     out: &mut u32,
 ) -> u32
     requires { h.old.full ≡ true }
-    ensures gives { Gives kind_number
+    ensures gives { GivesInCForm kind_number
         ((calls.piece_kind section piece).answer h.old.held.elf.o) result
         out.old out.new }
-    ensures keeps { Keeps h.old h.new }
+    ensures keeps { KeepsHandle h.old h.new }
 {
     let object = h.take(alloc);
     let number = give_kind(object.as_ref(), DataId { section, piece }, out);

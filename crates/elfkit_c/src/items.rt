@@ -3,17 +3,17 @@
 ghost use Rattle.std.specs.Prelude.{◌≡◌, true};
 ghost use Rattle.elf_object.specs.Calls as calls;
 ghost use Rattle.elf_descriptor.specs.Reads.{wanted};
-ghost use Rattle.gelf_records.specs.Forms.{sym_record, rel_record, rela_record, dyn_record, as_number};
-ghost use Rattle.gelf_records.specs.Gives.{GivesRead};
+ghost use Rattle.c_records.specs.Forms.{sym_record, rel_record, rela_record, dyn_record, as_number};
+ghost use Rattle.c_records.specs.Gives.{GivesRead};
 ghost use Rattle.elfkit_c.specs.Handles.{Holds};
 
-use c_reading::{give_addr, give_dyn, give_half, give_rel, give_rela, give_sym, give_word};
+use c_calls::reading::{give_addr, give_dyn, give_half, give_rel, give_rela, give_sym, give_word};
+use c_handles::objects::Handle;
+use c_records::{DynRecord, RelRecord, RelaRecord, SymRecord};
 use elf_types::DataId;
-use gelf_records::{DynRecord, RelRecord, RelaRecord, SymRecord};
-use object_handle::Handle;
 use std::alloc::Global;
 
-/// The symbol at an index of a piece. It refuses in this order: `NoSection`, `NoData`,
+/// The symbol at an index of a piece. It fails with, in this order: `NoSection`, `NoData`,
 /// `WrongKind`, `OutOfFile`, `Ragged`; then `Memory`, and `NoEntry`.
 ///
 /// Besides C's usual part: the handle holds an object.
@@ -39,7 +39,7 @@ pub extern "C" fn elfkit_sym(
     number
 }
 
-/// The relocation at an index of a piece. It refuses in this order: `NoSection`, `NoData`,
+/// The relocation at an index of a piece. It fails with, in this order: `NoSection`, `NoData`,
 /// `WrongKind`, `OutOfFile`, `Ragged`; then `Memory`, and `NoEntry`.
 ///
 /// Besides C's usual part: the handle holds an object.
@@ -65,7 +65,7 @@ pub extern "C" fn elfkit_rel(
     number
 }
 
-/// The relocation with an addend at an index of a piece. It refuses in this order: `NoSection`,
+/// The relocation with an addend at an index of a piece. It fails with, in this order: `NoSection`,
 /// `NoData`, `WrongKind`, `OutOfFile`, `Ragged`; then `Memory`, and `NoEntry`.
 ///
 /// Besides C's usual part: the handle holds an object.
@@ -91,8 +91,8 @@ pub extern "C" fn elfkit_rela(
     number
 }
 
-/// The entry of the dynamic section at an index of a piece. It refuses in this order: `NoSection`,
-/// `NoData`, `WrongKind`, `OutOfFile`, `Ragged`; then `Memory`, and `NoEntry`.
+/// The entry of the dynamic section at an index of a piece. It fails with, in this order:
+/// `NoSection`, `NoData`, `WrongKind`, `OutOfFile`, `Ragged`; then `Memory`, and `NoEntry`.
 ///
 /// Besides C's usual part: the handle holds an object.
 ///
@@ -117,7 +117,7 @@ pub extern "C" fn elfkit_dyn(
     number
 }
 
-/// The two-byte number at an index of a piece. It refuses in this order: `NoSection`, `NoData`,
+/// The two-byte number at an index of a piece. It fails with, in this order: `NoSection`, `NoData`,
 /// `WrongKind`, `OutOfFile`, `Ragged`; then `Memory`, and `NoEntry`.
 ///
 /// Besides C's usual part: the handle holds an object.
@@ -143,8 +143,8 @@ pub extern "C" fn elfkit_half(
     number
 }
 
-/// The four-byte number at an index of a piece. It refuses in this order: `NoSection`, `NoData`,
-/// `WrongKind`, `OutOfFile`, `Ragged`; then `Memory`, and `NoEntry`.
+/// The four-byte number at an index of a piece. It fails with, in this order: `NoSection`,
+/// `NoData`, `WrongKind`, `OutOfFile`, `Ragged`; then `Memory`, and `NoEntry`.
 ///
 /// Besides C's usual part: the handle holds an object.
 ///
@@ -169,7 +169,7 @@ pub extern "C" fn elfkit_word(
     number
 }
 
-/// The address at an index of a piece. It refuses in this order: `NoSection`, `NoData`,
+/// The address at an index of a piece. It fails with, in this order: `NoSection`, `NoData`,
 /// `WrongKind`, `OutOfFile`, `Ragged`; then `Memory`, and `NoEntry`.
 ///
 /// Besides C's usual part: the handle holds an object.

@@ -2,17 +2,17 @@
 
 ghost use Rattle.std.specs.Prelude.{◌≡◌, true, false};
 ghost use Rattle.elf_object.specs.Open.{opened};
-ghost use Rattle.object_handle.specs.Objects.{IsLoanOf};
-ghost use Rattle.elfkit_c.specs.Handles.{Begins, ComesBack};
+ghost use Rattle.c_handles.specs.Objects.Objects.{IsLoanOf};
+ghost use Rattle.elfkit_c.specs.Handles.{BeginsHandle, ComesBack};
 
-use gelf_records::code_of;
-use lent_bytes::Lent;
-use object_handle::{Handle, close_object, open_object};
+use c_handles::lent::Lent;
+use c_handles::objects::{Handle, close_object, open_object};
+use c_records::code_of;
 use std::alloc::Global;
 use std::mem::replace;
 
-/// Opens an object over bytes that C lends: it reads the front, and nothing of a section. The
-/// number is 0, or that of what `Elf::begin` refuses, in its order: `Short`, `Magic`, `Class`,
+/// Opens an object over bytes that C lends: it reads the headers, and nothing of a section. The
+/// number is 0, or that of what `Elf::begin` fails with, in its order: `Short`, `Magic`, `Class`,
 /// `Order`, `Version`, `TooLarge`, `ShTable`, `PhTable`, `TooMany`; or of `Memory`. The bytes come
 /// back with a refusal, and else when the object is closed.
 ///
@@ -25,7 +25,7 @@ use std::mem::replace;
 pub extern "C" fn elfkit_begin(alloc: Global, image: Lent, h: &mut Handle, back: &mut Lent) -> u32
     requires lent { image.lent ≡ true }
     requires empty { h.old.full ≡ false }
-    ensures begins { Begins image (opened image.bytes) result h.new }
+    ensures begins { BeginsHandle image (opened image.bytes) result h.new }
     ensures back { ComesBack image result back.old back.new }
 {
     match open_object(alloc, image) {

@@ -3,16 +3,16 @@
 ghost use Rattle.std.specs.Prelude.{◌≡◌, true, ℕ, List, length};
 ghost use Rattle.elf_object.specs.Strings as strings;
 ghost use Rattle.elf_descriptor.specs.Reads.{wanted};
-ghost use Rattle.gelf_records.specs.Gives.{GivesRead};
+ghost use Rattle.c_records.specs.Gives.{GivesRead};
 ghost use Rattle.elfkit_c.specs.Handles.{Holds};
 
-use c_reading::give_string;
+use c_calls::reading::give_string;
+use c_handles::objects::Handle;
 use elf_types::ScnId;
-use object_handle::Handle;
 use std::alloc::Global;
 
-/// The number of bytes of the string at an offset of a section, without its NUL. It refuses in this
-/// order: `NoSection`, `NotStrings`, `OutOfFile`, `NoString`; then `Memory`, and `Unended`.
+/// The number of bytes of the string at an offset of a section, without its NUL. It fails with, in
+/// this order: `NoSection`, `NotStrings`, `OutOfFile`, `NoString`; then `Memory`, and `Unended`.
 ///
 /// Besides C's usual part: the handle holds an object.
 ///

@@ -1,16 +1,16 @@
 //! Translation between the two byte orders.
 
 ghost use Rattle.elf_xlate.specs.Translation.{decoded};
-ghost use Rattle.c_translation.specs.Numbers.{kind_from, class_from, order_from};
-ghost use Rattle.c_translation.specs.Translations.{Translates};
+ghost use Rattle.c_calls.specs.Translation.Numbers.{kind_from, class_from, order_from};
+ghost use Rattle.c_calls.specs.Translation.Translations.{Translates};
 
-use c_translation::{class_from, kind_from, order_from, translate};
+use c_calls::translation::{class_from, kind_from, order_from, translate};
 use std::alloc::Global;
 
 /// Reads bytes as items of a kind in one byte order, and puts them in their place in another. The
 /// numbers are those of `elfkit_kind`, of `e_ident[EI_CLASS]` and of `e_ident[EI_DATA]`; a kind
 /// that is none of 2 to 8 stands for bytes, a class that is not 1 for class 64, an order that is
-/// not 2 for the least byte first. It refuses `Ragged` where the size of an item does not divide
+/// not 2 for the least byte first. It fails with `Ragged` where the size of an item does not divide
 /// the number of bytes, and `Memory`; the bytes stay then.
 ///
 /// Source: gABI chapter 4, "Data Representation"; gelf_xlatetom and gelf_xlatetof of gelf(3E).

@@ -3,18 +3,18 @@
 ghost use Rattle.std.specs.Prelude.{◌≡◌, true};
 ghost use Rattle.gelf_view.specs.Calls as calls;
 ghost use Rattle.elf_descriptor.specs.Reads.{wanted};
-ghost use Rattle.gelf_records.specs.Forms.{verdef_record, verdaux_record, verneed_record, vernaux_record, note_record};
-ghost use Rattle.gelf_records.specs.Gives.{GivesRead};
+ghost use Rattle.c_records.specs.Forms.{verdef_record, verdaux_record, verneed_record, vernaux_record, note_record};
+ghost use Rattle.c_records.specs.Gives.{GivesRead};
 ghost use Rattle.elfkit_c.specs.Handles.{Holds};
 
-use c_reading::{give_note, give_verdaux, give_verdef, give_vernaux, give_verneed};
+use c_calls::reading::{give_note, give_verdaux, give_verdef, give_vernaux, give_verneed};
+use c_handles::objects::Handle;
+use c_records::{NoteRecord, VerdauxRecord, VerdefRecord, VernauxRecord, VerneedRecord};
 use elf_types::DataId;
-use gelf_records::{NoteRecord, VerdauxRecord, VerdefRecord, VernauxRecord, VerneedRecord};
-use object_handle::Handle;
 use std::alloc::Global;
 
-/// The version definition at a place of a piece. It refuses in this order: `NoSection`, `NoData`,
-/// `WrongKind`, `OutOfFile`; then `Memory`, and `BadChain`.
+/// The version definition at a place of a piece. It fails with, in this order: `NoSection`,
+/// `NoData`, `WrongKind`, `OutOfFile`; then `Memory`, and `BadChain`.
 ///
 /// Besides C's usual part: the handle holds an object.
 ///
@@ -39,8 +39,8 @@ pub extern "C" fn elfkit_verdef(
     number
 }
 
-/// The name of a version definition at a place of a piece. It refuses in this order: `NoSection`,
-/// `NoData`, `WrongKind`, `OutOfFile`; then `Memory`, and `BadChain`.
+/// The name of a version definition at a place of a piece. It fails with, in this order:
+/// `NoSection`, `NoData`, `WrongKind`, `OutOfFile`; then `Memory`, and `BadChain`.
 ///
 /// Besides C's usual part: the handle holds an object.
 ///
@@ -66,8 +66,8 @@ pub extern "C" fn elfkit_verdaux(
     number
 }
 
-/// The needs of one file at a place of a piece. It refuses in this order: `NoSection`, `NoData`,
-/// `WrongKind`, `OutOfFile`; then `Memory`, and `BadChain`.
+/// The needs of one file at a place of a piece. It fails with, in this order: `NoSection`,
+/// `NoData`, `WrongKind`, `OutOfFile`; then `Memory`, and `BadChain`.
 ///
 /// Besides C's usual part: the handle holds an object.
 ///
@@ -93,7 +93,7 @@ pub extern "C" fn elfkit_verneed(
     number
 }
 
-/// The needed version at a place of a piece. It refuses in this order: `NoSection`, `NoData`,
+/// The needed version at a place of a piece. It fails with, in this order: `NoSection`, `NoData`,
 /// `WrongKind`, `OutOfFile`; then `Memory`, and `BadChain`.
 ///
 /// Besides C's usual part: the handle holds an object.
@@ -120,7 +120,7 @@ pub extern "C" fn elfkit_vernaux(
     number
 }
 
-/// The note at a place of a piece. It refuses in this order: `NoSection`, `NoData`,
+/// The note at a place of a piece. It fails with, in this order: `NoSection`, `NoData`,
 /// `WrongKind`, `OutOfFile`; then `Memory`, and `BadChain`.
 ///
 /// Besides C's usual part: the handle holds an object.

@@ -20,8 +20,8 @@ use Rattle.elfkit_words.specs.declared.usages.Usage.{Usage}
 use Rattle.elfkit_words.specs.declared.notices.Notice.{Notice}
 use Rattle.elfkit_words.specs.declared.commands.Request.{Request}
 use Rattle.elfkit_words.specs.declared.commands.Request.TheVariants.{Run, Tell}
-use Rattle.elfkit_words.specs.Reading.{reading}
-use Rattle.elfkit_run.specs.Sentences.{line_of, says}
+use Rattle.elfkit_words.specs.Reading.{request_of_words}
+use Rattle.elfkit_run.specs.Sentences.{text_line_of, says}
 use Rattle.elfkit_run.specs.Program.{usage_outcome, notice_outcome, request_outcome, outcome_by, program, IsStatusOf}
 
 -- the usage line of words that are refused
@@ -30,14 +30,14 @@ bad_words (Ok said_so) = Ok BadWords
 bad_words (Err stop) = Err stop
 
 module _ {F D O E T : Type 0} (f : FilesGhosts F D) (o : SinkGhosts O) (e : SinkGhosts E) (usage : Usage) (named : Map) (a : F) (s t : Outputs O E) where
-  does_usage : (result : Result T Stop) → Writes o e result s t (said Error (line_of (usage_line usage)))
+  does_usage : (result : Result T Stop) → Writes o e result s t (said Error (text_line_of (usage_line usage)))
       → Does f o e status_code (usage_outcome usage) (bad_words result) a a s t
   unfolding usage_outcome says
   does_usage (Ok said_so) h = says_done f o e a a s t status_code _ 2 (Ok BadWords) (writes_went o e BadWords s t _ h.ok) refl
   does_usage (Err stop) h = says_done f o e a a s t status_code _ 2 (Err stop) (stops_as o e stop s t _ h) tt
 
-  pub usage_done : (words : List (List ℕ)) (text : List ℕ) (result : Result T Stop) → reading words ≡ Err usage → text ≡ usage_line usage
-      → Writes o e result s t (said Error (line_of text)) → Does f o e status_code (program words named) (bad_words result) a a s t
+  pub usage_done : (words : List (List ℕ)) (text : List ℕ) (result : Result T Stop) → request_of_words words ≡ Err usage → text ≡ usage_line usage
+      → Writes o e result s t (said Error (text_line_of text)) → Does f o e status_code (program words named) (bad_words result) a a s t
   unfolding program outcome_by
   usage_done words text result is line h = rw is (does_usage result (rw line at h))
 

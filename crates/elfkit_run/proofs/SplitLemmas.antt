@@ -6,18 +6,18 @@ use Rattle.elf_types.specs.declared.errors.ElfError.{ElfError}
 use Rattle.elf_types.specs.Answers.{answered, ◌>>=◌}
 use Rattle.elf_outside.specs.Names.{Map}
 use Rattle.elf_object.specs.Object.{Object}
-use Rattle.command_objects.specs.Removed.{removed_sections}
-use Rattle.command_objects.specs.Rebuilt.{rebuilt}
-use Rattle.command_objects.specs.Split.{debug_of}
-use Rattle.command_objects.specs.Files.{file_of}
-use Rattle.selftest_tool.specs.command_outcomes.declared.options.StripOptions.{StripOptions}
+use Rattle.rebuild_model.specs.Removed.{removed_sections}
+use Rattle.rebuild_model.specs.Rebuilt.{rebuilt}
+use Rattle.rebuild_model.specs.Split.{debug_of}
+use Rattle.rebuild_model.specs.Files.{file_of}
+use Rattle.selftest_tool.specs.elfkit_outcomes.declared.options.StripOptions.{StripOptions}
 use Rattle.tool_output.specs.Outcomes.{write_of}
 use Rattle.tool_output.specs.Made.{Done, Complaint, made_file, of_file, written_outcome}
-use Rattle.selftest_tool.specs.command_outcomes.Files.{object_named}
-use Rattle.selftest_tool.specs.command_outcomes.Strip.{allocated_complaint, strip_alone, strip_split, strip_done, strip_outcome}
-use Rattle.selftest_tool.proofs.object_files.ChangeSteps.{other_write}
-use Rattle.strip_tool.specs.object_writing.Writes.{image_done, named_done}
-use Rattle.strip_tool.proofs.object_writing.NamedLemmas.{unwritten_image}
+use Rattle.selftest_tool.specs.elfkit_outcomes.Files.{object_named}
+use Rattle.selftest_tool.specs.elfkit_outcomes.Strip.{allocated_complaint, strip_alone, strip_split, strip_done, strip_outcome}
+use Rattle.selftest_tool.proofs.tool_files.ChangeSteps.{other_write}
+use Rattle.strip_tool.specs.tool_files.ElfImages.Writes.{image_done, named_done}
+use Rattle.strip_tool.proofs.tool_files.elf_images.NamedLemmas.{unwritten_image}
 
 module _ (out debug file : List ℕ) (first : out ≢ file) (second : debug ≢ file) where
   abbrev IsUnwritten : Result Done Complaint → Type 0

@@ -4,16 +4,16 @@ use Rattle.elf_types.specs.declared.errors.ElfError.{ElfError}
 use Rattle.elf_types.specs.Answers.{◌>>=◌}
 use Rattle.elf_outside.specs.Names.{Map}
 use Rattle.elf_object.specs.Object.{Object}
-use Rattle.command_objects.specs.Removed.{removed_sections}
-use Rattle.command_objects.specs.Rebuilt.{rebuilt}
-use Rattle.command_objects.specs.Files.{file_of}
-use Rattle.selftest_tool.specs.command_outcomes.declared.options.StripOptions.{StripOptions}
+use Rattle.rebuild_model.specs.Removed.{removed_sections}
+use Rattle.rebuild_model.specs.Rebuilt.{rebuilt}
+use Rattle.rebuild_model.specs.Files.{file_of}
+use Rattle.selftest_tool.specs.elfkit_outcomes.declared.options.StripOptions.{StripOptions}
 use Rattle.tool_output.specs.Outcomes.{write_of}
 use Rattle.tool_output.specs.Made.{of_file, written_outcome}
-use Rattle.selftest_tool.specs.command_outcomes.Files.{object_named}
-use Rattle.selftest_tool.specs.command_outcomes.Strip.{strip_alone, strip_split, strip_done, strip_outcome}
-use Rattle.strip_tool.specs.object_writing.Writes.{image_done, named_done}
-use Rattle.strip_tool.proofs.object_writing.NamedLemmas.{unwritten, unwritten_image}
+use Rattle.selftest_tool.specs.elfkit_outcomes.Files.{object_named}
+use Rattle.selftest_tool.specs.elfkit_outcomes.Strip.{strip_alone, strip_split, strip_done, strip_outcome}
+use Rattle.strip_tool.specs.tool_files.ElfImages.Writes.{image_done, named_done}
+use Rattle.strip_tool.proofs.tool_files.elf_images.NamedLemmas.{unwritten, unwritten_image}
 
 pub strip_unwritten : (debug_only : Bool) (names : List (List ℕ)) (out file : List ℕ)
     → out ≢ file → (r : Result Object ElfError)

@@ -15,18 +15,18 @@ use Rattle.elfkit_words.specs.declared.commands.Command.{Command}
 use Rattle.elfkit_words.specs.declared.commands.Command.TheVariants.{Readelf, Nm, Size, Strings, Strip, Elflint, Calls, Selftest, Rehash, Copy, Unstrip, Lines}
 use Rattle.elfkit_words.specs.Usages.{usage_line}
 use Rattle.elfkit_words.specs.Notices.{notice_text}
-use Rattle.elfkit_words.specs.Reading.{reading}
-use Rattle.selftest_tool.specs.command_outcomes.Selftest.{selftest_outcome}
-use Rattle.selftest_tool.specs.command_outcomes.Strip.{strip_outcome, unstrip_outcome}
-use Rattle.selftest_tool.specs.command_outcomes.Copy.{copy_outcome, rehash_outcome}
+use Rattle.elfkit_words.specs.Reading.{request_of_words}
+use Rattle.selftest_tool.specs.elfkit_outcomes.Selftest.{selftest_outcome}
+use Rattle.selftest_tool.specs.elfkit_outcomes.Strip.{strip_outcome, unstrip_outcome}
+use Rattle.selftest_tool.specs.elfkit_outcomes.Copy.{copy_outcome, rehash_outcome}
 use Rattle.elfkit_run.specs.Sentences.{says}
-use Rattle.edit_commands.specs.Calls.{calls_outcome, calls_update_outcome}
-use Rattle.edit_commands.specs.read_commands.Readelf.{readelf_outcome}
-use Rattle.edit_commands.specs.read_commands.Lines.{lines_outcome}
-use Rattle.edit_commands.specs.read_commands.Elflint.{elflint_outcome}
-use Rattle.edit_commands.specs.read_commands.Nm.{nm_outcome}
-use Rattle.edit_commands.specs.read_commands.Size.{size_outcome}
-use Rattle.edit_commands.specs.read_commands.Strings.{strings_outcome}
+use Rattle.elfkit_edit.specs.Calls.{calls_outcome, calls_update_outcome}
+use Rattle.elfkit_edit.specs.elfkit_read.Readelf.{readelf_outcome}
+use Rattle.elfkit_edit.specs.elfkit_read.Lines.{lines_outcome}
+use Rattle.elfkit_edit.specs.elfkit_read.Elflint.{elflint_outcome}
+use Rattle.elfkit_edit.specs.elfkit_read.Nm.{nm_outcome}
+use Rattle.elfkit_edit.specs.elfkit_read.Size.{size_outcome}
+use Rattle.elfkit_edit.specs.elfkit_read.Strings.{strings_outcome}
 
 unfoldable pub command_outcome : Command → Map → Outcome
 command_outcome (Readelf parts files) named = readelf_outcome parts files named
@@ -63,7 +63,7 @@ outcome_by (Err usage) named = usage_outcome usage
 
 -- the program
 unfoldable pub program : List (List ℕ) → Map → Outcome
-program words named = outcome_by (reading words) named
+program words named = outcome_by (request_of_words words) named
 
 -- ---- Words that make a run open files
 
@@ -107,7 +107,7 @@ hands_to_writes (Err usage) = false
 
 -- the files are told, where the words make a run open any
 abbrev pub AreTold : List (List ℕ) → Bool → Type 0
-AreTold words tells = IsTrue (opens_files (reading words)) → IsTrue tells
+AreTold words tells = IsTrue (opens_files (request_of_words words)) → IsTrue tells
 
 -- ---- The statuses of a run that comes to its end
 

@@ -1,10 +1,10 @@
-//! The commands by their words, and those that make an image anew, one file each.
+//! The commands by their arguments, and those that rebuild an image, one file each.
 
 ghost use Rattle.std.specs.Prelude.{◌≡◌, false, IsTrue};
 ghost use Rattle.tool_output.specs.Files.{LeavesFiles};
 ghost use Rattle.tool_output.specs.Statuses.{refused_status};
 ghost use Rattle.tool_output.specs.Outcomes.{Does};
-ghost use Rattle.edit_commands.specs.calls_update.Outputs.{IsOutputApart};
+ghost use Rattle.elfkit_edit.specs.calls_tool.Update.Outputs.{IsOutputApart};
 ghost use Rattle.elfkit_words.specs.Forms.{IsWellFormed};
 ghost use Rattle.elfkit_run.specs.Program.{command_outcome, writes_files};
 
@@ -15,12 +15,9 @@ pub mod strip;
 pub mod unstrip;
 
 use copy::copy;
-use edit_commands::prelude::{
-    read_commands_elflint as elflint, read_commands_lines as lines, read_commands_nm as nm,
-    read_commands_readelf as readelf, read_commands_size as size, read_commands_strings as strings,
-};
-use edit_commands::{calls, calls_into, rehash};
 use elf_outside::{Files, Sink};
+use elfkit_edit::prelude::{run_elflint, run_lines, run_nm, run_readelf, run_size, run_strings};
+use elfkit_edit::{calls, calls_into, run_rehash};
 use elfkit_words::Command;
 use elfkit_words::prelude::CallsOutput;
 use selftest::selftest;
@@ -28,7 +25,7 @@ use split::strip_by_debug;
 use std::alloc::Global;
 use tool_output::{Outputs, Stop};
 use tool_text::Text;
-use unstrip::unstrip;
+use unstrip::run_unstrip;
 
 /// Runs calls, and writes the image that they leave where it is to go.
 fn calls_by_output<F: Files, O: Sink, E: Sink>(
@@ -75,31 +72,31 @@ pub fn run_command<F: Files, O: Sink, E: Sink>(
         Command::Readelf {
             parts,
             files: names,
-        } => readelf(alloc, parts, names, files, outputs),
+        } => run_readelf(alloc, parts, names, files, outputs),
         Command::Nm {
             options,
             files: names,
-        } => nm(alloc, options, names, files, outputs),
-        Command::Size { files: names } => size(alloc, names, files, outputs),
+        } => run_nm(alloc, options, names, files, outputs),
+        Command::Size { files: names } => run_size(alloc, names, files, outputs),
         Command::Strings {
             options,
             files: names,
-        } => strings(alloc, options, names, files, outputs),
+        } => run_strings(alloc, options, names, files, outputs),
         Command::Strip { options, file } => strip_by_debug(alloc, options, file, files, outputs),
-        Command::Elflint { files: names } => elflint(alloc, names, files, outputs),
+        Command::Elflint { files: names } => run_elflint(alloc, names, files, outputs),
         Command::Calls {
             output,
             file,
             script,
         } => calls_by_output(alloc, output, file, script, files, outputs),
         Command::Selftest { out, count } => selftest(alloc, out, *count, files, outputs),
-        Command::Rehash { out, file } => rehash(alloc, out, file, files, outputs),
+        Command::Rehash { out, file } => run_rehash(alloc, out, file, files, outputs),
         Command::Copy { changes, out, file } => copy(alloc, changes, out, file, files, outputs),
         Command::Unstrip {
             out,
             stripped,
             debug,
-        } => unstrip(alloc, out, stripped, debug, files, outputs),
-        Command::Lines { files: names } => lines(alloc, names, files, outputs),
+        } => run_unstrip(alloc, out, stripped, debug, files, outputs),
+        Command::Lines { files: names } => run_lines(alloc, names, files, outputs),
     }
 }

@@ -1,5 +1,5 @@
-//! A run of elfkit: from the words of the command line, over a set of files and the two outputs, to
-//! a status.
+//! A run of elfkit: from the arguments of the command line, over a set of files and the two
+//! outputs, to a status.
 #![tactic(auto)]
 
 mod commands;
@@ -8,3 +8,4 @@ mod program;
 mod sentences;
 
 pub use program::run;
+pub use tool_output::Status;

@@ -1,8 +1,8 @@
-//! The program, from its words to its status.
+//! The program, from its arguments to its status.
 
 ghost use Rattle.std.specs.Prelude.{false, ◌≡◌, IfOk, IsErr, IsTrue};
 ghost use Rattle.elfkit_words.specs.Forms.{IsGoodRequest};
-ghost use Rattle.elfkit_words.specs.Reading.{reading};
+ghost use Rattle.elfkit_words.specs.Reading.{request_of_words};
 ghost use Rattle.tool_output.specs.Outcomes.{Does, Delivers, Costs, RunLeaves};
 ghost use Rattle.tool_output.specs.Statuses.{status_code};
 ghost use Rattle.tool_output.specs.Steps.{OnRead};
@@ -18,7 +18,7 @@ use std::alloc::Global;
 use tool_output::{Outputs, Status, Stop};
 use tool_text::Args;
 
-/// Runs the command that the words ask for, or tells what they ask for.
+/// Runs the command that the arguments ask for, or tells what they ask for.
 #[tactic(auto, unfolding(crate::specs::Program::needs_files, crate::specs::Program::needs_writes))]
 fn run_request<F: Files, O: Sink, E: Sink>(
     alloc: Global,
@@ -50,7 +50,7 @@ fn run_request<F: Files, O: Sink, E: Sink>(
     }
 }
 
-/// Reads the words and does what they ask for, or says how they are to be.
+/// Reads the arguments and does what they ask for, or says how they are to be.
 fn run_words<F: Files, O: Sink, E: Sink>(
     alloc: Global,
     words: &Args,
@@ -60,10 +60,10 @@ fn run_words<F: Files, O: Sink, E: Sink>(
     ensures does { AreTold words.now (F.tells files.old) →
         Does F.Files O.Sink E.Sink status_code (program words.now (F.named files.old))
         result files.old files.new outputs.old outputs.new }
-    ensures status { IfOk result (IsStatusOf (reading words.now)) }
-    ensures untouched { opens_files (reading words.now) ≡ false →
+    ensures status { IfOk result (IsStatusOf (request_of_words words.now)) }
+    ensures untouched { opens_files (request_of_words words.now) ≡ false →
         (files.new ≡ files.old) × OnRead result ⊥ }
-    ensures given { hands_to_writes (reading words.now) ≡ false →
+    ensures given { hands_to_writes (request_of_words words.now) ≡ false →
         F.given files.new ≡ F.given files.old }
     ensures leaves { LeavesFiles F.Files O.Sink E.Sink
         result files.old files.new outputs.old outputs.new }
@@ -78,17 +78,17 @@ fn run_words<F: Files, O: Sink, E: Sink>(
     }
 }
 
-/// Runs elfkit on the words after the program's name, over a set of files and the two outputs:
+/// Runs elfkit on the arguments after the program's name, over a set of files and the two outputs:
 ///
-/// - `Done`: nothing was refused;
-/// - `Refused`: something was refused;
-/// - `BadWords`: the words are refused, with their usage line on `err`;
+/// - `Done`: nothing was rejected;
+/// - `Refused`: something was rejected;
+/// - `BadWords`: the arguments are rejected, with their usage line on `err`;
 /// - `ReadFailed`, `WriteFailed`, `NoMemory`: a read failed; a write of a file, of `out` or of
 ///   `err` failed; there was no memory.
 ///
 /// With the last three the run stopped on the way: both outputs have gained what was written up to
 /// one point, and nothing after it. Each file that was opened is closed again. Words that are
-/// refused, or that ask for help or for the version, open no file. A command that writes no file
+/// rejected, or that ask for help or for the version, open no file. A command that writes no file
 /// hands nothing to writes, also over files that do not tell their bytes.
 pub fn run<F: Files, O: Sink, E: Sink>(
     alloc: Global,
@@ -104,10 +104,10 @@ pub fn run<F: Files, O: Sink, E: Sink>(
     ensures costs { AreTold words.now (F.tells files.old) →
         Costs (program words.now (F.named files.old)) (status_code result)
         (F.taken files.old) (F.taken files.new) (F.given files.old) (F.given files.new) }
-    ensures given { hands_to_writes (reading words.now) ≡ false →
+    ensures given { hands_to_writes (request_of_words words.now) ≡ false →
         F.given files.new ≡ F.given files.old }
-    ensures used { result ≡ Status.BadWords → IsErr (reading words.now) }
-    ensures untouched { opens_files (reading words.now) ≡ false →
+    ensures used { result ≡ Status.BadWords → IsErr (request_of_words words.now) }
+    ensures untouched { opens_files (request_of_words words.now) ≡ false →
         (files.new ≡ files.old) × ¬ (result ≡ Status.ReadFailed) }
     ensures leaves { RunLeaves F.Files O.Sink E.Sink (status_code result)
         files.old files.new out.old out.new err.old err.new }

@@ -3,7 +3,7 @@
 ghost use Rattle.std.specs.Prelude.{◌≡◌, ◌++◌};
 ghost use Rattle.tool_output.specs.Marks.{said};
 ghost use Rattle.tool_output.specs.Steps.{Writes, LeavesOutputs};
-ghost use Rattle.elfkit_run.specs.Sentences.{line_of};
+ghost use Rattle.elfkit_run.specs.Sentences.{text_line_of};
 
 use elf_outside::Sink;
 use elf_types::{ElfError, Octets, put_text};
@@ -17,9 +17,9 @@ pub struct Sentence<'a> {
 }
 
 impl Line for Sentence<'_> {
-    ghost text = { λ s. line_of s.text.now };
+    ghost text = { λ s. text_line_of s.text.now };
 
-    #[tactic(auto, using(elf_types::proofs::Writers::kept), unfolding(crate::specs::Sentences::line_of))]
+    #[tactic(auto, using(elf_types::proofs::Writers::kept), unfolding(crate::specs::Sentences::text_line_of))]
     fn put(&self, page: &mut Octets) -> Result<(), ElfError> {
         put_text(page, self.text)?;
         put_text(page, "\n")
@@ -54,7 +54,7 @@ pub fn tell<O: Sink, E: Sink>(outputs: &mut Outputs<'_, O, E>, text: &str) -> Re
 /// Says a sentence on standard error.
 pub fn say<O: Sink, E: Sink>(outputs: &mut Outputs<'_, O, E>, text: &str) -> Result<(), Stop>
     ensures writes { Writes O.Sink E.Sink result outputs.old outputs.new
-        (said Side.Error (line_of text.now)) }
+        (said Side.Error (text_line_of text.now)) }
     ensures leaves { LeavesOutputs O.Sink E.Sink ⊥ result outputs.old outputs.new }
 {
     outputs.put(Side::Error, &Sentence { text })

@@ -15,12 +15,12 @@ use Rattle.elfkit_words.specs.declared.commands.Request.TheVariants.{Run, Tell}
 use Rattle.elfkit_words.specs.declared.notices.Notice.TheVariants.{Help}
 use Rattle.elfkit_words.specs.Splitting.{split_of}
 use Rattle.elfkit_words.specs.Numbers.{word_number_of, script_number_of}
-use Rattle.elfkit_words.specs.Reading.{one_or_more, option_arguments, has_option, radix_of, split_at_equals, readelf_command, nm_command, size_command, strings_command, strip_command, elflint_command, calls_command, output_of, selftest_command, rehash_command, copy_command, changes_of, unstrip_command, lines_command, of_split, request_of, all_values, all_differ, least_of, number_within, name_of, named_file_of, renaming_of, named_bits_of, is_file_of}
+use Rattle.elfkit_words.specs.Reading.{one_or_more, option_arguments, has_option, radix_of, split_at_equals, readelf_command, nm_command, size_command, strings_command, strip_command, elflint_command, calls_command, output_of, selftest_command, rehash_command, copy_command, changes_of, unstrip_command, lines_command, of_split, request_of, all_values, all_differ, least_run_length, number_within, name_of, named_file_of, renaming_of, named_bits_of, is_file_of}
 use Rattle.tool_text.specs.Arguments.{only_one, only_two, last}
-use Rattle.copy_changes.specs.Names.{is_section_name}
+use Rattle.rebuild_changes.specs.Names.{is_section_name}
 use Rattle.elfkit_words.specs.Forms.{IsGoodRequest, IsWellFormed, ThreeDiffer}
-use Rattle.copy_changes.specs.Names.{HasNames}
-use Rattle.calls_update.specs.Outputs.{IsOutputApart}
+use Rattle.rebuild_changes.specs.Names.{HasNames}
+use Rattle.calls_tool.specs.Update.Outputs.{IsOutputApart}
 
 -- Q holds of the value, if there is one
 record Yields {A : Type 0} (Q : A → Type 0) (o : Option A) : Type 0 where
@@ -73,15 +73,15 @@ within_parts : (low high n : ℕ) → within low high n ≡ true → (low ≤ n)
 unfolding within
 within_parts low high n t = let p = and_parts _ _ t in (leb-true _ _ p.0, leb-true _ _ p.1)
 
-least_all : (w : List ℕ) → Yields (λ n. within 1 4096 n ≡ true) (least_of w)
-unfolding least_of
+least_all : (w : List ℕ) → Yields (λ n. within 1 4096 n ≡ true) (least_run_length w)
+unfolding least_run_length
 least_all w = number_all 1 4096 w
 
 strings_form : (split : Split) → Yields IsWellFormed (strings_command split)
 unfolding strings_command last within
 strings_form split =
-    bind_all (one_or_more split.operands) (λ files _. bind_all (all_values least_of (option_arguments (byte "n") split.options)) (λ lengths lengths_are. bind_all (all_values radix_of (option_arguments (byte "t") split.options)) (λ radixes _.
-    some_all (within_parts 1 4096 _ (last_all (within 1 4096) None 4 lengths refl (at_some lengths_are (values_all least_of (within 1 4096) least_all _)))))))
+    bind_all (one_or_more split.operands) (λ files _. bind_all (all_values least_run_length (option_arguments (byte "n") split.options)) (λ lengths lengths_are. bind_all (all_values radix_of (option_arguments (byte "t") split.options)) (λ radixes _.
+    some_all (within_parts 1 4096 _ (last_all (within 1 4096) None 4 lengths refl (at_some lengths_are (values_all least_run_length (within 1 4096) least_all _)))))))
 
 -- two and three words that differ
 two_differ : (v w : List ℕ) → all_differ (v ∷ w ∷ []) ≡ true → v ≢ w

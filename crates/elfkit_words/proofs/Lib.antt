@@ -1,8 +1,8 @@
-pub mod Folds
+mod Folds
 pub mod FormsHold
-pub mod Groups
-pub mod Letters
-pub mod Numerals
-pub mod OneSplit
-pub mod OptionRules
-pub mod Splits
+mod Groups
+mod Letters
+mod Numerals
+mod OneSplit
+mod OptionRules
+mod Splits

@@ -5,7 +5,7 @@ use Rattle.std.proofs.lemmas.List.{append-nil}
 use Rattle.elfkit_words.specs.declared.usages.Usage.{Usage}
 use Rattle.elfkit_words.specs.declared.splitting.CommandOption.{CommandOption}
 use Rattle.elfkit_words.specs.declared.splitting.Split.{Split}
-use Rattle.elfkit_words.specs.Splitting.{Group, option_with, group_of, group_after, split_of, split_after, is_option_word, AddsGroup, Reads}
+use Rattle.elfkit_words.specs.Splitting.{Group, option_with, group_of, group_after, split_of, split_after, is_option_word, AddsGroup, FollowsWords}
 use Rattle.elfkit_words.specs.declared.faults.Fault.{Fault}
 use Rattle.elfkit_words.specs.declared.faults.Fault.TheVariants.{Memory, Words}
 
@@ -96,6 +96,6 @@ option_argument_taken usage options new letter option_argument words whole so_fa
     ∙ so_far
 
 -- a refused option word refuses the words
-pub group_fault : {X : Type 0} (usage : Usage) (group : List ℕ) (old new : List CommandOption) (fault : Fault) (stated : Option X) → AddsGroup usage group old new (Err fault) → (group_of usage group ≡ None → stated ≡ None) → Reads (Err fault) stated
+pub group_fault : {X : Type 0} (usage : Usage) (group : List ℕ) (old new : List CommandOption) (fault : Fault) (stated : Option X) → AddsGroup usage group old new (Err fault) → (group_of usage group ≡ None → stated ≡ None) → FollowsWords (Err fault) stated
 group_fault usage group old new Words stated h none = none h
 group_fault usage group old new Memory stated h none = tt

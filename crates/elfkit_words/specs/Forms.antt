@@ -2,9 +2,9 @@
 use Rattle.std.specs.Prelude.{◌≡◌, ◌≢◌, ◌≤◌, List, ℕ, false, IfSome}
 use Rattle.elfkit_words.specs.declared.commands.Command.{Command}
 use Rattle.elfkit_words.specs.declared.commands.Command.TheVariants.{Readelf, Nm, Size, Strings, Strip, Elflint, Calls, Selftest, Rehash, Copy, Unstrip, Lines}
-use Rattle.calls_update.specs.Outputs.{IsOutputApart}
-use Rattle.copy_changes.specs.declared.options.CopyChanges.{CopyChanges}
-use Rattle.copy_changes.specs.Names.{HasNames}
+use Rattle.calls_tool.specs.Update.Outputs.{IsOutputApart}
+use Rattle.rebuild_changes.specs.declared.options.CopyChanges.{CopyChanges}
+use Rattle.rebuild_changes.specs.Names.{HasNames}
 use Rattle.elfkit_words.specs.declared.commands.Request.{Request}
 use Rattle.elfkit_words.specs.declared.commands.Request.TheVariants.{Run, Tell}
 use Rattle.elfkit_words.specs.Reading.{is_file_of}

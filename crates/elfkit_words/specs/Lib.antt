@@ -1,4 +1,4 @@
-pub use Rattle.copy_changes.specs as copy_changes
+pub use Rattle.rebuild_changes.specs as rebuild_changes
 pub mod Forms
 pub mod Notices
 pub mod Numbers

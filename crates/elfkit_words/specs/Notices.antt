@@ -32,36 +32,36 @@ letters_told Readelf =
     (codes "-r", codes "relocations") ∷
     (codes "-d", codes "the dynamic section") ∷
     (codes "-n", codes "notes") ∷
-    (codes "-V", codes "version sections") ∷ []
+    (codes "-V", codes "symbol versions") ∷ []
 letters_told Nm =
-    (codes "-A", codes "the file before each symbol") ∷
-    (codes "-g", codes "no local symbols") ∷
-    (codes "-u", codes "undefined symbols alone") ∷
-    (codes "-v", codes "by value, and not by name") ∷
-    (codes "-P", codes "name, letter, value and size") ∷
-    (codes "-t d|o|x", codes "values in decimal, octal or hexadecimal") ∷ []
+    (codes "-A", codes "write the file name before each symbol") ∷
+    (codes "-g", codes "leave out local symbols") ∷
+    (codes "-u", codes "list only undefined symbols") ∷
+    (codes "-v", codes "sort by value, not by name") ∷
+    (codes "-P", codes "portable form: name, letter, value and size") ∷
+    (codes "-t d|o|x", codes "radix of values: decimal, octal or hexadecimal (default)") ∷ []
 letters_told Strings =
-    (codes "-a", codes "the whole file") ∷
-    (codes "-n N", codes "runs of at least N bytes, 1 to 4096; 4 without it") ∷
-    (codes "-t d|o|x", codes "the place of each run") ∷ []
+    (codes "-a", codes "search the whole file, not only its allocated sections") ∷
+    (codes "-n N", codes "write runs of at least N bytes, 1 to 4096, by default 4") ∷
+    (codes "-t d|o|x", codes "write the offset of each run: decimal, octal or hexadecimal") ∷ []
 letters_told Strip =
-    (codes "-g", codes "debug sections alone") ∷
-    (codes "-R NAME", codes "also the sections of this name") ∷
-    (codes "-f DEBUG", codes "all that is removed goes into this file") ∷
-    (codes "-o OUT", codes "the file that is written") ∷ []
+    (codes "-g", codes "remove debug sections only, keep symbols") ∷
+    (codes "-R NAME", codes "also remove the sections of this name") ∷
+    (codes "-f DEBUG", codes "write a second file, for a debugger, with what is removed") ∷
+    (codes "-o OUT", codes "the file to write") ∷ []
 letters_told Calls =
-    (codes "-o OUT", codes "the changed image goes into this file") ∷
-    (codes "-i", codes "FILE is changed in place") ∷ []
-letters_told Selftest = (codes "-o OUT", codes "the file that is written") ∷ []
-letters_told Rehash = (codes "-o OUT", codes "the file that is written") ∷ []
+    (codes "-o OUT", codes "write the changed image to this new file") ∷
+    (codes "-i", codes "change FILE in place") ∷ []
+letters_told Selftest = (codes "-o OUT", codes "the file to write") ∷ []
+letters_told Rehash = (codes "-o OUT", codes "the file to write") ∷ []
 letters_told Copy =
-    (codes "-R NAME", codes "the sections of this name are removed") ∷
-    (codes "-u NAME=FILE", codes "a section gets the bytes of a file") ∷
-    (codes "-n OLD=NEW", codes "a section gets another name") ∷
-    (codes "-f NAME=BITS", codes "a section gets other flags") ∷
-    (codes "-a NAME=FILE", codes "a section with the bytes of a file is added") ∷
-    (codes "-o OUT", codes "the file that is written") ∷ []
-letters_told Unstrip = (codes "-o OUT", codes "the file that is written") ∷ []
+    (codes "-R NAME", codes "remove the sections of this name") ∷
+    (codes "-u NAME=FILE", codes "replace the bytes of a section by those of a file") ∷
+    (codes "-n OLD=NEW", codes "rename a section") ∷
+    (codes "-f NAME=BITS", codes "set the flags of a section to a number") ∷
+    (codes "-a NAME=FILE", codes "add a section with the bytes of a file") ∷
+    (codes "-o OUT", codes "the file to write") ∷ []
+letters_told Unstrip = (codes "-o OUT", codes "the file to write") ∷ []
 letters_told _ = []
 
 -- the usage line of a command, and a line for each of its letters
@@ -77,19 +77,19 @@ next_usage usage = replicate 7 (byte " ") ++ drop 7 (usage_line usage) ++ codes 
 unfoldable pub commands_told : List (List ℕ × List ℕ)
 commands_told = (
   codes "readelf",
-  codes "headers, segments, sections, symbols, relocations, notes and versions",
+  codes "show headers, symbols, relocations, dynamic section, notes, versions",
 ) ∷
-    (codes "nm", codes "symbols and their values") ∷
-    (codes "size", codes "the sizes of text, data and bss") ∷
-    (codes "strings", codes "printable runs of bytes") ∷
-    (codes "strip", codes "a copy without symbols and debug sections") ∷
-    (codes "elflint", codes "faults of form, by 32 rules") ∷
-    (codes "calls", codes "a script of library calls on a file") ∷
-    (codes "selftest", codes "an image made, changed, written and read again") ∷
-    (codes "rehash", codes "a copy whose hash sections are built anew") ∷
-    (codes "copy", codes "a copy with sections removed, replaced, renamed and added") ∷
-    (codes "unstrip", codes "a stripped file and its debug file, joined") ∷
-    (codes "lines", codes "line tables of DWARF 2 to 4") ∷ []
+    (codes "nm", codes "list symbols with their values") ∷
+    (codes "size", codes "sum the sizes of text, data and bss") ∷
+    (codes "strings", codes "list runs of printable bytes") ∷
+    (codes "strip", codes "copy without debug data and symbols") ∷
+    (codes "elflint", codes "check files by 32 rules") ∷
+    (codes "calls", codes "run a script of library calls on a file") ∷
+    (codes "selftest", codes "make, change, write and reread an image") ∷
+    (codes "rehash", codes "copy with the hash sections of dynamic symbols rebuilt") ∷
+    (codes "copy", codes "copy with sections removed, replaced, renamed or added") ∷
+    (codes "unstrip", codes "join the two files that strip -f makes") ∷
+    (codes "lines", codes "show line tables of DWARF 2 to 4") ∷ []
 
 -- those after the first, in the same order
 unfoldable pub other_commands : List Usage
@@ -99,7 +99,7 @@ other_commands =
 -- what elfkit is, how it is called, and a line for each command
 unfoldable pub general_help : List ℕ
 general_help =
-    codes "elfkit reads ELF object files, checks them, changes them and writes them.\n\n"
+    codes "elfkit shows, checks and changes ELF object files.\n\n"
     ++ usage_line Readelf ++ codes "\n"
     ++ flat_map next_usage other_commands
     ++ codes "       elfkit COMMAND --help\n       elfkit --version\n\n"

@@ -12,12 +12,12 @@ use Rattle.tool_text.specs.declared.radixes.Radix.TheVariants.{Decimal, Octal, H
 use Rattle.readelf_tool.specs.declared.options.ReadelfParts.{ReadelfParts}
 use Rattle.elfkit_words.specs.declared.commands.Command.{Command}
 use Rattle.elfkit_words.specs.declared.commands.Command.TheVariants as command
-use Rattle.calls_update.specs.declared.outputs.CallsOutput.{CallsOutput}
-use Rattle.calls_update.specs.declared.outputs.CallsOutput.TheVariants.{To, InPlace}
-use Rattle.copy_changes.specs.declared.options.NamedFile.{NamedFile}
-use Rattle.copy_changes.specs.declared.options.Renaming.{Renaming}
-use Rattle.copy_changes.specs.declared.options.NamedBits.{NamedBits}
-use Rattle.copy_changes.specs.declared.options.CopyChanges.{CopyChanges}
+use Rattle.calls_tool.specs.declared.update.outputs.CallsOutput.{CallsOutput}
+use Rattle.calls_tool.specs.declared.update.outputs.CallsOutput.TheVariants.{To, InPlace}
+use Rattle.rebuild_changes.specs.declared.options.NamedFile.{NamedFile}
+use Rattle.rebuild_changes.specs.declared.options.Renaming.{Renaming}
+use Rattle.rebuild_changes.specs.declared.options.NamedBits.{NamedBits}
+use Rattle.rebuild_changes.specs.declared.options.CopyChanges.{CopyChanges}
 use Rattle.elfkit_words.specs.declared.commands.Request.{Request}
 use Rattle.elfkit_words.specs.declared.commands.Request.TheVariants.{Run, Tell}
 use Rattle.elfkit_words.specs.declared.commands.WordsFault.{WordsFault}
@@ -30,7 +30,7 @@ use Rattle.elfkit_words.specs.Usages.{command_named}
 use Rattle.elfkit_words.specs.Notices.{notice_named}
 use Rattle.elfkit_words.specs.Splitting.{split_of}
 use Rattle.tool_text.specs.Arguments.{last, only_one, only_two}
-use Rattle.copy_changes.specs.Names.{is_section_name}
+use Rattle.rebuild_changes.specs.Names.{is_section_name}
 
 infixl 10 ◌>>=◌
 abbrev pub ◌>>=◌ : {A B : Type 0} → Option A → (A → Option B) → Option B
@@ -75,12 +75,12 @@ number_within low high word = do
   if nat_le low n && nat_le n high then Some n else None
 
 -- the least length of a run in strings
-unfoldable pub least_of : List ℕ → Option ℕ
-least_of word = number_within 1 4096 word
+unfoldable pub least_run_length : List ℕ → Option ℕ
+least_run_length word = number_within 1 4096 word
 
 -- at least one letter and one file
-unfoldable pub parts_of : List CommandOption → ReadelfParts
-parts_of options = record {
+unfoldable pub readelf_parts_of : List CommandOption → ReadelfParts
+readelf_parts_of options = record {
   header = has_option (byte "h") options;
   segments = has_option (byte "l") options;
   sections = has_option (byte "S") options;
@@ -94,7 +94,8 @@ parts_of options = record {
 unfoldable pub readelf_command : Split → Option Command
 readelf_command split = do
   files ← one_or_more split.operands
-  if length split.options == 0 then None else Some (command.Readelf (parts_of split.options) files)
+  if length split.options == 0 then None else Some
+      (command.Readelf (readelf_parts_of split.options) files)
 
 -- the radix is hexadecimal where none is given
 unfoldable pub nm_command : Split → Option Command
@@ -119,7 +120,7 @@ size_command split = do
 unfoldable pub strings_command : Split → Option Command
 strings_command split = do
   files ← one_or_more split.operands
-  lengths ← all_values least_of (option_arguments (byte "n") split.options)
+  lengths ← all_values least_run_length (option_arguments (byte "n") split.options)
   radixes ← all_values radix_of (option_arguments (byte "t") split.options)
   Some (command.Strings (record {
     all = has_option (byte "a") split.options;
@@ -272,9 +273,9 @@ request_of usage words = do
       else option_map Run (of_split usage split)
 
 -- The first word is the command, or asks for a notice, whatever follows.
-unfoldable pub reading : List (List ℕ) → Result Request Usage
-reading [] = Err usage.General
-reading (name ∷ words) = of_name (notice_named name) (command_named name) words
+unfoldable pub request_of_words : List (List ℕ) → Result Request Usage
+request_of_words [] = Err usage.General
+request_of_words (name ∷ words) = of_name (notice_named name) (command_named name) words
   where
     of_name : Option Notice → Option Usage → List (List ℕ) → Result Request Usage
     of_name (Some notice) named words = Ok (Tell notice)

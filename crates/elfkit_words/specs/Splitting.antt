@@ -11,10 +11,10 @@ use Rattle.elfkit_words.specs.declared.splitting.Split.{Split}
 use Rattle.elfkit_words.specs.Usages.{stands_alone, takes_option_argument}
 
 -- what a part of the code returned is what the words say, unless memory ran out
-abbrev pub Reads : {X : Type 0} → Result X Fault → Option X → Type 0
-Reads (Ok x) stated = stated ≡ Some x
-Reads (Err Words) stated = stated ≡ None
-Reads (Err Memory) stated = Unit {0}
+abbrev pub FollowsWords : {X : Type 0} → Result X Fault → Option X → Type 0
+FollowsWords (Ok x) stated = stated ≡ Some x
+FollowsWords (Err Words) stated = stated ≡ None
+FollowsWords (Err Memory) stated = Unit {0}
 
 -- An option word has at least two characters and begins with a dash.
 abbrev pub is_option_word : List ℕ → Bool

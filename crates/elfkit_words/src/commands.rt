@@ -1,12 +1,12 @@
-//! The commands of elfkit, with their options and operands as the words give them.
+//! The commands of elfkit, with their options and operands as the arguments give them.
 
 use crate::notices::Notice;
 use crate::usages::Usage;
-use calls_update::CallsOutput;
-use command_outcomes::StripOptions;
-use copy_changes::CopyChanges;
+use calls_tool::update::CallsOutput;
+use elfkit_outcomes::StripOptions;
 use nm_tool::NmOptions;
 use readelf_tool::ReadelfParts;
+use rebuild_changes::CopyChanges;
 use strings_tool::StringsOptions;
 use tool_text::{Args, Text};
 
@@ -43,7 +43,7 @@ pub enum Command {
     Strip {
         /// The options.
         options: StripOptions,
-        /// The file. No two of it, the output and the file for debugging are the same word.
+        /// The file. No two of it, the output and the file for debugging have the same name.
         file: Text,
     },
     /// `elflint`: checks images against the rules.
@@ -67,9 +67,9 @@ pub enum Command {
         /// How many sections the image has, from 1 to 60000.
         count: u32,
     },
-    /// `rehash`: copies an image with its hash sections built anew.
+    /// `rehash`: copies an image with its hash sections rebuilt.
     Rehash {
-        /// `-o`: the output, another word than the file.
+        /// `-o`: the output, another name than the file.
         out: Text,
         /// The file.
         file: Text,
@@ -78,12 +78,12 @@ pub enum Command {
     Copy {
         /// The changes.
         changes: CopyChanges,
-        /// `-o`: the output, another word than the file and than the files of `-u` and `-a`.
+        /// `-o`: the output, another name than the file and the files of `-u` and `-a`.
         out: Text,
         /// The file.
         file: Text,
     },
-    /// `unstrip`: joins what strip split. No two of the three files are the same word.
+    /// `unstrip`: joins what strip split. No two of the three files have the same name.
     Unstrip {
         /// `-o`: the output.
         out: Text,
@@ -99,7 +99,7 @@ pub enum Command {
     },
 }
 
-/// What the words ask for.
+/// What the arguments ask for.
 #[derive(Drop)]
 pub enum Request {
     /// A command.
@@ -108,11 +108,11 @@ pub enum Request {
     Tell(Notice),
 }
 
-/// Why the words give no request.
+/// Why the arguments give no request.
 #[derive(Clone, Copy, PartialEq, Eq)]
 pub enum WordsFault {
     /// There was no memory.
     Memory,
-    /// The words are not of the form that this usage line states.
+    /// The arguments are not of the form that this usage line states.
     Usage(Usage),
 }

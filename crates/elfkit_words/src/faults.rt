@@ -1,4 +1,4 @@
-//! Why a part of the words is not read.
+//! Why a part of the arguments is not read.
 
 ghost use Rattle.std.specs.Prelude.{◌≡◌};
 ghost use Rattle.elfkit_words.specs.declared.faults.Fault.TheVariants.{Memory};
@@ -6,12 +6,12 @@ ghost use Rattle.elfkit_words.specs.declared.faults.Fault.TheVariants.{Memory};
 use elf_types::ElfError;
 use std::alloc::{AllocError, AllocFailed};
 
-/// Why a part of the words is not read.
+/// Why a part of the arguments is not read.
 #[derive(Clone, Copy, PartialEq, Eq)]
 pub(crate) enum Fault {
     /// There was no memory.
     Memory,
-    /// The words are not of the command's form.
+    /// The arguments are not of the command's form.
     Words,
 }
 
@@ -31,7 +31,7 @@ impl<T: Drop> From<AllocFailed<T>> for Fault {
     }
 }
 
-// A list refuses `Memory` alone.
+// A list fails with `Memory` alone.
 impl From<ElfError> for Fault {
     ghost from_gives = { λ _ e. e ≡ Memory };
 

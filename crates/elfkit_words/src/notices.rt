@@ -28,7 +28,7 @@ impl Notice {
         }
     }
 
-    /// The lines of the notice, each with its newline. It takes no memory. The version stands here
+    /// The lines of the notice, each with its newline. It takes no memory. The version is here
     /// alone.
     #[tactic(auto, unfolding(crate::specs::Notices::notice_text, crate::specs::Notices::version_text))]
     pub fn text(self) -> &'static str
@@ -41,7 +41,7 @@ impl Notice {
     }
 }
 
-/// How a command is called, with a line for each of its letters.
+/// How a command is called, with a line for each of its options.
 #[tactic(auto, unfolding(crate::specs::Notices::help_text, crate::specs::Notices::command_help, crate::specs::Notices::letters_told, crate::specs::Notices::told_line, crate::specs::Usages::usage_line))]
 fn help_text(usage: Usage) -> &'static str
     ensures { result.now ≡ help_text usage }
@@ -56,58 +56,58 @@ fn help_text(usage: Usage) -> &'static str
             "  -r            relocations\n",
             "  -d            the dynamic section\n",
             "  -n            notes\n",
-            "  -V            version sections\n",
+            "  -V            symbol versions\n",
         ),
         Usage::Nm => concat!(
             "usage: elfkit nm [-AguvP] [-t d|o|x] FILE..\n",
-            "  -A            the file before each symbol\n",
-            "  -g            no local symbols\n",
-            "  -u            undefined symbols alone\n",
-            "  -v            by value, and not by name\n",
-            "  -P            name, letter, value and size\n",
-            "  -t d|o|x      values in decimal, octal or hexadecimal\n",
+            "  -A            write the file name before each symbol\n",
+            "  -g            leave out local symbols\n",
+            "  -u            list only undefined symbols\n",
+            "  -v            sort by value, not by name\n",
+            "  -P            portable form: name, letter, value and size\n",
+            "  -t d|o|x      radix of values: decimal, octal or hexadecimal (default)\n",
         ),
         Usage::Size => "usage: elfkit size FILE..\n",
         Usage::Strings => concat!(
             "usage: elfkit strings [-a] [-n N] [-t d|o|x] FILE..\n",
-            "  -a            the whole file\n",
-            "  -n N          runs of at least N bytes, 1 to 4096; 4 without it\n",
-            "  -t d|o|x      the place of each run\n",
+            "  -a            search the whole file, not only its allocated sections\n",
+            "  -n N          write runs of at least N bytes, 1 to 4096, by default 4\n",
+            "  -t d|o|x      write the offset of each run: decimal, octal or hexadecimal\n",
         ),
         Usage::Strip => concat!(
             "usage: elfkit strip [-g] [-R NAME].. [-f DEBUG] -o OUT FILE\n",
-            "  -g            debug sections alone\n",
-            "  -R NAME       also the sections of this name\n",
-            "  -f DEBUG      all that is removed goes into this file\n",
-            "  -o OUT        the file that is written\n",
+            "  -g            remove debug sections only, keep symbols\n",
+            "  -R NAME       also remove the sections of this name\n",
+            "  -f DEBUG      write a second file, for a debugger, with what is removed\n",
+            "  -o OUT        the file to write\n",
         ),
         Usage::Elflint => "usage: elfkit elflint FILE..\n",
         Usage::Calls => concat!(
             "usage: elfkit calls [-o OUT | -i] FILE SCRIPT\n",
-            "  -o OUT        the changed image goes into this file\n",
-            "  -i            FILE is changed in place\n",
+            "  -o OUT        write the changed image to this new file\n",
+            "  -i            change FILE in place\n",
         ),
         Usage::Selftest => concat!(
             "usage: elfkit selftest -o OUT N\n",
-            "  -o OUT        the file that is written\n",
+            "  -o OUT        the file to write\n",
         ),
         Usage::Rehash => concat!(
             "usage: elfkit rehash -o OUT FILE\n",
-            "  -o OUT        the file that is written\n",
+            "  -o OUT        the file to write\n",
         ),
         Usage::Copy => concat!(
             "usage: elfkit copy [-R NAME].. [-u NAME=FILE].. [-n OLD=NEW]..",
             " [-f NAME=BITS].. [-a NAME=FILE].. -o OUT FILE\n",
-            "  -R NAME       the sections of this name are removed\n",
-            "  -u NAME=FILE  a section gets the bytes of a file\n",
-            "  -n OLD=NEW    a section gets another name\n",
-            "  -f NAME=BITS  a section gets other flags\n",
-            "  -a NAME=FILE  a section with the bytes of a file is added\n",
-            "  -o OUT        the file that is written\n",
+            "  -R NAME       remove the sections of this name\n",
+            "  -u NAME=FILE  replace the bytes of a section by those of a file\n",
+            "  -n OLD=NEW    rename a section\n",
+            "  -f NAME=BITS  set the flags of a section to a number\n",
+            "  -a NAME=FILE  add a section with the bytes of a file\n",
+            "  -o OUT        the file to write\n",
         ),
         Usage::Unstrip => concat!(
             "usage: elfkit unstrip -o OUT STRIPPED DEBUG\n",
-            "  -o OUT        the file that is written\n",
+            "  -o OUT        the file to write\n",
         ),
         Usage::Lines => "usage: elfkit lines FILE..\n",
         Usage::General => general_help(),
@@ -119,7 +119,7 @@ fn general_help() -> &'static str
     ensures { result.now ≡ general_help }
 {
     concat!(
-        "elfkit reads ELF object files, checks them, changes them and writes them.\n",
+        "elfkit shows, checks and changes ELF object files.\n",
         "\n",
         "usage: elfkit readelf [-hlSsrdnV] FILE..\n",
         "       elfkit nm [-AguvP] [-t d|o|x] FILE..\n",
@@ -137,17 +137,17 @@ fn general_help() -> &'static str
         "       elfkit COMMAND --help\n",
         "       elfkit --version\n",
         "\n",
-        "  readelf   headers, segments, sections, symbols, relocations, notes and versions\n",
-        "  nm        symbols and their values\n",
-        "  size      the sizes of text, data and bss\n",
-        "  strings   printable runs of bytes\n",
-        "  strip     a copy without symbols and debug sections\n",
-        "  elflint   faults of form, by 32 rules\n",
-        "  calls     a script of library calls on a file\n",
-        "  selftest  an image made, changed, written and read again\n",
-        "  rehash    a copy whose hash sections are built anew\n",
-        "  copy      a copy with sections removed, replaced, renamed and added\n",
-        "  unstrip   a stripped file and its debug file, joined\n",
-        "  lines     line tables of DWARF 2 to 4\n",
+        "  readelf   show headers, symbols, relocations, dynamic section, notes, versions\n",
+        "  nm        list symbols with their values\n",
+        "  size      sum the sizes of text, data and bss\n",
+        "  strings   list runs of printable bytes\n",
+        "  strip     copy without debug data and symbols\n",
+        "  elflint   check files by 32 rules\n",
+        "  calls     run a script of library calls on a file\n",
+        "  selftest  make, change, write and reread an image\n",
+        "  rehash    copy with the hash sections of dynamic symbols rebuilt\n",
+        "  copy      copy with sections removed, replaced, renamed or added\n",
+        "  unstrip   join the two files that strip -f makes\n",
+        "  lines     show line tables of DWARF 2 to 4\n",
     )
 }

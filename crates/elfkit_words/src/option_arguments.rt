@@ -1,7 +1,7 @@
-//! What the options of the words say, letter by letter.
+//! What the options say, one by one.
 
 ghost use Rattle.std.specs.Prelude.{◌≡◌, IfOk, IfErr, option_map};
-ghost use Rattle.elfkit_words.specs.Splitting.{Reads};
+ghost use Rattle.elfkit_words.specs.Splitting.{FollowsWords};
 ghost use Rattle.elfkit_words.specs.Reading.{has_option, option_arguments, all_values};
 ghost use Rattle.tool_text.specs.Arguments.{last};
 ghost use Rattle.elfkit_words.specs.declared.faults.Fault.TheVariants.{Memory};
@@ -21,7 +21,8 @@ pub(crate) fn has_option(options: &[CommandOption], letter: u8) -> bool
     options.iter().any(|option| option.letter == letter)
 }
 
-/// The option-arguments of a letter, in the order of the words. Only memory can be missing for it.
+/// The option-arguments of an option, in the order of the arguments. Only memory can be missing for
+/// it.
 #[tactic(auto, unfolding(crate::specs::Reading::option_arguments))]
 pub(crate) fn option_arguments(
     alloc: Global,
@@ -42,7 +43,7 @@ pub(crate) fn option_arguments(
     Ok(words)
 }
 
-/// The last option-argument of a letter. Only memory can be missing for it.
+/// The last option-argument of an option. Only memory can be missing for it.
 pub(crate) fn last_option_argument(
     alloc: Global,
     options: &[CommandOption],
@@ -55,14 +56,15 @@ pub(crate) fn last_option_argument(
     Ok(words.into_last())
 }
 
-/// The values of the option-arguments of a letter, in the order of the words. Each must have one.
+/// The values of the option-arguments of an option, in the order of the arguments. Each must have
+/// one.
 #[tactic(auto, unfolding(crate::specs::Reading::all_values))]
 pub(crate) fn all_values<T: OptionArgument>(
     alloc: Global,
     options: &[CommandOption],
     letter: u8,
 ) -> Result<List<T>, Fault>
-    ensures { Reads result (all_values T.of_word (option_arguments letter options.now)) }
+    ensures { FollowsWords result (all_values T.of_word (option_arguments letter options.now)) }
 {
     let words = option_arguments(alloc, options, letter)?;
     let mut values = List::new(alloc);
@@ -72,13 +74,13 @@ pub(crate) fn all_values<T: OptionArgument>(
     Ok(values)
 }
 
-/// The value of the last option-argument of a letter. Each of them must have one.
+/// The value of the last option-argument of an option. Each of them must have one.
 pub(crate) fn last_value<T: OptionArgument + Copy>(
     alloc: Global,
     options: &[CommandOption],
     letter: u8,
 ) -> Result<Option<T>, Fault>
-    ensures { Reads result
+    ensures { FollowsWords result
         (option_map last (all_values T.of_word (option_arguments letter options.now))) }
 {
     let values = all_values::<T>(alloc, options, letter)?;

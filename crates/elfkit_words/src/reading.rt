@@ -1,11 +1,11 @@
-//! The reading of the words: the command with its options and operands.
+//! The reading of the arguments: the command with its options and operands.
 
 ghost use Rattle.std.specs.Prelude.{◌≡◌, ◌∷◌, [], option_to_list, IfOk};
 ghost use Rattle.std.specs.Str.{byte};
 ghost use Rattle.elf_types.specs.Answers.{FollowsBy};
 ghost use Rattle.elfkit_words.specs.Forms.{IsGoodRequest};
-ghost use Rattle.elfkit_words.specs.Splitting.{Reads};
-ghost use Rattle.elfkit_words.specs.Reading.{reading, stated_usage, request_of, option_arguments, one_or_more, of_split, readelf_command, parts_of, nm_command, size_command, strings_command, strip_command, elflint_command, calls_command, selftest_command, rehash_command, copy_command, changes_of, unstrip_command, lines_command, all_differ, is_file_of};
+ghost use Rattle.elfkit_words.specs.Splitting.{FollowsWords};
+ghost use Rattle.elfkit_words.specs.Reading.{request_of_words, stated_usage, request_of, option_arguments, one_or_more, of_split, readelf_command, readelf_parts_of, nm_command, size_command, strings_command, strip_command, elflint_command, calls_command, selftest_command, rehash_command, copy_command, changes_of, unstrip_command, lines_command, all_differ, is_file_of};
 ghost use Rattle.tool_text.specs.Arguments.{last};
 
 use crate::commands::{Command, Request, WordsFault};
@@ -17,21 +17,21 @@ use crate::option_arguments::{
 use crate::splitting::{CommandOption, Split, split_words};
 use crate::usages::Usage;
 use crate::values::number_within;
-use calls_update::CallsOutput;
-use command_outcomes::StripOptions;
-use copy_changes::{CopyChanges, NamedFile};
+use calls_tool::update::CallsOutput;
+use elfkit_outcomes::StripOptions;
 use nm_tool::NmOptions;
 use readelf_tool::ReadelfParts;
+use rebuild_changes::{CopyChanges, NamedFile};
 use std::alloc::Global;
 use strings_tool::StringsOptions;
 use tool_text::{Args, Radix, Text};
 
-/// Reads the words after the program's name, of which the first is the command, or asks for a
-/// notice. It refuses with the usage line that is due exactly where the words are not of that form,
-/// and for want of memory.
-#[tactic(auto, unfolding(crate::specs::Reading::reading))]
+/// Reads the arguments after the program's name, of which the first is the command, or asks for a
+/// notice. It fails with the usage line that is due exactly where the arguments are not of that
+/// form, and for lack of memory.
+#[tactic(auto, unfolding(crate::specs::Reading::request_of_words))]
 pub fn read_words(alloc: Global, words: &Args) -> Result<Request, WordsFault>
-    ensures value { FollowsBy (λ r. r) stated_usage result (reading words.now) }
+    ensures value { FollowsBy (λ r. r) stated_usage result (request_of_words words.now) }
     ensures form { IfOk result IsGoodRequest }
 {
     let Some((name, words)) = words.as_slice().split_first() else {
@@ -50,10 +50,10 @@ pub fn read_words(alloc: Global, words: &Args) -> Result<Request, WordsFault>
     }
 }
 
-/// What the words after a command's name ask for.
+/// What the arguments after a command's name ask for.
 #[tactic(auto, unfolding(crate::specs::Reading::request_of))]
 fn read_request(alloc: Global, usage: Usage, words: &[Text]) -> Result<Request, Fault>
-    ensures { Reads result (request_of usage words.now) }
+    ensures { FollowsWords result (request_of usage words.now) }
 {
     let split = split_words(alloc, usage, words)?;
     if split.asks_help {
@@ -65,7 +65,7 @@ fn read_request(alloc: Global, usage: Usage, words: &[Text]) -> Result<Request, 
 /// The command with these options and operands.
 #[tactic(auto, unfolding(crate::specs::Reading::of_split))]
 fn read_split(alloc: Global, usage: Usage, split: Split) -> Result<Command, Fault>
-    ensures { Reads result (of_split usage split) }
+    ensures { FollowsWords result (of_split usage split) }
 {
     match usage {
         Usage::Readelf => readelf(split).ok_or(Fault::Words),
@@ -97,12 +97,12 @@ fn one_or_more(operands: Args) -> Option<Args>
 
 /// The option-argument of the last `-o`, which must be there.
 fn output(alloc: Global, options: &[CommandOption]) -> Result<Text, Fault>
-    ensures { Reads result (last (option_arguments (byte "o") options.now)) }
+    ensures { FollowsWords result (last (option_arguments (byte "o") options.now)) }
 {
     last_option_argument(alloc, options, b'o')?.ok_or(Fault::Words)
 }
 
-/// At least one letter and one file.
+/// At least one option and one file.
 #[tactic(auto, unfolding(crate::specs::Reading::readelf_command))]
 fn readelf(split: Split) -> Option<Command>
     ensures { result ≡ readelf_command split }
@@ -122,10 +122,10 @@ fn readelf(split: Split) -> Option<Command>
     })
 }
 
-/// The parts that the letters name.
-#[tactic(auto, unfolding(crate::specs::Reading::parts_of))]
+/// The parts that the options name.
+#[tactic(auto, unfolding(crate::specs::Reading::readelf_parts_of))]
 fn parts(options: &[CommandOption]) -> ReadelfParts
-    ensures { result ≡ parts_of options.now }
+    ensures { result ≡ readelf_parts_of options.now }
 {
     ReadelfParts {
         header: has_option(options, b'h'),
@@ -142,7 +142,7 @@ fn parts(options: &[CommandOption]) -> ReadelfParts
 /// At least one file. The radix is hexadecimal where none is given.
 #[tactic(auto, unfolding(crate::specs::Reading::nm_command))]
 fn nm(alloc: Global, split: Split) -> Result<Command, Fault>
-    ensures { Reads result (nm_command split) }
+    ensures { FollowsWords result (nm_command split) }
 {
     let Split {
         options,
@@ -177,7 +177,7 @@ fn size(split: Split) -> Option<Command>
 /// At least one file. A run has at least four bytes where nothing else is given.
 #[tactic(auto, unfolding(crate::specs::Reading::strings_command))]
 fn strings(alloc: Global, split: Split) -> Result<Command, Fault>
-    ensures { Reads result (strings_command split) }
+    ensures { FollowsWords result (strings_command split) }
 {
     let Split {
         options,
@@ -198,10 +198,10 @@ fn strings(alloc: Global, split: Split) -> Result<Command, Fault>
     })
 }
 
-/// One file and an output. No two of them and the file for debugging are the same word.
+/// One file and an output. No two of them and the file for debugging have the same name.
 #[tactic(auto, unfolding(crate::specs::Reading::strip_command))]
 fn strip(alloc: Global, split: Split) -> Result<Command, Fault>
-    ensures { Reads result (strip_command split) }
+    ensures { FollowsWords result (strip_command split) }
 {
     let Split {
         options,
@@ -226,7 +226,7 @@ fn strip(alloc: Global, split: Split) -> Result<Command, Fault>
     })
 }
 
-/// Whether no two of the files of strip are the same word.
+/// Whether no two of the files of strip have the same name.
 #[tactic(auto, unfolding(crate::specs::Reading::all_differ))]
 fn strip_files_differ(out: &Text, file: &Text, debug: &Option<Text>) -> bool
     ensures { result ≡ all_differ (out.now ∷ file.now ∷ option_to_list debug.now) }
@@ -254,10 +254,10 @@ fn elflint(split: Split) -> Option<Command>
     Some(Command::Elflint { files })
 }
 
-/// A file and a script, and not both of `-o` and `-i`. The output is another word than either.
+/// A file and a script, and not both of `-o` and `-i`. The output has another name than either.
 #[tactic(auto, unfolding(crate::specs::Reading::calls_command, crate::specs::Reading::output_of))]
 fn calls(alloc: Global, split: Split) -> Result<Command, Fault>
-    ensures { Reads result (calls_command split) }
+    ensures { FollowsWords result (calls_command split) }
 {
     let Split {
         options,
@@ -287,7 +287,7 @@ fn calls(alloc: Global, split: Split) -> Result<Command, Fault>
 /// An output, and one number from 1 to 60000.
 #[tactic(auto, unfolding(crate::specs::Reading::selftest_command))]
 fn selftest(alloc: Global, split: Split) -> Result<Command, Fault>
-    ensures { Reads result (selftest_command split) }
+    ensures { FollowsWords result (selftest_command split) }
 {
     let Split {
         options,
@@ -300,10 +300,10 @@ fn selftest(alloc: Global, split: Split) -> Result<Command, Fault>
     Ok(Command::Selftest { out, count })
 }
 
-/// An output and one file, which are different words.
+/// An output and one file, which have different names.
 #[tactic(auto, unfolding(crate::specs::Reading::rehash_command, crate::specs::Reading::all_differ))]
 fn rehash(alloc: Global, split: Split) -> Result<Command, Fault>
-    ensures { Reads result (rehash_command split) }
+    ensures { FollowsWords result (rehash_command split) }
 {
     let Split {
         options,
@@ -318,10 +318,10 @@ fn rehash(alloc: Global, split: Split) -> Result<Command, Fault>
     Ok(Command::Rehash { out, file })
 }
 
-/// An output and one file. The output is another word than the file and the files of the changes.
+/// An output and one file. The output has another name than the file and the files of the changes.
 #[tactic(auto, unfolding(crate::specs::Reading::copy_command))]
 fn copy(alloc: Global, split: Split) -> Result<Command, Fault>
-    ensures { Reads result (copy_command split) }
+    ensures { FollowsWords result (copy_command split) }
 {
     let Split {
         options,
@@ -344,7 +344,7 @@ fn copy(alloc: Global, split: Split) -> Result<Command, Fault>
 /// The changes of copy.
 #[tactic(auto, unfolding(crate::specs::Reading::changes_of))]
 fn changes(alloc: Global, options: &[CommandOption]) -> Result<CopyChanges, Fault>
-    ensures { Reads result (changes_of options.now) }
+    ensures { FollowsWords result (changes_of options.now) }
 {
     let remove = Args::from_texts(alloc, all_values(alloc, options, b'R')?);
     let update = all_values(alloc, options, b'u')?;
@@ -368,10 +368,10 @@ fn is_file_of(word: &Text, named: &[NamedFile]) -> bool
     named.iter().any(|each| each.file.is_same(word))
 }
 
-/// An output and two files, no two of which are the same word.
+/// An output and two files, no two of which have the same name.
 #[tactic(auto, unfolding(crate::specs::Reading::unstrip_command))]
 fn unstrip(alloc: Global, split: Split) -> Result<Command, Fault>
-    ensures { Reads result (unstrip_command split) }
+    ensures { FollowsWords result (unstrip_command split) }
 {
     let Split {
         options,

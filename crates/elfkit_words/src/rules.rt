@@ -6,9 +6,9 @@ ghost use Rattle.elfkit_words.specs.declared.usages.Usage.{Usage};
 ghost use Rattle.elfkit_words.specs.Rules.{FollowsRules};
 ghost use Rattle.elfkit_words.specs.Splitting.{split_of};
 
-/// The split of the words after a command into options and operands follows the rules of option
+/// The split of the arguments after a command into options and operands follows the rules of option
 /// words, sentence by sentence, and no other split does. The function does nothing: its contract is
-/// the law.
+/// the theorem.
 pub fn split_follows_rules()
     ensures follows { (usage : Usage) → FollowsRules usage (split_of usage None) }
     ensures only { (usage : Usage) (split : List (List ℕ) → Option Split) → FollowsRules usage split

@@ -1,7 +1,7 @@
-//! The words after a command, as options and operands.
+//! The arguments after a command, as options and operands.
 
 ghost use Rattle.std.specs.Prelude.{◌≡◌, ◌≤◌, ◌<◌, None, length, drop};
-ghost use Rattle.elfkit_words.specs.Splitting.{Reads, is_option_word, split_of, AddsGroup};
+ghost use Rattle.elfkit_words.specs.Splitting.{FollowsWords, is_option_word, split_of, AddsGroup};
 
 use crate::faults::Fault;
 use crate::usages::Usage;
@@ -9,7 +9,7 @@ use elf_types::List;
 use std::alloc::Global;
 use tool_text::{Args, Text};
 
-/// An option, as the words give it.
+/// An option, as the arguments give it.
 #[derive(Drop)]
 pub(crate) struct CommandOption {
     /// Its letter.
@@ -18,20 +18,20 @@ pub(crate) struct CommandOption {
     pub option_argument: Option<Text>,
 }
 
-/// The words after a command, split.
+/// The arguments after a command, split.
 #[derive(Drop)]
 pub(crate) struct Split {
-    /// The options, in the order of the words.
+    /// The options, in the order of the arguments.
     pub options: List<CommandOption>,
-    /// The operands, in the order of the words.
+    /// The operands, in the order of the arguments.
     pub operands: Args,
-    /// Whether `--help` stands where an option word is looked for. Nothing after it is looked at.
+    /// Whether `--help` is where an option word is looked for. Nothing after it is looked at.
     pub asks_help: bool,
 }
 
-/// Splits the words after a command into options and operands.
+/// Splits the arguments after a command into options and operands.
 pub(crate) fn split_words(alloc: Global, usage: Usage, words: &[Text]) -> Result<Split, Fault>
-    ensures { Reads result (split_of usage None words.now) }
+    ensures { FollowsWords result (split_of usage None words.now) }
 {
     let mut options = List::new(alloc);
     let mut rest = words;
@@ -70,7 +70,7 @@ pub(crate) fn split_words(alloc: Global, usage: Usage, words: &[Text]) -> Result
     })
 }
 
-/// Whether a word is an option word, where one may stand.
+/// Whether a word is an option word, where one may be.
 fn is_option_word(word: &[u8]) -> bool
     ensures { result ≡ is_option_word word.now }
 {

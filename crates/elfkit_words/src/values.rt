@@ -1,13 +1,13 @@
 //! The values of option-arguments.
 
 ghost use Rattle.std.specs.Prelude.{◌≡◌, List, ℕ, Option, option_map};
-ghost use Rattle.elfkit_words.specs.Splitting.{Reads};
-ghost use Rattle.elfkit_words.specs.Reading.{radix_of, number_within, least_of, name_of, named_file_of, renaming_of, named_bits_of, split_at_equals};
-ghost use Rattle.copy_changes.specs.Names.{is_section_name};
+ghost use Rattle.elfkit_words.specs.Splitting.{FollowsWords};
+ghost use Rattle.elfkit_words.specs.Reading.{radix_of, number_within, least_run_length, name_of, named_file_of, renaming_of, named_bits_of, split_at_equals};
+ghost use Rattle.rebuild_changes.specs.Names.{is_section_name};
 
 use crate::faults::Fault;
 use crate::numbers::{script_number, word_number};
-use copy_changes::{NamedBits, NamedFile, Renaming};
+use rebuild_changes::{NamedBits, NamedFile, Renaming};
 use std::alloc::Global;
 use tool_text::{Radix, Text};
 
@@ -17,7 +17,7 @@ pub(crate) trait OptionArgument: Drop {
 
     /// The value of an option-argument.
     fn from_word(alloc: Global, word: &str) -> Result<Self, Fault>
-        ensures { Reads result (of_word word.now) };
+        ensures { FollowsWords result (of_word word.now) };
 }
 
 /// `-t` of nm and strings.
@@ -37,9 +37,9 @@ impl OptionArgument for Radix {
 
 /// `-n` of strings, the only number among the options: the least length of a run, from 1 to 4096.
 impl OptionArgument for u32 {
-    ghost of_word = { least_of };
+    ghost of_word = { least_run_length };
 
-    #[tactic(auto, unfolding(crate::specs::Reading::least_of))]
+    #[tactic(auto, unfolding(crate::specs::Reading::least_run_length))]
     fn from_word(_alloc: Global, word: &str) -> Result<u32, Fault> {
         number_within(word, 1, 4096).ok_or(Fault::Words)
     }
@@ -128,8 +128,8 @@ impl OptionArgument for NamedBits {
     }
 }
 
-/// What stands before and after the first `=` of a word, or None exactly where there is none or
-/// nothing stands before it.
+/// What is before and after the first `=` of a word, or None exactly where there is none or nothing
+/// is before it.
 #[tactic(auto, unfolding(crate::specs::Reading::split_at_equals))]
 fn split_at_equals(word: &str) -> Option<(&str, &str)>
     ensures { option_map (λ p. (p.0.now, p.1.now)) result ≡ split_at_equals word.now }
@@ -141,7 +141,7 @@ fn split_at_equals(word: &str) -> Option<(&str, &str)>
 }
 
 /// Whether a word can be the name of a section: it holds no NUL byte.
-#[tactic(auto, unfolding(copy_changes::specs::Names::is_section_name))]
+#[tactic(auto, unfolding(rebuild_changes::specs::Names::is_section_name))]
 fn is_section_name(word: &str) -> bool
     ensures { result ≡ is_section_name word.now }
 {

@@ -4,9 +4,9 @@ use Rattle.elf_types.specs.declared.records.TheConstants.{LAYOUT}
 use Rattle.elf_types.specs.declared.records.Ehdr.{Ehdr}
 use Rattle.elf_types.specs.declared.records.Part.TheVariants as part
 use Rattle.elf_types.specs.declared.errors.ElfError.{ElfError}
-use Rattle.elf_object.specs.Object.{Object, header_of}
-use Rattle.elf_object.specs.Steps.{stored_ehdr, with_ehdr, with_flags}
-use Rattle.elf_object.specs.Calls as calls
+use Rattle.elf_update.specs.elf_object.Object.{Object, header_of}
+use Rattle.elf_update.specs.elf_object.Steps.{stored_ehdr, with_ehdr, with_flags}
+use Rattle.elf_update.specs.elf_object.Calls as calls
 use Rattle.elf_descriptor.specs.State.{State}
 use Rattle.elf_descriptor.specs.Edits.{StepsTo, stepped, flagged}
 use Rattle.example_set_entry.specs.Entries.{with_entry}

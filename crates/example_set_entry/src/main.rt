@@ -1,9 +1,10 @@
-//! Writes an image with another entry to a new file: the second example of the README.
+//! Writes an image with another entry to a new file: an example of a whole program over the
+//! library.
 #![tactic(auto)]
 
 ghost use Rattle.std.specs.Prelude.{◌≡◌, Some, OnOk, IsTrue};
-ghost use Rattle.elf_object.specs.Image.{image};
-ghost use Rattle.elf_object.specs.Layout.{placed};
+ghost use Rattle.elf_update.specs.elf_object.Image.{image};
+ghost use Rattle.elf_update.specs.elf_object.Layout.{placed};
 ghost use Rattle.example_set_entry.specs.Entries.{with_entry};
 
 use elf_descriptor::Elf;
@@ -15,7 +16,7 @@ use std::env::{self, Args};
 use std::io;
 use std::process::ExitCode;
 
-/// The words of the command line.
+/// The arguments of the command line.
 #[derive(Drop)]
 struct Words {
     file: String,
@@ -36,7 +37,7 @@ fn read_words(mut words: Args) -> Option<Words> {
 }
 
 /// Stores another entry in the header. The layout becomes the caller's, so each part stays where it
-/// stands.
+/// is.
 fn set_entry<S: Source>(elf: &mut Elf<S>, entry: u64) -> Result<(), ElfError>
     ensures { OnOk result (elf.new.o ≡ with_entry entry elf.old.o) }
 {
@@ -46,8 +47,8 @@ fn set_entry<S: Source>(elf: &mut Elf<S>, entry: u64) -> Result<(), ElfError>
     elf.update_ehdr(&header)
 }
 
-/// Writes the image of an object to a new file, and answers its length. What an update refuses is
-/// refused before the file is made.
+/// Writes the image of an object to a new file, and returns its length. What an update rejects is
+/// rejected before the file is made.
 fn write_new<S: Source, F: Files>(
     alloc: Global,
     elf: &mut Elf<S>,
@@ -67,7 +68,7 @@ fn write_new<S: Source, F: Files>(
     written
 }
 
-/// Opens FILE, makes OUT of it with another entry, and answers OUT's length.
+/// Opens FILE, makes OUT of it with another entry, and returns OUT's length.
 fn change_entry<F: Files>(alloc: Global, files: &mut F, words: &Words) -> Result<u64, ElfError> {
     let Ok(file) = files.open(alloc, words.file.as_str()) else {
         return Err(ElfError::Read);

@@ -1,4 +1,5 @@
-//! The names of an image's symbols: the example of the README.
+//! Lists the names of an image's symbols: an example of code over the library, through a descriptor
+//! and its views.
 #![tactic(auto)]
 
 #[cfg(test)]

@@ -5,7 +5,7 @@ use elf_outside::{MemSink, MemSource};
 use elf_types::{Addrs, Class, ElfError, Octets, Order};
 use std::alloc::Global;
 use std::test::Fail;
-use test_images::symbol_object;
+use test_kit_images::symbol_object;
 
 /// What is listed of an object.
 fn listed(alloc: Global) -> Result<Octets, ElfError> {

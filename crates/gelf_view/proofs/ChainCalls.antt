@@ -19,7 +19,7 @@ use Rattle.elf_descriptor.specs.elf_layout.Layout.{rounded_up}
 use Rattle.gelf_view.specs.Records.{record_at, LiesAt}
 use Rattle.gelf_view.specs.Notes.{note_align, note_at, note_with, note_of, note_lies, name_end, desc_place, desc_end, descsz}
 use Rattle.gelf_view.specs.Versions.{verdef_of, verdef_at, verneed_of, verneed_at}
-use Rattle.gelf_view.specs.Calls.{note_answer, first_place, first_entry_answer, verdef_answer, verneed_answer}
+use Rattle.gelf_view.specs.Calls.{note_answer, first_version_place, first_entry_answer, verdef_answer, verneed_answer}
 use Rattle.gelf_view.specs.Chains.{led_by, note_then, notes, behind_verdef, behind_verneed, verdefs, verneeds}
 use Rattle.gelf_view.proofs.PieceBytes.{bytes_count}
 use Rattle.gelf_view.proofs.NoteLemmas.{rounded_up_le}
@@ -41,13 +41,13 @@ found_lies form size at n l (Ok x) is count small = let inside = found_within fo
 found_lies form size at n l (Err e) is count small = tt
 
 -- where the first entry is
-pub first_answers : (o : Object) (s p size : ℕ) (r : Option ℕ) → lend_refusal o kinds.Bytes s p ≡ None → size ≡ count_at o s p → r ≡ first_place size
+pub first_answers : (o : Object) (s p size : ℕ) (r : Option ℕ) → lend_refusal o kinds.Bytes s p ≡ None → size ≡ count_at o s p → r ≡ first_version_place size
     → (IsOk (first_entry_answer o s p)) × (IsTrue true → first_entry_answer o s p ≡ Ok r)
 unfolding first_entry_answer
 first_answers o s p size r passed count is =
     let stated : first_entry_answer o s p ≡ Ok r =
-    ap (λ (refusal : Option ElfError). answered refusal (bytes_of (items_at o s p)) >>= λ l. Ok (first_place (length l))) passed
-    ∙ ap (λ (n : ℕ). Ok (first_place n)) (bytes_count o s p passed ∙ sym count)
+    ap (λ (refusal : Option ElfError). answered refusal (bytes_of (items_at o s p)) >>= λ l. Ok (first_version_place (length l))) passed
+    ∙ ap (λ (n : ℕ). Ok (first_version_place n)) (bytes_count o s p passed ∙ sym count)
     ∙ ap Ok (sym is) in
     (subst IsOk (sym stated) refl, λ told. stated)
 

@@ -8,7 +8,7 @@ use Rattle.elf_descriptor.specs.elf_object.Words.{Wants, Refusals, Answers, Answ
 use Rattle.gelf_view.specs.declared.notes.NoteAt.{NoteAt}
 use Rattle.gelf_view.specs.declared.aux.AuxPlace.{AuxPlace}
 use Rattle.gelf_view.specs.Records.{LiesAt}
-use Rattle.gelf_view.specs.Chains.{Chain, ended, broken, leading, led_by, IsLedBy, note_then, notes_upto, next_place, entry_then, entries_upto, entries, aux_upto, aux_from, aux_answer, IsBehind, aux_then}
+use Rattle.gelf_view.specs.Chains.{Chain, ended, broken, leading, led_by, IsLedBy, note_then, notes_upto, next_place, entry_then, entries_upto, entries, aux_upto, aux_from, aux_answer, IsBehindRecord, aux_then}
 
 -- ---- The chain behind an answer that came
 
@@ -148,7 +148,7 @@ module _ {A : Type 0} (read : ℕ → Result A ElfError) (next : A → ℕ) wher
       ap (λ (r : Result A ElfError). led_by r (λ y. leading y (aux_upto read next left (at + next y) (next y == 0)))) (err_given (read at) e (sym (left_answer left at false) ∙ is))
 
   -- what stands behind the place that a call leaves
-  pub aux_led : (told : Bool) (wants : Wants) (r : Result (Option A) ElfError) (old new : AuxPlace) → IsTrue told → Answers told wants r (aux_answer read old) → IsBehind r next old new
+  pub aux_led : (told : Bool) (wants : Wants) (r : Result (Option A) ElfError) (old new : AuxPlace) → IsTrue told → Answers told wants r (aux_answer read old) → IsBehindRecord r next old new
       → IsLedBy r (aux_then (aux_from read next new)) (aux_from read next old)
   aux_led told wants (Ok (Some x)) old new is came behind =
       given old.left old.at old.last x (came.1 is) behind.0 ∙ ap (λ (place : AuxPlace). leading x (aux_from read next place)) (sym behind.1)
@@ -164,7 +164,7 @@ pub lies_before : {A E : Type 0} (r : Result A E) (at size count : ℕ) → 0 < 
 lies_before (Ok x) at size count some lies = (omega (arith, some, lies.0), omega (arith, lies.0, lies.1))
 lies_before (Err e) at size count some lies = tt
 
-pub fewer_left : {A E : Type 0} (r : Result (Option A) E) (next : A → ℕ) (old new : AuxPlace) → IsBehind r next old new
+pub fewer_left : {A E : Type 0} (r : Result (Option A) E) (next : A → ℕ) (old new : AuxPlace) → IsBehindRecord r next old new
     → IfOk r (λ found. IfSome found (λ x. new.left < old.left))
 fewer_left (Ok (Some x)) next old new is =
     let left : new.left ≡ old.left - 1 = ap (λ (p : AuxPlace). p.left) is.1 in

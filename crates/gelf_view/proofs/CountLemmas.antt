@@ -16,7 +16,7 @@ use Rattle.elf_descriptor.specs.elf_object.Calls.{piece_kind_answer}
 use Rattle.elf_descriptor.specs.elf_object.Valid.{IsObject}
 use Rattle.elf_descriptor.proofs.elf_object.StepLaws.{same_kind-true, same_kind-same}
 use Rattle.elf_descriptor.proofs.elf_object.AnswerLaws.{answered_value, answered_refusal}
-use Rattle.elf_descriptor.proofs.object_laws.KeepLaws.{section_at_is}
+use Rattle.elf_descriptor.proofs.law_object.KeepLaws.{section_at_is}
 use Rattle.elf_descriptor.proofs.section_data.Items.{kind_whole, whole_kind}
 use Rattle.gelf_view.proofs.FetchLemmas.{piece_is_refusal}
 

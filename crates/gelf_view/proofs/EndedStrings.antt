@@ -11,7 +11,7 @@ use Rattle.std.proofs.lemmas.List.Sums.{take_while-cons}
 use Rattle.std.proofs.lemmas.Option.{slice_get_within, unwrap_or-slice_get}
 use Rattle.elf_descriptor.specs.elf_object.Strings.{has_nul, is_name}
 use Rattle.elf_descriptor.specs.section_data.Nuls.{IsLastEnd, IsEndedFront}
-use Rattle.gelf_view.specs.Records.{string_front, shorter_than, front_of, AreEnded}
+use Rattle.gelf_view.specs.Records.{string_front, shorter_than, first_bytes_of, AreEnded}
 
 -- ---- The string at the front
 
@@ -71,9 +71,9 @@ unfolding string_front
 some_front l has = ap (λ (r : Option (List ℕ)). is_some r) (cond-true _ _ _ has)
 
 -- no string begins past the end
-pub no_string : (bytes : List ℕ) (place : ℕ) → length bytes < place
+pub no_string_past_end : (bytes : List ℕ) (place : ℕ) → length bytes < place
     → None ≡ string_front (drop place bytes)
-no_string bytes place past =
+no_string_past_end bytes place past =
     sym (ap string_front (drop_all place bytes (omega (arith, past))) ∙ front_none)
 
 -- ---- A string that is not longer than it may be
@@ -165,31 +165,31 @@ found_behind x front None = refl
 found_behind x front (Some string) = refl
 
 front_of_behind : (x n : ℕ) (found : Option (List ℕ))
-    → behind x (front_of n found) ≡ front_of (suc n) (behind x found)
+    → behind x (first_bytes_of n found) ≡ first_bytes_of (suc n) (behind x found)
 front_of_behind x n None = refl
 front_of_behind x n (Some string) = refl
 
-front_of_none : (l : List ℕ) → has_nul l ≡ true → Some [] ≡ front_of zero (string_front l)
+front_of_none : (l : List ℕ) → has_nul l ≡ true → Some [] ≡ first_bytes_of zero (string_front l)
 unfolding string_front
 front_of_none l has =
-    sym (ap (λ (found : Option (List ℕ)). front_of zero found) (cond-true _ _ _ has))
+    sym (ap (λ (found : Option (List ℕ)). first_bytes_of zero found) (cond-true _ _ _ has))
 
 front_within : (n : ℕ) (l : List ℕ) → has_nul l ≡ true
-    → found_or (take n l) (string_front (take n l)) ≡ front_of n (string_front l)
+    → found_or (take n l) (string_front (take n l)) ≡ first_bytes_of n (string_front l)
 front_within zero l has =
     ap (λ (found : Option (List ℕ)). found_or [] found) front_none ∙ front_of_none l has
 front_within (suc n) [] has = cc
 front_within (suc n) (x ∷ l) has =
     ap (λ (found : Option (List ℕ)). found_or (x ∷ take n l) found) (front_more x (take n l))
     ∙ by_first (front_within n l) (x == 0) has
-    ∙ sym (ap (λ (found : Option (List ℕ)). front_of (suc n) found) (front_more x l))
+    ∙ sym (ap (λ (found : Option (List ℕ)). first_bytes_of (suc n) found) (front_more x l))
   where
     by_first : (has_nul l ≡ true
-        → found_or (take n l) (string_front (take n l)) ≡ front_of n (string_front l))
+        → found_or (take n l) (string_front (take n l)) ≡ first_bytes_of n (string_front l))
         → (nul : Bool) → (nul || has_nul l) ≡ true
         → found_or (x ∷ take n l)
         (if nul then Some [] else behind x (string_front (take n l)))
-        ≡ front_of (suc n) (if nul then Some [] else behind x (string_front l))
+        ≡ first_bytes_of (suc n) (if nul then Some [] else behind x (string_front l))
     by_first later true has = refl
     by_first later false has =
         found_behind x (take n l) (string_front (take n l))
@@ -200,18 +200,18 @@ front_within (suc n) (x ∷ l) has =
 module _ (n : ℕ) (bytes front : List ℕ) (has : has_nul bytes ≡ true) (is : front ≡ take n bytes)
   where
     told_by : (found : Option (List ℕ)) → found ≡ string_front front
-        → found_or (take n bytes) found ≡ front_of n (string_front bytes)
+        → found_or (take n bytes) found ≡ first_bytes_of n (string_front bytes)
     told_by found came =
         ap (λ (r : Option (List ℕ)). found_or (take n bytes) r) (came ∙ ap string_front is)
         ∙ front_within n bytes has
 
     -- it ends in the front
     pub front_string : (string : List ℕ) → Some string ≡ string_front front
-        → Some string ≡ front_of n (string_front bytes)
+        → Some string ≡ first_bytes_of n (string_front bytes)
     front_string string came = told_by (Some string) came
 
     -- it does not
-    pub front_all : None ≡ string_front front → Some front ≡ front_of n (string_front bytes)
+    pub front_all : None ≡ string_front front → Some front ≡ first_bytes_of n (string_front bytes)
     front_all came = ap (λ (l : List ℕ). Some l) is ∙ told_by None came
 
 -- ---- Bytes up to their last NUL

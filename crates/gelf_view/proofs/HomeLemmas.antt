@@ -10,7 +10,7 @@ use Rattle.elf_descriptor.specs.elf_xlate.declared.content.Items.{Items}
 use Rattle.elf_descriptor.specs.elf_object.Object.{Object, Piece, section_at, piece_at, home_piece, home_is_clean}
 use Rattle.elf_descriptor.specs.elf_object.Answers.{no_section, no_data, piece_count, piece_refusal}
 use Rattle.elf_descriptor.specs.elf_object.Valid.{IsObject, OthersOwn}
-use Rattle.elf_descriptor.proofs.object_laws.KeepLaws.{section_at_is}
+use Rattle.elf_descriptor.proofs.law_object.KeepLaws.{section_at_is}
 use Rattle.gelf_view.specs.Strings.{home_missing}
 
 pub others_own : (o : Object) (s : ℕ) → IsObject o → OthersOwn (section_at o s).pieces

@@ -15,7 +15,7 @@ use Rattle.elf_descriptor.specs.elf_object.Calls.{word, word_answer}
 use Rattle.elf_descriptor.specs.elf_outside.declared.sources.Source.{Ghosts}
 use Rattle.elf_descriptor.specs.State.{State}
 use Rattle.elf_descriptor.specs.Reads.{Reads, Looks, wanted}
-use Rattle.gelf_view.specs.Calls.{is_index_table, extended}
+use Rattle.gelf_view.specs.Calls.{is_index_table, extended_index_word}
 
 -- no section below a number is the table
 abbrev pub IsNotBelow : Object → ℕ → ℕ → Type 0
@@ -47,17 +47,17 @@ abbrev wants_by : {S : Type 0} → State S → ℕ → Option ℕ → Wants
 wants_by old i table = record { memory = word_memory old.o old.loaded old.held table; read = nat_lt 0 (homes_due old.o old.loaded (word_reads old.o i table)) }
 
 pub extended_answers : {S : Type 0} (old : State S) (s table i : ℕ) (r : Result ℕ ElfError) → Some table ≡ shndx_table old.o s
-    → Answers old.told (wanted (word table 0 i) old) r ((word table 0 i).answer old.o) → Answers old.told (wanted (extended s i) old) r ((extended s i).answer old.o)
+    → Answers old.told (wanted (word table 0 i) old) r ((word table 0 i).answer old.o) → Answers old.told (wanted (extended_index_word s i) old) r ((extended_index_word s i).answer old.o)
 unfolding extended_index
 extended_answers old s table i r is came = subst (λ (t : Option ℕ). Answers old.told (wants_by old i t) r (index_by old.o i t)) is came
 
 pub extended_looks : {S : Type 0} (g : Ghosts S) (old new : State S) (s table i : ℕ) (r : Result ℕ ElfError) → Some table ≡ shndx_table old.o s
-    → Looks g (word table 0 i) r old new → Looks g (extended s i) r old new
+    → Looks g (word table 0 i) r old new → Looks g (extended_index_word s i) r old new
 extended_looks g old new s table i r is looks = record {
   object = looks.object;
   reads = subst (λ (t : Option ℕ). Reads g r old new (word_reads old.o i t) (word_reads old.o i t) (homes_due old.o old.loaded (word_reads old.o i t))) is looks.reads;
 }
 
-pub extended_none : (o : Object) (s i : ℕ) → None ≡ shndx_table o s → (extended s i).answer o ≡ Err (NoEntry i 0)
+pub extended_none : (o : Object) (s i : ℕ) → None ≡ shndx_table o s → (extended_index_word s i).answer o ≡ Err (NoEntry i 0)
 unfolding extended_index
 extended_none o s i none = ap (index_by o i) (sym none)

@@ -1,7 +1,7 @@
 pub use Rattle.elf_descriptor.proofs as elf_descriptor
 pub use Rattle.elf_descriptor.proofs.elf_object
 pub use Rattle.elf_descriptor.proofs.elf_xlate
-pub use Rattle.elf_descriptor.proofs.object_laws
+pub use Rattle.elf_descriptor.proofs.law_object
 pub use Rattle.elf_descriptor.proofs.section_data
 mod NulLemmas
 pub mod EndedStrings

@@ -14,8 +14,8 @@ use Rattle.elf_descriptor.specs.elf_object.Strings.{string_answer, readable, str
 use Rattle.elf_descriptor.specs.State.{State}
 use Rattle.elf_descriptor.specs.Reads.{Reads, Queries, wanted}
 use Rattle.elf_descriptor.proofs.ReadsLaws.{reads_nothing, reads_then}
-use Rattle.gelf_view.specs.Records.{front_of}
-use Rattle.gelf_view.specs.SectionNames.{readable_string, name_reads, name_memory, section_name, section_name_front}
+use Rattle.gelf_view.specs.Records.{first_bytes_of}
+use Rattle.gelf_view.specs.SectionNames.{readable_string, name_reads, name_memory, read_section_name, section_name_front}
 
 -- what a call that is not refused answers
 pub ok_is : {T : Type 0} (a b : T) → ◌≡◌ {A = Result T ElfError} (Ok a) (Ok b) → a ≡ b
@@ -27,7 +27,7 @@ module _ {S : Type 0} (g : Ghosts S) (old : State S) (s : ℕ) (is : old.o.heade
   no_reads : name_reads s old.o ≡ []
   no_reads = rw is refl
 
-  pub no_name_queries : {T : Type 0} (x : T) → Queries {T = T} g (section_name s) [] (Ok x) old old
+  pub no_name_queries : {T : Type 0} (x : T) → Queries {T = T} g (read_section_name s) [] (Ok x) old old
   no_name_queries x = record {
     object = refl;
     reads = subst (λ (l : List ℕ). Reads g (Ok x) old old l [] (homes_due old.o old.loaded l))
@@ -71,7 +71,7 @@ module _ {S : Type 0} (g : Ghosts S) (old : State S) (s names at : ℕ) (is : ol
       ∙ ap (λ (a : ℕ). readable (string_answer old.o names a)) (sym here)
 
   pub name_queries : {T : Type 0} (r : Result T ElfError) (new : State S)
-      → Queries g (readable_string names at) [] r old new → Queries g (section_name s) [] r old new
+      → Queries g (readable_string names at) [] r old new → Queries g (read_section_name s) [] r old new
   name_queries r new q = record {
     object = q.object;
     reads = subst (λ (l : List ℕ). Reads g r old new l [] (homes_due old.o old.loaded l)) (sym same_reads) q.reads;
@@ -79,20 +79,20 @@ module _ {S : Type 0} (g : Ghosts S) (old : State S) (s names at : ℕ) (is : ol
 
   pub name_answers : (r : Result (Option (List ℕ)) ElfError)
       → Answers old.told (wanted (readable_string names at) old) r ((readable_string names at).answer old.o)
-      → Answers old.told (wanted (section_name s) old) r ((section_name s).answer old.o)
+      → Answers old.told (wanted (read_section_name s) old) r ((read_section_name s).answer old.o)
   name_answers r h =
       let due = λ (l : List ℕ). nat_lt 0 (homes_due old.o old.loaded l) in
       let memory = wants_memory names at in
       let read = due (call names at) in
       let value = readable (string_answer old.o names at) in
-      subst (λ (v : Option (List ℕ)). Answers old.told (wanted (section_name s) old) r (Ok v)) (sym same_name)
+      subst (λ (v : Option (List ℕ)). Answers old.told (wanted (read_section_name s) old) r (Ok v)) (sym same_name)
       (subst (λ (m : Bool). Answers old.told (record { memory = m; read = due (name_reads s old.o) }) r (Ok value)) (sym same_memory)
       (subst (λ (l : List ℕ). Answers old.told (record { memory = memory; read = due l }) r (Ok value)) (sym same_reads) h))
 
 -- ---- Its first bytes
 
 module _ {S T : Type 0} (g : Ghosts S) (old new : State S) (s n : ℕ) (r : Result T ElfError)
-    (q : Queries g (section_name s) [] r old new) where
+    (q : Queries g (read_section_name s) [] r old new) where
   pub front_queries : {U : Type 0} (x : T) (y : U) → r ≡ Ok x
       → Queries g (section_name_front s n) [] (Ok y) old new
   front_queries x y is = record {
@@ -111,11 +111,11 @@ module _ {S T : Type 0} (g : Ghosts S) (old new : State S) (s n : ℕ) (r : Resu
   }
 
 pub front_answers : (told : Bool) (wants : Wants) (n : ℕ) (found stated front : Option (List ℕ))
-    → front ≡ front_of n found → Answers told wants (Ok found) (Ok stated)
-    → Answers told wants (Ok front) (Ok (front_of n stated))
+    → front ≡ first_bytes_of n found → Answers told wants (Ok found) (Ok stated)
+    → Answers told wants (Ok front) (Ok (first_bytes_of n stated))
 front_answers told wants n found stated front is came = (
   refl,
-  λ tells. ap Ok (ap (λ (name : Option (List ℕ)). front_of n name)
+  λ tells. ap Ok (ap (λ (name : Option (List ℕ)). first_bytes_of n name)
       (ok_is stated found (came.1 tells)) ∙ sym is),
 )
 

@@ -21,7 +21,7 @@ use Rattle.gelf_view.proofs.PieceBytes.{bytes_count}
 use Rattle.gelf_view.specs.declared.notes.NoteAt.{NoteAt}
 use Rattle.gelf_view.specs.declared.notes.TheConstants.{NOTE_HEADER_SIZE}
 use Rattle.gelf_view.specs.Records.{record_at}
-use Rattle.gelf_view.specs.Notes.{note_align, note_at, note_with, note_of, note_lies, no_header}
+use Rattle.gelf_view.specs.Notes.{note_align, note_at, note_with, note_of, note_lies, note_header_refusal}
 
 -- ---- Refused before it reads
 
@@ -93,7 +93,7 @@ module _ (told : Bool) (wants : Wants) (order : Order) (align at : ℕ) (b l : L
       by_lies (note_lies order align (length b) (take NOTE_HEADER_SIZE (drop at b)) at) (found false false l) (λ is. ap (λ (x : List ℕ). found false false x) (sym (same is)))
 
   pub note_read : length b ≡ length l
-      → AnswersRead told wants (record { unread = None; early = first_refusal (None ∷ no_header (length l) at ∷ []); met = λ e. e ≡ BadChain at }) (note_at order align b at) (note_at order align l at)
+      → AnswersRead told wants (record { unread = None; early = first_refusal (None ∷ note_header_refusal (length l) at ∷ []); met = λ e. e ≡ BadChain at }) (note_at order align b at) (note_at order align l at)
   unfolding note_at record_at
   note_read alike =
       subst (λ (n : ℕ). AnswersRead told wants (refusals (at == n) (nat_lt n (at + NOTE_HEADER_SIZE))) (found (at == length b) (nat_lt (length b) (at + NOTE_HEADER_SIZE)) b) (found (at == n) (nat_lt n (at + NOTE_HEADER_SIZE)) l)) alike
@@ -111,7 +111,7 @@ note_step old s p at b r order align hand ordered aligned is =
     let came : r ≡ found b =
     is ∙ ap (λ (d : Order). note_at d align b at) ordered ∙ ap (λ (n : ℕ). note_at old.o.header.order n b at) aligned in
     let stated : Option ElfError → ℕ → Refusals =
-    λ refusal n. record { unread = refusal; early = first_refusal (refusal ∷ no_header n at ∷ []); met = λ e. e ≡ BadChain at } in
+    λ refusal n. record { unread = refusal; early = first_refusal (refusal ∷ note_header_refusal n at ∷ []); met = λ e. e ≡ BadChain at } in
     subst (λ (x : Result (Option NoteAt) ElfError). AnswersRead old.told wants (note_refusals old.o s p at) x (answered (lend_refusal old.o kinds.Bytes s p) l >>= found)) (sym came)
     (subst (λ (refusal : Option ElfError). AnswersRead old.told wants (stated refusal (count_at old.o s p)) (found b) (answered refusal l >>= found)) (sym hand.passed)
     (subst (λ (n : ℕ). AnswersRead old.told wants (stated None n) (found b) (found l)) (bytes_count old.o s p hand.passed)
@@ -124,6 +124,6 @@ pub note_refused : {S : Type 0} (g : Ghosts S) (old new : State S) (s p at : ℕ
 unfolding note_answer
 note_refused g old new s p at e came =
     let same = reads_same g old new s p at (note_found s at) (λ o l. note_is_found o.header.order (note_align (section_at o s).header.addralign) l at) in
-    refused_read old.told (wanted (note s p at) old) (lend_refusal old.o kinds.Bytes s p) (no_header (count_at old.o s p) at) (λ d. d ≡ BadChain at) (bytes_of (items_at old.o s p)) (note_found s at old.o) e
+    refused_read old.told (wanted (note s p at) old) (lend_refusal old.o kinds.Bytes s p) (note_header_refusal (count_at old.o s p) at) (λ d. d ≡ BadChain at) (bytes_of (items_at old.o s p)) (note_found s at old.o) e
     (lend_unread old.o kinds.Bytes s p)
     (answers_wants true (wanted (bytes s p) old) (wanted (note s p at) old) (Err e) _ (λ wants. wants) (λ wants. ap (λ (l : List ℕ). nat_lt 0 (homes_due old.o old.loaded l)) same ∙ wants) came)

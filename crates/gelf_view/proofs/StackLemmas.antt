@@ -16,7 +16,7 @@ use Rattle.elf_descriptor.proofs.elf_object.RunningEnds.{end_later, pieces_from}
 use Rattle.elf_descriptor.specs.FirstPieces.{AreFirst}
 use Rattle.gelf_view.specs.declared.string_places.Stand.{Stand}
 use Rattle.gelf_view.specs.declared.string_places.Stand.TheVariants.{Covers, Ends, Before}
-use Rattle.gelf_view.specs.Strings.{bytes_in, is_in, IsOver, Stands}
+use Rattle.gelf_view.specs.Strings.{bytes_in, is_in_piece, IsOver, Stands}
 use Rattle.gelf_view.proofs.NoteLemmas.{rounded_up_le}
 
 left_of : (a b : Bool) → (a && b) ≡ true → a ≡ true
@@ -35,7 +35,7 @@ first_over blocks offset = slice_get (filter (λ b. block_covers b offset) block
 abbrev block_at : ℕ → ℕ → List ℕ → Block
 block_at end align bytes = record { at = rounded_up end align; bytes = bytes }
 
-covers_is : (end align : ℕ) (bytes : List ℕ) (offset : ℕ) → block_covers (block_at end align bytes) offset ≡ is_in end align (length bytes) offset
+covers_is : (end align : ℕ) (bytes : List ℕ) (offset : ℕ) → block_covers (block_at end align bytes) offset ≡ is_in_piece end align (length bytes) offset
 unfolding block_covers block_end
 covers_is end align bytes offset = refl
 
@@ -51,14 +51,14 @@ module _ (end align : ℕ) (bytes : List ℕ) (ps : List (ℕ × List ℕ)) (off
   stacked_first = refl
 
   -- the first one covers it
-  over_first : is_in end align (length bytes) offset ≡ true → first_over blocks_from offset ≡ Some (block_at end align bytes)
+  over_first : is_in_piece end align (length bytes) offset ≡ true → first_over blocks_from offset ≡ Some (block_at end align bytes)
   unfolding block_covers block_end stacked
-  over_first within = ap (λ (l : List Block). slice_get l 0) (cond-true (is_in end align (length bytes) offset) _ _ within)
+  over_first within = ap (λ (l : List Block). slice_get l 0) (cond-true (is_in_piece end align (length bytes) offset) _ _ within)
 
   -- it does not
-  over_others : is_in end align (length bytes) offset ≡ false → first_over blocks_from offset ≡ first_over blocks_after offset
+  over_others : is_in_piece end align (length bytes) offset ≡ false → first_over blocks_from offset ≡ first_over blocks_after offset
   unfolding block_covers block_end stacked
-  over_others past = ap (λ (l : List Block). slice_get l 0) (cond-false (is_in end align (length bytes) offset) _ _ past)
+  over_others past = ap (λ (l : List Block). slice_get l 0) (cond-false (is_in_piece end align (length bytes) offset) _ _ past)
 
   end_after : last_end end blocks_from ≡ last_end (rounded_up end align + length bytes) blocks_after
   unfolding stacked last_end block_end
@@ -137,7 +137,7 @@ module _ (o : Object) (s offset : ℕ) where
   next_from p there = pieces_from o s p there
 
   -- a piece that covers it
-  pub left_covers : (end p : ℕ) → p < piece_count o s → IsLeft end p → is_in end (piece_at o s p).align (length (bytes_in o s p)) offset ≡ true
+  pub left_covers : (end p : ℕ) → p < piece_count o s → IsLeft end p → is_in_piece end (piece_at o s p).align (length (bytes_in o s p)) offset ≡ true
       → piece_over o s offset ≡ Some (record { at = rounded_up end (piece_at o s p).align; bytes = bytes_in o s p })
   left_covers end p there left within =
       left.over
@@ -145,7 +145,7 @@ module _ (o : Object) (s offset : ℕ) where
       ∙ over_first end (piece_at o s p).align (bytes_in o s p) (drop (p + 1) (aligned_pieces o.header.class o.header.order (section_at o s))) offset within
 
   -- one that does not
-  pub left_next : (end p : ℕ) → p < piece_count o s → IsLeft end p → is_in end (piece_at o s p).align (length (bytes_in o s p)) offset ≡ false
+  pub left_next : (end p : ℕ) → p < piece_count o s → IsLeft end p → is_in_piece end (piece_at o s p).align (length (bytes_in o s p)) offset ≡ false
       → IsLeft (rounded_up end (piece_at o s p).align + length (bytes_in o s p)) (p + 1)
   left_next end p there left past =
       let rest = drop (p + 1) (aligned_pieces o.header.class o.header.order (section_at o s)) in

@@ -28,7 +28,7 @@ use Rattle.elf_descriptor.proofs.Refusals.{IsUnread, answers_wants}
 use Rattle.elf_descriptor.proofs.Handing.{queries_err}
 use Rattle.gelf_view.specs.declared.symbols.SymPlace.{SymPlace}
 use Rattle.gelf_view.specs.declared.symbols.SymPlace.TheVariants as special
-use Rattle.gelf_view.specs.Calls.{extended, symbol_place, symshndx}
+use Rattle.gelf_view.specs.Calls.{extended_index_word, symbol_place, symbol_shndx_place}
 use Rattle.gelf_view.proofs.LendLemmas.{lend_unread, unread_late}
 use Rattle.gelf_view.proofs.SymbolLemmas.{sym_passed, sym_refused, same_table, place_low, place_special, place_extended, table_extended, place_refused, both_read}
 
@@ -79,22 +79,22 @@ module _ {S : Type 0} (old : State S) (s i : ℕ) (x : Sym) where
   special_answers index is high other = known old.told (wanted place old) (special.Special x.shndx) (place.answer old.o) (place_special special.Special special.Section old.o s i x index is high other)
 
   -- the number stands in the table
-  pub extended_answers : (r : Result ℕ ElfError) → x.shndx ≡ SHN_XINDEX → Answers old.told (wanted (extended s i) old) r ((extended s i).answer old.o)
+  pub extended_answers : (r : Result ℕ ElfError) → x.shndx ≡ SHN_XINDEX → Answers old.told (wanted (extended_index_word s i) old) r ((extended_index_word s i).answer old.o)
       → Answers old.told (wanted place old) (result_map special.Section r) (place.answer old.o)
   extended_answers r is came =
       let table = table_extended old.told old.o s x is in
-      answers_wants old.told (wanted (extended s i) old) (wanted place old) (result_map special.Section r) (place.answer old.o)
+      answers_wants old.told (wanted (extended_index_word s i) old) (wanted place old) (result_map special.Section r) (place.answer old.o)
       (λ wants. ap (word_memory old.o old.loaded old.held) table ∙ wants)
       (λ wants. ap (λ (t : Option ℕ). nat_lt 0 (homes_due old.o old.loaded (word_reads old.o i t))) table ∙ wants)
-      (subst (λ (stated : Result SymPlace ElfError). Answers old.told (wanted (extended s i) old) (result_map special.Section r) stated) (sym (place_extended special.Special special.Section old.o s i x is))
-      (mapped_answers old.told (wanted (extended s i) old) special.Section r (extended_index old.o s i) came))
+      (subst (λ (stated : Result SymPlace ElfError). Answers old.told (wanted (extended_index_word s i) old) (result_map special.Section r) stated) (sym (place_extended special.Special special.Section old.o s i x is))
+      (mapped_answers old.told (wanted (extended_index_word s i) old) special.Section r (extended_index old.o s i) came))
 
   pub extended_looks : {T U : Type 0} (g : Ghosts S) (new : State S) (r : Result T ElfError) (q : Result U ElfError) → x.shndx ≡ SHN_XINDEX → (IfErr q IsRefusal → IfErr r IsRefusal)
-      → ReadRose q (g.faults old.source) (g.faults new.source) → Looks g (extended s i) r old new → Looks g place q old new
+      → ReadRose q (g.faults old.source) (g.faults new.source) → Looks g (extended_index_word s i) r old new → Looks g place q old new
   extended_looks g new r q is settled read looks = record {
     object = looks.object;
     reads = subst (λ (t : Option ℕ). Reads g q old new (word_reads old.o i t) (word_reads old.o i t) (homes_due old.o old.loaded (word_reads old.o i t))) (sym (table_extended old.told old.o s x is))
-        (reads_then g r q old new ((extended s i).reads old.o) ((extended s i).reads old.o) (due (extended s i) old.o old.loaded) settled read looks.reads);
+        (reads_then g r q old new ((extended_index_word s i).reads old.o) ((extended_index_word s i).reads old.o) (due (extended_index_word s i) old.o old.loaded) settled read looks.reads);
   }
 
   -- nothing is read
@@ -111,7 +111,7 @@ module _ {S : Type 0} (g : Ghosts S) (old new : State S) (s p i : ℕ) where
       (after_look (sym_answer old.o s p i) (λ x. (symbol_place old.told s i x).reads old.o) [])
 
   pub symbol_refused : (e : ElfError) → Answers old.told (wanted (calls.sym s p i) old) (Err e) (sym_answer old.o s p i)
-      → AnswersRead old.told (wanted (symshndx old.told s p i) old) (symshndx_refusals old.o s p i) (Err e) ((symshndx old.told s p i).answer old.o)
+      → AnswersRead old.told (wanted (symbol_shndx_place old.told s p i) old) (symshndx_refusals old.o s p i) (Err e) ((symbol_shndx_place old.told s p i).answer old.o)
   unfolding with_others homes_due
   symbol_refused Memory came = (sym_may_want old.o s p i came.1, or_left _ _ came.0)
   symbol_refused Read came =
@@ -119,7 +119,7 @@ module _ {S : Type 0} (g : Ghosts S) (old new : State S) (s p i : ℕ) where
       (sym_may_want old.o s p i came.1, subst (λ (n : ℕ). IsTrue (nat_lt 0 n)) both (sum_pos (homes_due old.o old.loaded ((calls.sym s p i).reads old.o)) (homes_due old.o old.loaded others) came.0))
   symbol_refused e came = inl (sym_refused old.o s p i e came, ap (λ (r : Result Sym ElfError). r >>= λ x. (symbol_place old.told s i x).answer old.o) came)
 
-  pub symbol_unlooked : {T U : Type 0} (e : ElfError) → Queries {T = T} g (calls.sym s p i) ((calls.sym s p i).reads old.o) (Err e) old new → Looks {T = U} g (symshndx old.told s p i) (Err e) old new
+  pub symbol_unlooked : {T U : Type 0} (e : ElfError) → Queries {T = T} g (calls.sym s p i) ((calls.sym s p i).reads old.o) (Err e) old new → Looks {T = U} g (symbol_shndx_place old.told s p i) (Err e) old new
   unfolding with_others homes_due
   symbol_unlooked {T} {U} e asked =
       let first = (calls.sym s p i).reads old.o in
@@ -146,7 +146,7 @@ module _ {S : Type 0} (g : Ghosts S) (old mid new : State S) (s p i : ℕ) (x : 
   second = symbol_place old.told s i x
 
   abbrev whole : Call SymPlace
-  whole = symshndx old.told s p i
+  whole = symbol_shndx_place old.told s p i
 
   looked_for : table_read old.told old.o s stated.0 ≡ table_read old.told old.o s x
   looked_for = same_table old.told old.o s x stated.0 stated.2

@@ -25,7 +25,7 @@ use Rattle.gelf_view.specs.declared.versions.Verneed.{Verneed}
 use Rattle.gelf_view.specs.declared.versions.Vernaux.{Vernaux}
 use Rattle.gelf_view.specs.declared.symbols.SymPlace.{SymPlace}
 use Rattle.gelf_view.specs.declared.symbols.SymPlace.TheVariants as special
-use Rattle.gelf_view.specs.Notes.{note_align, note_at, no_header}
+use Rattle.gelf_view.specs.Notes.{note_align, note_at, note_header_refusal}
 use Rattle.gelf_view.specs.Records.{record_at}
 use Rattle.gelf_view.specs.Versions.{verdef_at, verdaux_at, verneed_at, vernaux_at}
 
@@ -73,7 +73,8 @@ note s p at = bytes_reader s p (λ o. note_answer o s p at)
 abbrev pub note_refusals : Object → ℕ → ℕ → ℕ → Refusals
 note_refusals o s p at = record {
   unread = lend_refusal o kinds.Bytes s p;
-  early = first_refusal (lend_refusal o kinds.Bytes s p ∷ no_header (count_at o s p) at ∷ []);
+  early = first_refusal (lend_refusal o kinds.Bytes s p ∷ note_header_refusal
+      (count_at o s p) at ∷ []);
   met = λ e. e ≡ BadChain at;
 }
 
@@ -101,11 +102,11 @@ unfoldable pub vernaux_answer : Object → ℕ → ℕ → ℕ → Result Vernau
 vernaux_answer o s p at = bytes_answer o s p >>= λ bytes. vernaux_at o.header.order bytes at
 
 -- where the entries of a version section begin: an empty one has none
-abbrev pub first_place : ℕ → Option ℕ
-first_place size = if size == 0 then None else Some 0
+abbrev pub first_version_place : ℕ → Option ℕ
+first_version_place size = if size == 0 then None else Some 0
 
 unfoldable pub first_entry_answer : Object → ℕ → ℕ → Result (Option ℕ) ElfError
-first_entry_answer o s p = bytes_answer o s p >>= λ bytes. Ok (first_place (length bytes))
+first_entry_answer o s p = bytes_answer o s p >>= λ bytes. Ok (first_version_place (length bytes))
 
 abbrev pub first_entry : ℕ → ℕ → Call (Option ℕ)
 first_entry s p = bytes_reader s p (λ o. first_entry_answer o s p)
@@ -133,12 +134,12 @@ abbrev pub is_index_table : ℕ → Section → Bool
 is_index_table s c = c.header.stype == SHT_SYMTAB_SHNDX && c.header.link == s
 
 -- the first such section, as a caller has it
-abbrev pub IsTable : Object → ℕ → Option ScnId → Type 0
-IsTable o s table = option_map (λ x. x.0) table ≡ sections.shndx_table o s
+abbrev pub IsShndxTable : Object → ℕ → Option ScnId → Type 0
+IsShndxTable o s table = option_map (λ x. x.0) table ≡ sections.shndx_table o s
 
 -- word i of that table
-abbrev pub extended : ℕ → ℕ → Call ℕ
-extended s i = record {
+abbrev pub extended_index_word : ℕ → ℕ → Call ℕ
+extended_index_word s i = record {
   answer = λ o. sections.extended_index o s i;
   after = λ o. o;
   reads = λ o. sections.word_reads o i (sections.shndx_table o s);
@@ -150,5 +151,5 @@ abbrev pub symbol_place : Bool → ℕ → ℕ → Sym → Call SymPlace
 symbol_place told s i x = sections.place_by told special.Special special.Section s i x
 
 -- gelf_getsymshndx, over a source that tells its bytes or does not
-abbrev pub symshndx : Bool → ℕ → ℕ → ℕ → Call SymPlace
-symshndx told s p i = sections.symshndx told special.Special special.Section s p i
+abbrev pub symbol_shndx_place : Bool → ℕ → ℕ → ℕ → Call SymPlace
+symbol_shndx_place told s p i = sections.symshndx told special.Special special.Section s p i

@@ -127,10 +127,11 @@ aux_answer read place =
     else (if place.last then Err (BadChain place.at) else result_map Some (read place.at))
 
 -- where it leaves the place: behind the record that it gave
-abbrev pub IsBehind : {A E : Type 0} → Result (Option A) E → (A → ℕ) → AuxPlace → AuxPlace → Type 0
-IsBehind (Ok (Some x)) next old new = (0 < old.left) × (new ≡ next_aux old (next x))
-IsBehind (Ok None) next old new = new ≡ old
-IsBehind (Err e) next old new = new ≡ old
+abbrev pub IsBehindRecord : {A E : Type 0} → Result (Option A) E → (A → ℕ) → AuxPlace → AuxPlace
+    → Type 0
+IsBehindRecord (Ok (Some x)) next old new = (0 < old.left) × (new ≡ next_aux old (next x))
+IsBehindRecord (Ok None) next old new = new ≡ old
+IsBehindRecord (Err e) next old new = new ≡ old
 
 -- one of them, and those behind it
 abbrev pub aux_then : {A : Type 0} → Chain A → Option A → Chain A

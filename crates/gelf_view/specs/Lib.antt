@@ -3,7 +3,7 @@ pub use Rattle.elf_descriptor.specs.elf_ident
 pub use Rattle.elf_descriptor.specs.elf_layout
 pub use Rattle.elf_descriptor.specs.elf_object
 pub use Rattle.elf_descriptor.specs.elf_xlate
-pub use Rattle.elf_descriptor.specs.object_laws
+pub use Rattle.elf_descriptor.specs.law_object
 pub use Rattle.elf_descriptor.specs.section_data
 pub use Rattle.elf_descriptor.specs.strtab_build
 pub mod Records

@@ -75,8 +75,8 @@ note_at order align bytes at =
     >>= λ header. result_map Some (note_with order align (length bytes) header at)
 
 -- what is refused by the number of the bytes alone
-abbrev pub no_header : ℕ → ℕ → Option ElfError
-no_header size at =
+abbrev pub note_header_refusal : ℕ → ℕ → Option ElfError
+note_header_refusal size at =
     refused_if (not (at == size) && nat_lt size (at + NOTE_HEADER_SIZE)) (BadChain at)
 
 -- a note at a place lies in so many bytes, and the next one comes after it

@@ -30,8 +30,8 @@ shorter_than n None = None
 shorter_than n (Some string) = if nat_lt (length string) n then Some string else None
 
 -- the first bytes of a string, so many at most, or none
-abbrev pub front_of : ℕ → Option (List ℕ) → Option (List ℕ)
-front_of n string = option_map (λ bytes. take n bytes) string
+abbrev pub first_bytes_of : ℕ → Option (List ℕ) → Option (List ℕ)
+first_bytes_of n string = option_map (λ bytes. take n bytes) string
 
 -- a string begins at each place of bytes
 abbrev pub AreEnded : List ℕ → Type 0

@@ -9,7 +9,7 @@ use Rattle.elf_descriptor.specs.elf_object.Words.{result_map}
 use Rattle.elf_descriptor.specs.elf_object.Object.{Object, section_at}
 use Rattle.elf_descriptor.specs.elf_object.Calls.{Call}
 use Rattle.elf_descriptor.specs.elf_object.Strings as strings
-use Rattle.gelf_view.specs.Records.{front_of}
+use Rattle.gelf_view.specs.Records.{first_bytes_of}
 
 -- the errors that a definition states
 abbrev pub is_refusal : ElfError → Bool
@@ -42,8 +42,8 @@ name_memory s o loaded held =
     not (o.header.shstrndx == 0)
     && (strings.strptr o.header.shstrndx (section_at o s).header.name).memory o loaded held
 
-abbrev pub section_name : ℕ → Call (Option (List ℕ))
-section_name s = record {
+abbrev pub read_section_name : ℕ → Call (Option (List ℕ))
+read_section_name s = record {
   answer = λ o. Ok (strings.section_name o s);
   after = λ o. o;
   reads = name_reads s;
@@ -53,14 +53,14 @@ section_name s = record {
 -- the first bytes of a section's name, so many at most
 abbrev pub section_name_front : ℕ → ℕ → Call (Option (List ℕ))
 section_name_front s n = record {
-  answer = λ o. Ok (front_of n (strings.section_name o s));
+  answer = λ o. Ok (first_bytes_of n (strings.section_name o s));
   after = λ o. o;
   reads = name_reads s;
   memory = name_memory s;
 }
 
-abbrev pub is_named : ℕ → List ℕ → Call Bool
-is_named s name = record {
+abbrev pub is_section_named : ℕ → List ℕ → Call Bool
+is_section_named s name = record {
   answer = λ o. Ok (strings.is_name name (strings.section_name o s));
   after = λ o. o;
   reads = name_reads s;

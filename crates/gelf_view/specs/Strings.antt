@@ -20,14 +20,14 @@ bytes_in o s p = piece_bytes o.header.class o.header.order (section_at o s).raw 
 -- ---- One piece
 
 -- whether an offset is in a piece of so many bytes, which comes next after an end
-abbrev pub is_in : ℕ → ℕ → ℕ → ℕ → Bool
-is_in end align len offset =
+abbrev pub is_in_piece : ℕ → ℕ → ℕ → ℕ → Bool
+is_in_piece end align len offset =
     nat_le (rounded_up end align) offset && nat_lt offset (rounded_up end align + len)
 
 -- it is so far from the piece's first byte; or behind the piece, which ends there; or before it
 abbrev pub Stands : ℕ → ℕ → ℕ → ℕ → Stand → Type 0
 Stands end align len offset (Covers start) =
-    (is_in end align len offset ≡ true) × (start ≡ offset - rounded_up end align)
+    (is_in_piece end align len offset ≡ true) × (start ≡ offset - rounded_up end align)
 Stands end align len offset (Ends next) = (next ≡ rounded_up end align + len) × (next ≤ offset)
 Stands end align len offset Before = offset < rounded_up end align
 

@@ -17,7 +17,7 @@ pub struct AuxPlace {
 }
 
 impl AuxPlace {
-    /// The place behind the record there, which tells `next`.
+    /// The place after the record there, which tells `next`.
     pub(crate) fn behind(self, next: u32) -> AuxPlace
         requires small { self.at < 2 ^ 63 }
         requires some { 0 < self.left }
@@ -43,7 +43,7 @@ fn first_of(at: u64, aux: u32, cnt: u16) -> AuxPlace
     }
 }
 
-/// The place of the entry behind one.
+/// The place of the entry after one.
 fn next_of(at: u64, next: u32) -> Option<u64>
     requires { at < 2 ^ 63 }
     ensures { result ≡ next_place at next }
@@ -55,7 +55,7 @@ fn next_of(at: u64, next: u32) -> Option<u64>
 }
 
 impl Verdef {
-    /// Where the names of the definition stand that was read at a place.
+    /// Where the names of the definition are that was read at a place.
     pub fn first_aux(&self, at: u64) -> AuxPlace
         requires { at < 2 ^ 63 }
         ensures { result ≡ first_aux at self.now.aux self.now.cnt }
@@ -63,7 +63,7 @@ impl Verdef {
         first_of(at, self.aux, self.cnt)
     }
 
-    /// The place of the definition behind the one that was read at a place, or None after the last.
+    /// The place of the definition after the one that was read at a place, or None after the last.
     pub fn next_place(&self, at: u64) -> Option<u64>
         requires { at < 2 ^ 63 }
         ensures { result ≡ next_place at self.now.next }
@@ -73,7 +73,7 @@ impl Verdef {
 }
 
 impl Verneed {
-    /// Where the versions of the needs stand that were read at a place.
+    /// Where the versions of the needs are that were read at a place.
     pub fn first_aux(&self, at: u64) -> AuxPlace
         requires { at < 2 ^ 63 }
         ensures { result ≡ first_aux at self.now.aux self.now.cnt }
@@ -81,7 +81,7 @@ impl Verneed {
         first_of(at, self.aux, self.cnt)
     }
 
-    /// The place of the needs behind those that were read at a place, or None after the last.
+    /// The place of the needs after those that were read at a place, or None after the last.
     pub fn next_place(&self, at: u64) -> Option<u64>
         requires { at < 2 ^ 63 }
         ensures { result ≡ next_place at self.now.next }

@@ -5,7 +5,7 @@ ghost use Rattle.elf_descriptor.specs.elf_object.Words.{Answers};
 ghost use Rattle.elf_descriptor.specs.Reads.{Queries, wanted};
 ghost use Rattle.gelf_view.specs.Calls as calls;
 ghost use Rattle.gelf_view.specs.Calls.{record_call, verdaux_answer, vernaux_answer};
-ghost use Rattle.gelf_view.specs.Chains.{aux_answer, aux_from, aux_then, verdauxs, vernauxs, IsBehind, IsLedBy};
+ghost use Rattle.gelf_view.specs.Chains.{aux_answer, aux_from, aux_then, verdauxs, vernauxs, IsBehindRecord, IsLedBy};
 
 use crate::aux::AuxPlace;
 use crate::records::Record;
@@ -41,9 +41,9 @@ impl Aux for Vernaux {
     }
 }
 
-/// Reads the record at a place, and moves the place behind it. It gives None where none of the
-/// entry's records is left. It refuses `BadChain` with the place where the record before said that
-/// it is the last one, and else as `read_record` does; the place stays then.
+/// Reads the record at a place, and moves the place after it. It gives None where none of the
+/// entry's records is left. It fails with `BadChain` with the place where the record before said
+/// that it is the last one, and else as `read_record` does; the place stays then.
 fn read_next_aux<S: Source, R: Aux>(
     elf: &mut Elf<S>,
     d: DataId,
@@ -53,7 +53,7 @@ fn read_next_aux<S: Source, R: Aux>(
         (wanted (record_call R.size R.of d.section d.piece place.old.at) elf.old) result
         (aux_answer (λ at. (record_call R.size R.of d.section d.piece at).answer elf.old.o)
         place.old) }
-    ensures behind { IsBehind result R.next_of place.old place.new }
+    ensures behind { IsBehindRecord result R.next_of place.old place.new }
     ensures queries { Queries S.Source (record_call R.size R.of d.section d.piece place.old.at) []
         result elf.old elf.new }
 {
@@ -73,11 +73,11 @@ fn read_next_aux<S: Source, R: Aux>(
 }
 
 /// The next name of a version definition, in the byte order of the image, or None exactly where
-/// none is left; the place goes on behind it, and stays where nothing is given. It refuses in this
-/// order: `BadChain` with the place where the name before said that it is the last one; as a lend
-/// of bytes, `NoSection`, `NoData`, `WrongKind`, and for the clean home piece `OutOfFile`; then
-/// `Memory` or `Read` where its home is not loaded, and `BadChain` with the place where the record
-/// does not lie in the piece. It marks nothing dirty.
+/// none is left; the place goes on after it, and stays where nothing is given. It fails with, in
+/// this order: `BadChain` with the place where the name before said that it is the last one; as a
+/// lend of bytes, `NoSection`, `NoData`, `WrongKind`, and for the clean home piece `OutOfFile`;
+/// then `Memory` or `Read` where its home is not loaded, and `BadChain` with the place where the
+/// record does not lie in the piece. It marks nothing dirty.
 ///
 /// Source: gelf_getverdaux of gelf(3E).
 #[tactic(auto, unfolding(crate::specs::Calls::verdaux_answer, crate::specs::Versions::verdaux_at))]
@@ -89,7 +89,7 @@ pub fn next_verdaux<S: Source>(
     ensures answer { Answers elf.old.told
         (wanted (calls.verdaux d.section d.piece place.old.at) elf.old) result
         (aux_answer (verdaux_answer elf.old.o d.section d.piece) place.old) }
-    ensures behind { IsBehind result (λ x. x.next) place.old place.new }
+    ensures behind { IsBehindRecord result (λ x. x.next) place.old place.new }
     ensures chain { IsTrue elf.old.told → IsLedBy result
         (aux_then (verdauxs elf.old.o d.section d.piece place.new))
         (verdauxs elf.old.o d.section d.piece place.old) }
@@ -100,7 +100,7 @@ pub fn next_verdaux<S: Source>(
 }
 
 /// The next version that is needed of a file, in the byte order of the image, or None exactly where
-/// none is left; the place goes on behind it, and stays where nothing is given. It refuses as
+/// none is left; the place goes on after it, and stays where nothing is given. It fails as
 /// `next_verdaux` does. It marks nothing dirty.
 ///
 /// Source: gelf_getvernaux of gelf(3E).
@@ -113,7 +113,7 @@ pub fn next_vernaux<S: Source>(
     ensures answer { Answers elf.old.told
         (wanted (calls.vernaux d.section d.piece place.old.at) elf.old) result
         (aux_answer (vernaux_answer elf.old.o d.section d.piece) place.old) }
-    ensures behind { IsBehind result (λ x. x.next) place.old place.new }
+    ensures behind { IsBehindRecord result (λ x. x.next) place.old place.new }
     ensures chain { IsTrue elf.old.told → IsLedBy result
         (aux_then (vernauxs elf.old.o d.section d.piece place.new))
         (vernauxs elf.old.o d.section d.piece place.old) }

@@ -63,7 +63,7 @@ fn count_of_kind<S: Source, T: Item>(elf: &Elf<S>, d: DataId, kind: Kind) -> Res
     count_there::<S, T>(elf, d)
 }
 
-/// The number of items of a piece of the items' kind. It refuses as a lend of them, in this order:
+/// The number of items of a piece of the items' kind. It fails as a lend of them, in this order:
 /// `NoSection`, `NoData`, `WrongKind` with the kind that the piece holds, and for the clean home
 /// piece `OutOfFile` and `Ragged`. It reads nothing and takes no memory: of a clean piece it tells
 /// the number by the home's length.

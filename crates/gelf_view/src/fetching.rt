@@ -1,4 +1,4 @@
-//! The bytes of a piece, made to be at hand and given where they stand.
+//! The bytes of a piece, made to be in memory and given where they are.
 
 ghost use Rattle.std.specs.Prelude.{◌≡◌, ◌||◌, true, IsTrue, IfErr, OnOk, [], None, is_some, length, Ok};
 ghost use Rattle.elf_types.specs.Answers.{answered, IsRefusal};
@@ -18,7 +18,7 @@ use elf_descriptor::prelude::{Items, Source};
 use elf_descriptor::{Elf, Held};
 use elf_types::{Class, DataId, ElfError, Kind, Order, ScnId};
 
-/// Reads a section's home where its bytes are not held. It refuses in this order: `NoSection`,
+/// Reads a section's home where its bytes are not held. It fails with, in this order: `NoSection`,
 /// `OutOfFile`, then `Memory` or `Read`.
 fn load<S: Source>(elf: &mut Elf<S>, s: ScnId) -> Result<(), ElfError>
     ensures answer { Answers true (wanted (calls.raw s.0) elf.old) result
@@ -57,7 +57,8 @@ fn own_if_bytes<S: Source>(elf: &Elf<S>, d: DataId, kind: Kind) -> Result<bool, 
     }
 }
 
-/// Whether a piece of bytes is own. It refuses in this order: `NoSection`, `NoData`, `WrongKind`.
+/// Whether a piece of bytes is own. It fails with, in this order: `NoSection`, `NoData`,
+/// `WrongKind`.
 fn is_own<S: Source>(elf: &Elf<S>, d: DataId) -> Result<bool, ElfError>
     ensures answer { result ≡ answered (kind_refusal elf.now.o kinds.Bytes d.section d.piece)
         (is_some (piece_at elf.now.o d.section d.piece).own) }
@@ -69,7 +70,7 @@ fn is_own<S: Source>(elf: &Elf<S>, d: DataId) -> Result<bool, ElfError>
     }
 }
 
-/// Makes the bytes of a piece of bytes be at hand, which is own or not.
+/// Makes sure that the bytes of a piece of bytes are in memory, which is own or not.
 fn fetch_home<S: Source>(elf: &mut Elf<S>, d: DataId, own: bool) -> Result<(), ElfError>
     requires kind { kind_refusal elf.old.o kinds.Bytes d.section d.piece ≡ None }
     requires own { own ≡ is_some (piece_at elf.old.o d.section d.piece).own }
@@ -85,9 +86,9 @@ fn fetch_home<S: Source>(elf: &mut Elf<S>, d: DataId, own: bool) -> Result<(), E
     load(elf, ScnId(d.section))
 }
 
-/// Makes the bytes of a piece be at hand: it is own, or its home is loaded. It refuses in this
-/// order: `NoSection`, `NoData`, `WrongKind`, and for the clean home piece `OutOfFile`; then
-/// `Memory` or `Read`.
+/// Makes sure that the bytes of a piece are in memory: it is own, or its home is loaded. It fails
+/// with, in this order: `NoSection`, `NoData`, `WrongKind`, and for the clean home piece
+/// `OutOfFile`; then `Memory` or `Read`.
 pub fn fetch_bytes<S: Source>(elf: &mut Elf<S>, d: DataId) -> Result<(), ElfError>
     ensures answer { Answers true (wanted (bytes d.section d.piece) elf.old) result
         (answered (lend_refusal elf.old.o kinds.Bytes d.section d.piece) tt) }
@@ -101,7 +102,7 @@ pub fn fetch_bytes<S: Source>(elf: &mut Elf<S>, d: DataId) -> Result<(), ElfErro
     }
 }
 
-/// The bytes of a piece that are at hand.
+/// The bytes of a piece that are in memory.
 pub fn bytes_there<S: Source>(elf: &Elf<S>, d: DataId) -> &[u8]
     requires passed { lend_refusal elf.now.o kinds.Bytes d.section d.piece ≡ None }
     requires hand { IsTrue (is_some (piece_at elf.now.o d.section d.piece).own

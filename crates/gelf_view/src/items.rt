@@ -8,7 +8,7 @@ use elf_descriptor::Elf;
 use elf_descriptor::prelude::Source;
 use elf_types::{DataId, Dyn, ElfError, Rel, Rela, Sym};
 
-/// The symbol at an index of a piece. It refuses as a lend of symbols, in this order: `NoSection`,
+/// The symbol at an index of a piece. It fails as a lend of symbols, in this order: `NoSection`,
 /// `NoData`, `WrongKind`, and for the clean home piece `OutOfFile` and `Ragged`; then `Memory` or
 /// `Read` where its home is not loaded, and `NoEntry`. It marks nothing dirty.
 ///
@@ -22,7 +22,7 @@ pub fn sym<S: Source>(elf: &mut Elf<S>, d: DataId, i: u64) -> Result<Sym, ElfErr
     elf.item::<Sym>(d, i)
 }
 
-/// The relocation at an index of a piece. It refuses as a lend of such relocations, in this order:
+/// The relocation at an index of a piece. It fails as a lend of such relocations, in this order:
 /// `NoSection`, `NoData`, `WrongKind`, and for the clean home piece `OutOfFile` and `Ragged`; then
 /// `Memory` or `Read` where its home is not loaded, and `NoEntry`. It marks nothing dirty.
 ///
@@ -36,8 +36,8 @@ pub fn rel<S: Source>(elf: &mut Elf<S>, d: DataId, i: u64) -> Result<Rel, ElfErr
     elf.item::<Rel>(d, i)
 }
 
-/// The relocation with an addend at an index of a piece. It refuses as a lend of such relocations,
-/// in this order: `NoSection`, `NoData`, `WrongKind`, and for the clean home piece `OutOfFile` and
+/// The relocation with an addend at an index of a piece. It fails as a lend of such relocations, in
+/// this order: `NoSection`, `NoData`, `WrongKind`, and for the clean home piece `OutOfFile` and
 /// `Ragged`; then `Memory` or `Read` where its home is not loaded, and `NoEntry`. It marks nothing
 /// dirty.
 ///
@@ -51,8 +51,8 @@ pub fn rela<S: Source>(elf: &mut Elf<S>, d: DataId, i: u64) -> Result<Rela, ElfE
     elf.item::<Rela>(d, i)
 }
 
-/// The entry of the dynamic section at an index of a piece. It refuses as a lend of such entries,
-/// in this order: `NoSection`, `NoData`, `WrongKind`, and for the clean home piece `OutOfFile` and
+/// The entry of the dynamic section at an index of a piece. It fails as a lend of such entries, in
+/// this order: `NoSection`, `NoData`, `WrongKind`, and for the clean home piece `OutOfFile` and
 /// `Ragged`; then `Memory` or `Read` where its home is not loaded, and `NoEntry`. It marks nothing
 /// dirty.
 ///
@@ -66,7 +66,7 @@ pub fn dynent<S: Source>(elf: &mut Elf<S>, d: DataId, i: u64) -> Result<Dyn, Elf
     elf.item::<Dyn>(d, i)
 }
 
-/// The four-byte number at an index of a piece. It refuses as a lend of four-byte numbers, in this
+/// The four-byte number at an index of a piece. It fails as a lend of four-byte numbers, in this
 /// order: `NoSection`, `NoData`, `WrongKind`, and for the clean home piece `OutOfFile` and
 /// `Ragged`; then `Memory` or `Read` where its home is not loaded, and `NoEntry`. It marks nothing
 /// dirty.
@@ -81,7 +81,7 @@ pub fn word<S: Source>(elf: &mut Elf<S>, d: DataId, i: u64) -> Result<u32, ElfEr
     elf.item::<u32>(d, i)
 }
 
-/// The two-byte number at an index of a piece. It refuses as a lend of two-byte numbers, in this
+/// The two-byte number at an index of a piece. It fails as a lend of two-byte numbers, in this
 /// order: `NoSection`, `NoData`, `WrongKind`, and for the clean home piece `OutOfFile` and
 /// `Ragged`; then `Memory` or `Read` where its home is not loaded, and `NoEntry`. It marks nothing
 /// dirty.
@@ -96,9 +96,9 @@ pub fn half<S: Source>(elf: &mut Elf<S>, d: DataId, i: u64) -> Result<u16, ElfEr
     elf.item::<u16>(d, i)
 }
 
-/// The address at an index of a piece. It refuses as a lend of addresses, in this order:
-/// `NoSection`, `NoData`, `WrongKind`, and for the clean home piece `OutOfFile` and `Ragged`; then
-/// `Memory` or `Read` where its home is not loaded, and `NoEntry`. It marks nothing dirty.
+/// The address at an index of a piece. It fails as a lend of addresses, in this order: `NoSection`,
+/// `NoData`, `WrongKind`, and for the clean home piece `OutOfFile` and `Ragged`; then `Memory` or
+/// `Read` where its home is not loaded, and `NoEntry`. It marks nothing dirty.
 ///
 /// Source: gABI chapter 4, "Data Representation".
 #[tactic(auto, unfolding(elf_descriptor::specs::Passed::addr_answer))]

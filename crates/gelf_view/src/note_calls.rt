@@ -29,10 +29,9 @@ fn alignment<S: Source>(elf: &Elf<S>, s: u32) -> u64
 }
 
 /// The note at a place of a piece, or None exactly where the place is the end of the piece. It
-/// refuses as a lend of bytes, in this order: `NoSection`, `NoData`, `WrongKind`, and for the clean
-/// home piece `OutOfFile`; then `Memory` or `Read` where its home is not loaded, and
-/// `BadChain { at }` exactly where header, name or descriptor do not lie in the piece. It marks
-/// nothing dirty.
+/// fails as a lend of bytes, in this order: `NoSection`, `NoData`, `WrongKind`, and for the clean
+/// home piece `OutOfFile`; then `Memory` or `Read` where its home is not loaded, and `BadChain { at
+/// }` exactly where header, name or descriptor do not lie in the piece. It marks nothing dirty.
 ///
 /// Source: gABI chapter 5, "Note Section"; gelf_getnote of gelf(3E).
 #[tactic(auto, unfolding(crate::specs::Calls::note_answer))]

@@ -46,7 +46,7 @@ fn rounded_up_to(place: u64, align: u64, end: u64) -> u64
 }
 
 /// The note at a place of bytes in a byte order, by the alignment of its section's notes. None
-/// comes exactly where the place is the end of the bytes. It refuses `BadChain { at }` exactly
+/// comes exactly where the place is the end of the bytes. It fails with `BadChain { at }` exactly
 /// where header, name or descriptor do not lie in the bytes, and takes no memory.
 ///
 /// Source: gABI chapter 5, "Note Section"; gelf_getnote of gelf(3E).
@@ -65,7 +65,7 @@ pub fn note_in(bytes: &[u8], at: u64, align: u64, order: Order) -> Result<Option
     Ok(Some(note))
 }
 
-/// The note at a place of `size` bytes, where that header stands.
+/// The note at a place of `size` bytes, where that header is.
 fn note_with(
     header: &[u8],
     at: u64,

@@ -1,4 +1,4 @@
-//! The bytes of a piece, where they stand.
+//! The bytes of a piece, where they are.
 
 ghost use Rattle.std.specs.Prelude.{[]};
 ghost use Rattle.std.specs.Borrow.{sem};
@@ -12,7 +12,7 @@ use elf_descriptor::Elf;
 use elf_descriptor::prelude::Source;
 use elf_types::{DataId, ElfError};
 
-/// The bytes of a piece of bytes: its own, or for the clean home piece the home's. It refuses as a
+/// The bytes of a piece of bytes: its own, or for the clean home piece the home's. It fails as a
 /// lend of bytes, in this order: `NoSection`, `NoData`, `WrongKind`, and for the clean home piece
 /// `OutOfFile`; then `Memory` or `Read` where its home is not loaded. Nothing is translated or
 /// copied, and nothing is marked dirty.

@@ -11,7 +11,7 @@ ghost use Rattle.gelf_view.specs.Constants.{record_sizes};
 use elf_descriptor::prelude::{get_half, get_word};
 use elf_types::{Class, ElfError, Order};
 
-/// The bytes of the record of `size` bytes that stands at a place. It refuses `BadChain { at }`
+/// The bytes of the record of `size` bytes that is at a place. It fails with `BadChain { at }`
 /// exactly where the record does not lie in the bytes, and takes no memory.
 #[tactic(auto, unfolding(crate::specs::Records::record_at))]
 pub fn record_in(bytes: &[u8], at: u64, size: usize) -> Result<&[u8], ElfError>
@@ -35,8 +35,8 @@ pub trait Record {
     // The record that bytes hold in an order.
     ghost of: { TheOrder → List ℕ → Self };
 
-    /// The record at a place of bytes in a byte order. It refuses `BadChain { at }` exactly where
-    /// the record does not lie in the bytes, and takes no memory.
+    /// The record at a place of bytes in a byte order. It fails with `BadChain { at }` exactly
+    /// where the record does not lie in the bytes, and takes no memory.
     fn read_in(bytes: &[u8], at: u64, order: Order) -> Result<Self, ElfError>
         ensures { result ≡ result_map (of order) (record_at size bytes.now at) };
 }
@@ -59,8 +59,8 @@ pub fn word_at(bytes: &[u8], place: usize, order: Order) -> u32
     get_word(Class::C32, order, &bytes[place..place + 4])
 }
 
-/// Each constant is the number that stands beside its name in the tables of specs/Constants. It is
-/// for the reader and for proofs, and does nothing.
-pub fn constants_are()
+/// Each constant is the number that is beside its name in the tables of specs/Constants. It is for
+/// the reader and for proofs, and does nothing.
+pub fn record_sizes_are()
     ensures { are_numbers record_sizes ≡ true }
 {}

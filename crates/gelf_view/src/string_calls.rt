@@ -74,7 +74,7 @@ fn count_of_pieces<S: Source>(elf: &Elf<S>, s: ScnId) -> u32
     }
 }
 
-/// The number of pieces of a section of strings. It refuses in this order: `NoSection`, and
+/// The number of pieces of a section of strings. It fails with, in this order: `NoSection`, and
 /// `NotStrings` where the present type is not `SHT_STRTAB` or a piece does not hold bytes.
 fn check_strings<S: Source>(elf: &Elf<S>, s: ScnId) -> Result<u32, ElfError>
     ensures answer { result ≡ answered (no_strings elf.now.o s.0) (piece_count elf.now.o s.0) }
@@ -136,7 +136,7 @@ fn check_home<S: Source>(elf: &Elf<S>, s: ScnId, count: u32) -> Result<u64, ElfE
     Err(ElfError::OutOfFile { section: s.0 })
 }
 
-/// Where the string at an offset begins. It refuses in this order: `NoSection`, `NotStrings`,
+/// Where the string at an offset begins. It fails with, in this order: `NoSection`, `NotStrings`,
 /// `OutOfFile`, `NoString`. It reads nothing.
 fn start_of<S: Source>(elf: &Elf<S>, s: ScnId, offset: u64) -> Result<Start, ElfError>
     ensures begins { IfOk result (λ x. Begins elf.now.o s.0 offset x.piece x.start) }
@@ -148,8 +148,8 @@ fn start_of<S: Source>(elf: &Elf<S>, s: ScnId, offset: u64) -> Result<Start, Elf
     find_start(elf, s, count, home_len, offset)
 }
 
-/// Makes the bytes of a piece be at hand, as `fetch_bytes` does, and notes where the last NUL of
-/// its home stands.
+/// Makes sure that the bytes of a piece are in memory, as `fetch_bytes` does, and notes where the
+/// last NUL of its home is.
 fn fetch_strings<S: Source>(elf: &mut Elf<S>, d: DataId) -> Result<(), ElfError>
     ensures answer { Answers true (wanted (bytes d.section d.piece) elf.old) result
         (answered (lend_refusal elf.old.o kinds.Bytes d.section d.piece) tt) }
@@ -166,7 +166,7 @@ fn fetch_strings<S: Source>(elf: &mut Elf<S>, d: DataId) -> Result<(), ElfError>
     }
 }
 
-/// Makes the bytes of the piece be at hand in which the string at an offset begins.
+/// Makes sure that the bytes of the piece are in memory in which the string at an offset begins.
 fn fetch_piece<S: Source>(
     elf: &mut Elf<S>,
     s: ScnId,
@@ -192,9 +192,9 @@ fn fetch_piece<S: Source>(
     }
 }
 
-/// Makes the bytes of the piece be at hand in which the string at an offset begins, and tells where
-/// it begins in it. It refuses in this order: `NoSection`, `NotStrings`, `OutOfFile`, `NoString`,
-/// then `Memory` or `Read`.
+/// Makes sure that the bytes of the piece are in memory in which the string at an offset begins,
+/// and tells where it begins in it. It fails with, in this order: `NoSection`, `NotStrings`,
+/// `OutOfFile`, `NoString`, then `Memory` or `Read`.
 fn fetch_start<S: Source>(elf: &mut Elf<S>, s: ScnId, offset: u64) -> Result<Start, ElfError>
     ensures begins { IfOk result (λ x. Begins elf.old.o s.0 offset x.piece x.start) }
     ensures hand { IfOk result (λ x. IsTrue (is_some (piece_at elf.new.o s.0 x.piece).own
@@ -210,8 +210,8 @@ fn fetch_start<S: Source>(elf: &mut Elf<S>, s: ScnId, offset: u64) -> Result<Sta
     }
 }
 
-/// The same, and before it is noted where the pieces end, so that later strings of the section are
-/// found in few steps.
+/// Loads the piece of a string as `fetch_start` does, and before it notes where the pieces end, so
+/// that later strings of the section are found in few steps.
 #[inline(never)]
 fn note_and_fetch<S: Source>(elf: &mut Elf<S>, s: ScnId, offset: u64) -> Result<Start, ElfError>
     ensures begins { IfOk result (λ x. Begins elf.old.o s.0 offset x.piece x.start) }
@@ -263,7 +263,7 @@ fn own_string<S: Source>(
 }
 
 /// The string that begins at a place of a home that is loaded, or `Unended` with the offset where
-/// no NUL follows in it: that is known at once behind the last NUL.
+/// no NUL follows in it: that is known at once after the last NUL.
 fn home_string<S: Source>(
     elf: &Elf<S>,
     s: ScnId,
@@ -282,7 +282,7 @@ fn home_string<S: Source>(
     }
 }
 
-/// The string that begins at a place of a piece whose bytes are at hand, or `Unended` with the
+/// The string that begins at a place of a piece whose bytes are in memory, or `Unended` with the
 /// offset where no NUL follows in it.
 fn string_there<S: Source>(
     elf: &Elf<S>,
@@ -309,7 +309,7 @@ fn string_there<S: Source>(
 }
 
 /// The string at an offset of a section's pieces, without its NUL: the bytes from there up to the
-/// first NUL, in the piece that covers the offset. It refuses in this order: `NoSection`;
+/// first NUL, in the piece that covers the offset. It fails with, in this order: `NoSection`;
 /// `NotStrings` where the section's type is not `SHT_STRTAB` or a piece does not hold bytes;
 /// `OutOfFile` where the home piece is clean and its home passes the image's end; `NoString` where
 /// no piece covers the offset, with the size of the section's data; then `Memory` or `Read` where

@@ -13,12 +13,12 @@ use elf_descriptor::prelude::{Source, rounded_within};
 use elf_descriptor::{Elf, Held};
 use elf_types::{DataId, ElfError, ScnId};
 
-/// Where an offset of a section stands to a piece.
+/// Where an offset of a section is to a piece.
 #[derive(Clone, Copy)]
 pub enum Stand {
     /// In the piece, so many bytes from its first one.
     Covers(u64),
-    /// Behind the piece, which ends there.
+    /// After the piece, which ends there.
     Ends(u64),
     /// Before the piece.
     Before,
@@ -29,11 +29,11 @@ pub enum Stand {
 pub struct Start {
     /// The number of its piece.
     pub piece: u32,
-    /// How many bytes of the piece stand before it.
+    /// How many bytes of the piece are before it.
     pub start: u64,
 }
 
-/// Where an offset stands to the piece of `len` bytes that comes next after an end.
+/// Where an offset is to the piece of `len` bytes that comes next after an end.
 fn stand_of(end: u64, align: u64, len: u64, offset: u64) -> Stand
     ensures { Stands end align len offset result }
 {

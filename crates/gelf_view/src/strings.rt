@@ -3,7 +3,7 @@
 ghost use Rattle.std.specs.Prelude.{◌≡◌, ◌==◌, ◌+◌, ◌-◌, drop, false, length, slice_get, take, true, Some};
 ghost use Rattle.std.specs.Option.{option_copied, option_map_or};
 ghost use Rattle.elf_descriptor.specs.elf_object.Strings.{has_nul, is_name};
-ghost use Rattle.gelf_view.specs.Records.{front_of, shorter_than, string_front};
+ghost use Rattle.gelf_view.specs.Records.{first_bytes_of, shorter_than, string_front};
 
 use memchr::memchr;
 
@@ -67,7 +67,7 @@ fn end_in_nul(bytes: &[u8]) -> bool
 /// of it where it has no more. It looks at so many bytes.
 fn front_of_ended(bytes: &[u8], longest: usize) -> &[u8]
     requires { has_nul bytes.now ≡ true }
-    ensures { Some result.now ≡ front_of (longest + 1) (string_front bytes.now) }
+    ensures { Some result.now ≡ first_bytes_of (longest + 1) (string_front bytes.now) }
 {
     let front = front_bytes(bytes, longest);
     match string_in(front) {
@@ -78,7 +78,7 @@ fn front_of_ended(bytes: &[u8], longest: usize) -> &[u8]
 
 /// The first `longest + 1` bytes of a string that was found, if one was.
 pub fn front_of_found(found: Option<&[u8]>, longest: usize) -> Option<&[u8]>
-    ensures { option_copied result ≡ front_of (longest + 1) (option_copied found.entry) }
+    ensures { option_copied result ≡ first_bytes_of (longest + 1) (option_copied found.entry) }
 {
     match found {
         Some(string) => Some(front_bytes(string, longest)),
@@ -89,7 +89,7 @@ pub fn front_of_found(found: Option<&[u8]>, longest: usize) -> Option<&[u8]>
 /// The first `longest + 1` bytes of the string with which bytes begin, or None exactly where no NUL
 /// follows.
 fn front_of_string(bytes: &[u8], longest: usize) -> Option<&[u8]>
-    ensures { option_copied result ≡ front_of (longest + 1) (string_front bytes.now) }
+    ensures { option_copied result ≡ first_bytes_of (longest + 1) (string_front bytes.now) }
 {
     if end_in_nul(bytes) {
         return Some(front_of_ended(bytes, longest));
@@ -104,7 +104,7 @@ fn front_of_string(bytes: &[u8], longest: usize) -> Option<&[u8]>
 /// Source: gABI chapter 4, "String Table".
 pub fn front_of_string_at(bytes: &[u8], place: u64, longest: usize) -> Option<&[u8]>
     ensures { option_copied result
-        ≡ front_of (longest + 1) (string_front (drop place bytes.now)) }
+        ≡ first_bytes_of (longest + 1) (string_front (drop place bytes.now)) }
 {
     let at = place as usize;
     if bytes.len() < at {

@@ -7,7 +7,7 @@ ghost use Rattle.elf_descriptor.specs.elf_object.Answers.{no_section};
 ghost use Rattle.elf_descriptor.specs.elf_object.SymbolSections.{symshndx_refusals};
 ghost use Rattle.elf_descriptor.specs.Reads.{Looks, wanted};
 ghost use Rattle.gelf_view.specs.Calls as calls;
-ghost use Rattle.gelf_view.specs.Calls.{extended, is_index_table, symbol_place, IsTable};
+ghost use Rattle.gelf_view.specs.Calls.{extended_index_word, is_index_table, symbol_place, IsShndxTable};
 
 use crate::items::{sym, word};
 use crate::symbols::SymPlace;
@@ -29,12 +29,12 @@ fn is_table_of<S: Source>(elf: &Elf<S>, table: u32, s: ScnId) -> bool
 }
 
 /// The table of extended indexes of the symbols of a section: the first section whose present type
-/// is `SHT_SYMTAB_SHNDX` and whose present link is that section. It refuses nothing, reads nothing
+/// is `SHT_SYMTAB_SHNDX` and whose present link is that section. It rejects nothing, reads nothing
 /// and takes no memory.
 ///
 /// Source: gABI chapter 4, "Sections", `SHT_SYMTAB_SHNDX`; elf_scnshndx of libelf.
 pub fn shndx_table<S: Source>(elf: &Elf<S>, s: ScnId) -> Option<ScnId>
-    ensures { IsTable elf.now.o s.0 result }
+    ensures { IsShndxTable elf.now.o s.0 result }
 {
     let count = elf.shnum();
     for table in 0..count {
@@ -45,9 +45,9 @@ pub fn shndx_table<S: Source>(elf: &Elf<S>, s: ScnId) -> Option<ScnId>
     None
 }
 
-/// That table where a symbol's index says that it is needed.
+/// The table of extended indexes, where a symbol's index says that it is needed.
 fn table_for<S: Source>(elf: &Elf<S>, s: ScnId, shndx: u16) -> Option<ScnId>
-    ensures { shndx ≡ SHN_XINDEX → IsTable elf.now.o s.0 result }
+    ensures { shndx ≡ SHN_XINDEX → IsShndxTable elf.now.o s.0 result }
 {
     if u32::from(shndx) != SHN_XINDEX {
         return None;
@@ -56,17 +56,17 @@ fn table_for<S: Source>(elf: &Elf<S>, s: ScnId, shndx: u16) -> Option<ScnId>
 }
 
 /// The extended index of symbol `i` of a section: word `i` in piece 0 of its table of extended
-/// indexes. Where there is no table it refuses `NoEntry` with count 0, and else as `word`.
+/// indexes. Where there is no table it fails with `NoEntry` with count 0, and else as `word`.
 fn extended_index<S: Source>(
     elf: &mut Elf<S>,
     s: ScnId,
     i: u64,
     table: Option<ScnId>,
 ) -> Result<u32, ElfError>
-    requires { IsTable elf.old.o s.0 table }
-    ensures answer { Answers elf.old.told (wanted (extended s.0 i) elf.old) result
-        ((extended s.0 i).answer elf.old.o) }
-    ensures looks { Looks S.Source (extended s.0 i) result elf.old elf.new }
+    requires { IsShndxTable elf.old.o s.0 table }
+    ensures answer { Answers elf.old.told (wanted (extended_index_word s.0 i) elf.old) result
+        ((extended_index_word s.0 i).answer elf.old.o) }
+    ensures looks { Looks S.Source (extended_index_word s.0 i) result elf.old elf.new }
 {
     match table {
         Some(table) => word(
@@ -83,8 +83,9 @@ fn extended_index<S: Source>(
 
 /// The section of a symbol that was looked at, which is symbol `i` of a section, as `symshndx`
 /// tells it: for who goes over the symbols of a section, and has looked for its table of extended
-/// indexes once. Where the index is `SHN_XINDEX` it refuses `NoEntry` with count 0 where there is
-/// no table, and else as `word` on it; `Memory` or `Read` may come there. It marks nothing dirty.
+/// indexes once. Where the index is `SHN_XINDEX` it fails with `NoEntry` with count 0 where there
+/// is no table, and else as `word` on it; `Memory` or `Read` may come there. It marks nothing
+/// dirty.
 ///
 /// Source: gABI chapter 4, "Symbol Table", `st_shndx`; gelf_getsymshndx of gelf(3E), which takes
 /// the data of both tables.
@@ -95,7 +96,7 @@ pub fn symbol_place<S: Source>(
     x: Sym,
     table: Option<ScnId>,
 ) -> Result<SymPlace, ElfError>
-    requires { x.shndx ≡ SHN_XINDEX → IsTable elf.old.o s.0 table }
+    requires { x.shndx ≡ SHN_XINDEX → IsShndxTable elf.old.o s.0 table }
     ensures answer { Answers elf.old.told
         (wanted (symbol_place elf.old.told s.0 i x) elf.old) result
         ((symbol_place elf.old.told s.0 i x).answer elf.old.o) }
@@ -120,16 +121,17 @@ pub fn symbol_place<S: Source>(
 /// type is `SHT_SYMTAB_SHNDX` and whose present link is the symbol's section. It looks for that
 /// table where it is needed, section by section.
 ///
-/// It refuses as `sym`; where the table is needed, `NoEntry` with count 0 where there is none, and
-/// else as `word` on it. `Memory` and `Read` may come at both. It marks nothing dirty.
+/// It fails as `sym` does; where the table is needed, `NoEntry` with count 0 where there is none,
+/// and else as `word` on it. `Memory` and `Read` may come at both. It marks nothing dirty.
 ///
 /// Source: gABI chapter 4, "Symbol Table", `st_shndx`; gelf_getsymshndx of gelf(3E).
 pub fn symshndx<S: Source>(elf: &mut Elf<S>, d: DataId, i: u64) -> Result<SymPlace, ElfError>
     ensures answer { AnswersRead elf.old.told
-        (wanted (calls.symshndx elf.old.told d.section d.piece i) elf.old)
+        (wanted (calls.symbol_shndx_place elf.old.told d.section d.piece i) elf.old)
         (symshndx_refusals elf.old.o d.section d.piece i) result
-        ((calls.symshndx elf.old.told d.section d.piece i).answer elf.old.o) }
-    ensures looks { Looks S.Source (calls.symshndx elf.old.told d.section d.piece i) result elf.old
+        ((calls.symbol_shndx_place elf.old.told d.section d.piece i).answer elf.old.o) }
+    ensures looks { Looks S.Source (calls.symbol_shndx_place elf.old.told d.section d.piece i)
+        result elf.old
         elf.new }
 {
     match sym(elf, d, i) {

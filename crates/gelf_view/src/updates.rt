@@ -10,7 +10,7 @@ use elf_descriptor::Elf;
 use elf_descriptor::prelude::Source;
 use elf_types::{DataId, Dyn, ElfError, Rel, Rela, Sym};
 
-/// Gives the symbol at an index of a piece that value. The piece becomes own and marked. It refuses
+/// Gives the symbol at an index of a piece that value. The piece becomes own and marked. It fails
 /// as a lend of symbols, in this order: `NoSection`, `NoData`, `WrongKind`, and for the clean home
 /// piece `OutOfFile` and `Ragged`; then `NoEntry`, and `Unfit` where the value does not fit the
 /// class; then `Memory` or `Read` where the piece does not hold its items. A refusal leaves the
@@ -30,10 +30,10 @@ pub fn update_sym<S: Source>(elf: &mut Elf<S>, d: DataId, i: u64, v: &Sym) -> Re
 }
 
 /// Gives the relocation at an index of a piece that value. The piece becomes own and marked. It
-/// refuses as a lend of such relocations, in this order: `NoSection`, `NoData`, `WrongKind`, and
-/// for the clean home piece `OutOfFile` and `Ragged`; then `NoEntry`, and `Unfit` where the value
-/// does not fit the class; then `Memory` or `Read` where the piece does not hold its items. A
-/// refusal leaves the object.
+/// fails as a lend of such relocations, in this order: `NoSection`, `NoData`, `WrongKind`, and for
+/// the clean home piece `OutOfFile` and `Ragged`; then `NoEntry`, and `Unfit` where the value does
+/// not fit the class; then `Memory` or `Read` where the piece does not hold its items. A refusal
+/// leaves the object.
 ///
 /// Source: gABI chapter 4, "Relocation"; gelf_update_rel of gelf(3E).
 pub fn update_rel<S: Source>(elf: &mut Elf<S>, d: DataId, i: u64, v: &Rel) -> Result<(), ElfError>
@@ -49,7 +49,7 @@ pub fn update_rel<S: Source>(elf: &mut Elf<S>, d: DataId, i: u64, v: &Rel) -> Re
 }
 
 /// Gives the relocation with an addend at an index of a piece that value. The piece becomes own and
-/// marked. It refuses as a lend of such relocations, in this order: `NoSection`, `NoData`,
+/// marked. It fails as a lend of such relocations, in this order: `NoSection`, `NoData`,
 /// `WrongKind`, and for the clean home piece `OutOfFile` and `Ragged`; then `NoEntry`, and `Unfit`
 /// where the value does not fit the class; then `Memory` or `Read` where the piece does not hold
 /// its items. A refusal leaves the object.
@@ -68,7 +68,7 @@ pub fn update_rela<S: Source>(elf: &mut Elf<S>, d: DataId, i: u64, v: &Rela) -> 
 }
 
 /// Gives the entry of the dynamic section at an index of a piece that value. The piece becomes own
-/// and marked. It refuses as a lend of such entries, in this order: `NoSection`, `NoData`,
+/// and marked. It fails as a lend of such entries, in this order: `NoSection`, `NoData`,
 /// `WrongKind`, and for the clean home piece `OutOfFile` and `Ragged`; then `NoEntry`, and `Unfit`
 /// where the value does not fit the class; then `Memory` or `Read` where the piece does not hold
 /// its items. A refusal leaves the object.
@@ -92,7 +92,7 @@ pub fn update_dynent<S: Source>(
 }
 
 /// Gives the four-byte number at an index of a piece that value. The piece becomes own and marked.
-/// It refuses as a lend of such numbers, in this order: `NoSection`, `NoData`, `WrongKind`, and for
+/// It fails as a lend of such numbers, in this order: `NoSection`, `NoData`, `WrongKind`, and for
 /// the clean home piece `OutOfFile` and `Ragged`; then `NoEntry`, and never `Unfit`, since each
 /// such number fits both classes; then `Memory` or `Read` where the piece does not hold its items.
 /// A refusal leaves the object.
@@ -111,7 +111,7 @@ pub fn update_word<S: Source>(elf: &mut Elf<S>, d: DataId, i: u64, v: u32) -> Re
 }
 
 /// Gives the two-byte number at an index of a piece that value. The piece becomes own and marked.
-/// It refuses as a lend of such numbers, in this order: `NoSection`, `NoData`, `WrongKind`, and for
+/// It fails as a lend of such numbers, in this order: `NoSection`, `NoData`, `WrongKind`, and for
 /// the clean home piece `OutOfFile` and `Ragged`; then `NoEntry`, and never `Unfit`, since each
 /// such number fits both classes; then `Memory` or `Read` where the piece does not hold its items.
 /// A refusal leaves the object.
@@ -129,11 +129,11 @@ pub fn update_half<S: Source>(elf: &mut Elf<S>, d: DataId, i: u64, v: u16) -> Re
     elf.update_item::<u16>(d, i, v)
 }
 
-/// Gives the address at an index of a piece that value. The piece becomes own and marked. It
-/// refuses as a lend of addresses, in this order: `NoSection`, `NoData`, `WrongKind`, and for the
-/// clean home piece `OutOfFile` and `Ragged`; then `NoEntry`, and `Unfit` where the value does not
-/// fit the class; then `Memory` or `Read` where the piece does not hold its items. A refusal leaves
-/// the object.
+/// Gives the address at an index of a piece that value. The piece becomes own and marked. It fails
+/// as a lend of addresses, in this order: `NoSection`, `NoData`, `WrongKind`, and for the clean
+/// home piece `OutOfFile` and `Ragged`; then `NoEntry`, and `Unfit` where the value does not fit
+/// the class; then `Memory` or `Read` where the piece does not hold its items. A refusal leaves the
+/// object.
 ///
 /// Source: gABI chapter 4, "Data Representation"; elf_getdata of elf(3E).
 pub fn update_addr<S: Source>(elf: &mut Elf<S>, d: DataId, i: u64, v: u64) -> Result<(), ElfError>

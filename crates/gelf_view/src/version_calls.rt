@@ -4,7 +4,7 @@ ghost use Rattle.std.specs.Prelude.{◌≡◌, [], true, IsTrue, OnOk, length};
 ghost use Rattle.elf_descriptor.specs.elf_object.Words.{Answers};
 ghost use Rattle.elf_descriptor.specs.Reads.{Queries, wanted};
 ghost use Rattle.gelf_view.specs.Calls as calls;
-ghost use Rattle.gelf_view.specs.Calls.{first_place, record_call};
+ghost use Rattle.gelf_view.specs.Calls.{first_version_place, record_call};
 ghost use Rattle.gelf_view.specs.Chains.{behind_verdef, behind_verneed, verdefs, verneeds, IsLedBy};
 ghost use Rattle.gelf_view.specs.Records.{LiesAt};
 ghost use Rattle.gelf_view.specs.declared.versions.TheConstants.{VERDEF_SIZE, VERNEED_SIZE};
@@ -19,7 +19,7 @@ use elf_types::{DataId, ElfError};
 
 /// The place of the first entry in bytes.
 fn first_place(bytes: &[u8]) -> Option<u64>
-    ensures { result ≡ first_place (length bytes.now) }
+    ensures { result ≡ first_version_place (length bytes.now) }
 {
     if bytes.is_empty() { None } else { Some(0) }
 }
@@ -44,7 +44,7 @@ pub fn read_record<S: Source, R: Record>(
 }
 
 /// The place of the first entry of a version section, a piece of bytes: 0, or None exactly where
-/// the piece is empty. It refuses as a lend of bytes, in this order: `NoSection`, `NoData`,
+/// the piece is empty. It fails as a lend of bytes, in this order: `NoSection`, `NoData`,
 /// `WrongKind`, and for the clean home piece `OutOfFile`; then `Memory` or `Read` where its home is
 /// not loaded. It marks nothing dirty.
 #[tactic(auto, unfolding(crate::specs::Calls::first_entry_answer))]
@@ -60,8 +60,8 @@ pub fn first_entry<S: Source>(elf: &mut Elf<S>, d: DataId) -> Result<Option<u64>
     }
 }
 
-/// The version definition at a place of a piece, in the byte order of the image. It refuses as a
-/// lend of bytes, in this order: `NoSection`, `NoData`, `WrongKind`, and for the clean home piece
+/// The version definition at a place of a piece, in the byte order of the image. It fails as a lend
+/// of bytes, in this order: `NoSection`, `NoData`, `WrongKind`, and for the clean home piece
 /// `OutOfFile`; then `Memory` or `Read` where its home is not loaded, and `BadChain { at }` exactly
 /// where the record does not lie in the piece. It marks nothing dirty.
 ///
@@ -80,10 +80,10 @@ pub fn verdef<S: Source>(elf: &mut Elf<S>, d: DataId, at: u64) -> Result<Verdef,
     read_record::<S, Verdef>(elf, d, at)
 }
 
-/// The name of a version definition at a place of a piece, in the byte order of the image. It
-/// refuses as a lend of bytes, in this order: `NoSection`, `NoData`, `WrongKind`, and for the clean
-/// home piece `OutOfFile`; then `Memory` or `Read` where its home is not loaded, and
-/// `BadChain { at }` exactly where the record does not lie in the piece. It marks nothing dirty.
+/// The name of a version definition at a place of a piece, in the byte order of the image. It fails
+/// as a lend of bytes, in this order: `NoSection`, `NoData`, `WrongKind`, and for the clean home
+/// piece `OutOfFile`; then `Memory` or `Read` where its home is not loaded, and `BadChain { at }`
+/// exactly where the record does not lie in the piece. It marks nothing dirty.
 ///
 /// Source: gelf_getverdaux of gelf(3E).
 #[tactic(auto, unfolding(crate::specs::Calls::verdaux_answer, crate::specs::Versions::verdaux_at))]
@@ -97,8 +97,8 @@ pub fn verdaux<S: Source>(elf: &mut Elf<S>, d: DataId, at: u64) -> Result<Verdau
     read_record::<S, Verdaux>(elf, d, at)
 }
 
-/// The needs of one file at a place of a piece, in the byte order of the image. It refuses as a
-/// lend of bytes, in this order: `NoSection`, `NoData`, `WrongKind`, and for the clean home piece
+/// The needs of one file at a place of a piece, in the byte order of the image. It fails as a lend
+/// of bytes, in this order: `NoSection`, `NoData`, `WrongKind`, and for the clean home piece
 /// `OutOfFile`; then `Memory` or `Read` where its home is not loaded, and `BadChain { at }` exactly
 /// where the record does not lie in the piece. It marks nothing dirty.
 ///
@@ -117,8 +117,8 @@ pub fn verneed<S: Source>(elf: &mut Elf<S>, d: DataId, at: u64) -> Result<Vernee
     read_record::<S, Verneed>(elf, d, at)
 }
 
-/// The needed version at a place of a piece, in the byte order of the image. It refuses as a lend
-/// of bytes, in this order: `NoSection`, `NoData`, `WrongKind`, and for the clean home piece
+/// The needed version at a place of a piece, in the byte order of the image. It fails as a lend of
+/// bytes, in this order: `NoSection`, `NoData`, `WrongKind`, and for the clean home piece
 /// `OutOfFile`; then `Memory` or `Read` where its home is not loaded, and `BadChain { at }` exactly
 /// where the record does not lie in the piece. It marks nothing dirty.
 ///

@@ -1,6 +1,6 @@
-//! The chains of version sections, whichever kind they are of: entries one behind the other, each
-//! with a list of names. A walk over either ends by itself: each further entry stands behind the
-//! one before, and an entry tells how many names it has.
+//! The chains of version sections, whichever kind they are of: entries one after the other, each
+//! with a list of names. A walk over either ends by itself: each further entry follows the one
+//! before, and an entry tells how many names it has.
 
 ghost use Rattle.std.specs.Prelude.{◌≡◌, ◌<◌, ◌^◌, [], ℕ, Result as TheResult, IsTrue, IfOk, IfSome, OnOk};
 ghost use Rattle.elf_types.specs.declared.errors.ElfError.{ElfError as TheElfError};
@@ -22,14 +22,14 @@ use elf_types::{DataId, ElfError};
 /// A name in the list of an entry: `Verdaux` of a definition, `Vernaux` of needs.
 ///
 /// - `names` are those of a piece from a place on.
-/// - `found` is what a call answers that reads one, by the section, the piece and the place.
+/// - `found` is what a call returns that reads one, by the section, the piece and the place.
 pub trait VersionName: Copy + Drop {
     ghost names: { Object → ℕ → ℕ → TheAuxPlace → Chain Self };
 
     ghost found: { Object → ℕ → ℕ → ℕ → TheResult Self TheElfError };
 
-    /// The next of the list, whose place goes on behind it, or None where none is left. It refuses
-    /// as `next_verdaux` does.
+    /// The next of the list, whose place goes on after it, or None where none is left. It fails as
+    /// `next_verdaux` does.
     fn next_of<S: Source>(
         elf: &mut Elf<S>,
         d: DataId,
@@ -49,7 +49,7 @@ pub trait VersionName: Copy + Drop {
 ///
 /// - `entries` are those of a piece from a place on, each with its place.
 /// - `behind` is how many bytes there are to the next one.
-/// - `found` is what a call answers that reads one, by the section, the piece and the place.
+/// - `found` is what a call returns that reads one, by the section, the piece and the place.
 pub trait VersionEntry: Copy + Drop {
     ghost entries: { Object → ℕ → ℕ → ℕ → Chain (ℕ × Self) };
 
@@ -57,7 +57,7 @@ pub trait VersionEntry: Copy + Drop {
 
     ghost found: { Object → ℕ → ℕ → ℕ → TheResult Self TheElfError };
 
-    /// The entry at a place. It refuses as `verdef` does.
+    /// The entry at a place. It fails as `verdef` does.
     fn entry_at<S: Source>(elf: &mut Elf<S>, d: DataId, at: u64) -> Result<Self, ElfError>
         ensures chain { IsTrue elf.old.told → IsLedBy result
             (λ x. entry_then at x (behind x) (entries elf.old.o d.section d.piece))
@@ -67,7 +67,7 @@ pub trait VersionEntry: Copy + Drop {
             (bytes_reader d.section d.piece (λ o. found o d.section d.piece at)) []
             result elf.old elf.new };
 
-    /// The place of the entry behind the one at a place, or None after the last.
+    /// The place of the entry after the one at a place, or None after the last.
     fn place_behind(&self, at: u64) -> Option<u64>
         requires { at < 2 ^ 63 }
         ensures { result ≡ next_place at (behind self.now) };

@@ -76,7 +76,7 @@ pub struct Vernaux {
     pub next: u32,
 }
 
-/// The version definition at a place of bytes in a byte order. It refuses `BadChain { at }`
+/// The version definition at a place of bytes in a byte order. It fails with `BadChain { at }`
 /// exactly where the record does not lie in the bytes, and takes no memory.
 ///
 /// Source: gelf_getverdef of gelf(3E).
@@ -96,8 +96,8 @@ pub fn verdef_in(bytes: &[u8], at: u64, order: Order) -> Result<Verdef, ElfError
     })
 }
 
-/// The name of a version definition at a place of bytes in a byte order. It refuses
-/// `BadChain { at }` exactly where the record does not lie in the bytes, and takes no memory.
+/// The name of a version definition at a place of bytes in a byte order. It fails with `BadChain {
+/// at }` exactly where the record does not lie in the bytes, and takes no memory.
 ///
 /// Source: gelf_getverdaux of gelf(3E).
 #[tactic(auto, unfolding(crate::specs::Versions::verdaux_at, crate::specs::Versions::verdaux_of))]
@@ -111,8 +111,8 @@ pub fn verdaux_in(bytes: &[u8], at: u64, order: Order) -> Result<Verdaux, ElfErr
     })
 }
 
-/// The needs of one file at a place of bytes in a byte order. It refuses `BadChain { at }` exactly
-/// where the record does not lie in the bytes, and takes no memory.
+/// The needs of one file at a place of bytes in a byte order. It fails with `BadChain { at }`
+/// exactly where the record does not lie in the bytes, and takes no memory.
 ///
 /// Source: gelf_getverneed of gelf(3E).
 #[tactic(auto, unfolding(crate::specs::Versions::verneed_at, crate::specs::Versions::verneed_of))]
@@ -129,7 +129,7 @@ pub fn verneed_in(bytes: &[u8], at: u64, order: Order) -> Result<Verneed, ElfErr
     })
 }
 
-/// The needed version at a place of bytes in a byte order. It refuses `BadChain { at }` exactly
+/// The needed version at a place of bytes in a byte order. It fails with `BadChain { at }` exactly
 /// where the record does not lie in the bytes, and takes no memory.
 ///
 /// Source: gelf_getvernaux of gelf(3E).

@@ -1,9 +1,9 @@
-pub mod ReadLaws
+mod ReadLaws
 pub mod ListedLaws
 pub mod CallLaws
 pub mod RangeLaws
-pub mod SysvLaws
+mod SysvLaws
 pub mod OrderLaws
 pub mod BloomLaws
-pub mod EncodingLaws
-pub mod GnuLaws
+mod EncodingLaws
+mod GnuLaws

@@ -27,7 +27,7 @@ use Rattle.symbol_lookup.specs.hash_model.Listed.{listed_names}
 use Rattle.hash_build.specs.declared.hashing.Hashing.TheVariants.{Gnu}
 use Rattle.hash_build.specs.declared.order.Row.{Row}
 use Rattle.hash_build.specs.Hashed.{hash_with, listed_hashes, buckets_by}
-use Rattle.hash_build.specs.Rows.{row_at, rows_of, sorted_rows, order_by, IsOrder}
+use Rattle.hash_build.specs.Rows.{row_at, bucket_rows, sorted_rows, order_by, IsOrder}
 use Rattle.hash_build.proofs.RangeLaws.{bucket_at, buckets_long}
 use Rattle.hash_build.proofs.SysvLaws.{buckets_same}
 
@@ -52,8 +52,8 @@ rows_more nbuckets i hashes rows rows' hash bucket key hash_is bucket_is key_is 
 pub rows_all : (nbuckets count : ℕ) (hashes : List (Option ℕ)) (rows : List Row) (i : ℕ)
     → count ≡ length hashes → count ≤ i → i ≤ count
     → rows ≡ map (row_at (buckets_by nbuckets hashes)) (range_with_len 0 i)
-    → rows ≡ rows_of (buckets_by nbuckets hashes)
-unfolding rows_of
+    → rows ≡ bucket_rows (buckets_by nbuckets hashes)
+unfolding bucket_rows
 rows_all nbuckets count hashes rows i all past within is =
     is ∙ ap (λ (k : ℕ). map (row_at (buckets_by nbuckets hashes)) (range_with_len 0 k))
     (let long : i ≡ length (buckets_by nbuckets hashes) =
@@ -230,9 +230,9 @@ ascends_from buckets a (suc n) =
     (indexes_from buckets a (a + 1) n (omega arith), ascends_from buckets (a + 1) n)
 
 -- what the sort leaves
-pub sorted_given : (buckets : List (Option ℕ)) (given rows : List Row) → given ≡ rows_of buckets
+pub sorted_given : (buckets : List (Option ℕ)) (given rows : List Row) → given ≡ bucket_rows buckets
     → IsPermutation given rows → IsSorted row_cmp rows → rows ≡ sorted_rows buckets
-unfolding rows_of sorted_rows
+unfolding bucket_rows sorted_rows
 sorted_given buckets given rows is moved sorted =
     let all = map (row_at buckets) (range_with_len 0 (length buckets)) in
     unique row_cmp row_cmp_total row_cmp_exact rows (sorted_by (λ r. r.key) all)
@@ -244,7 +244,7 @@ sorted_given buckets given rows is moved sorted =
 -- their indexes are the order
 pub order_is : (buckets : List (Option ℕ))
     → map (λ (r : Row). r.index) (sorted_rows buckets) ≡ order_by buckets
-unfolding sorted_rows rows_of order_by
+unfolding sorted_rows bucket_rows order_by
 order_is buckets =
     let numbers = range_with_len 0 (length buckets) in
     let sorted : List ℕ = sorted_by (λ i. order_key (get_or buckets i None)) numbers in

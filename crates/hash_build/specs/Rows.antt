@@ -10,12 +10,12 @@ abbrev pub row_at : List (Option ℕ) → ℕ → Row
 row_at buckets i = record { key = order_key (slice_index_or buckets i None); index = i }
 
 -- each symbol
-unfoldable pub rows_of : List (Option ℕ) → List Row
-rows_of buckets = map (row_at buckets) (range_with_len 0 (length buckets))
+unfoldable pub bucket_rows : List (Option ℕ) → List Row
+bucket_rows buckets = map (row_at buckets) (range_with_len 0 (length buckets))
 
 -- the same by their keys, and those of one key in their order
 unfoldable pub sorted_rows : List (Option ℕ) → List Row
-sorted_rows buckets = sorted_by (λ r. r.key) (rows_of buckets)
+sorted_rows buckets = sorted_by (λ r. r.key) (bucket_rows buckets)
 
 -- their indexes in that order
 unfoldable pub order_by : List (Option ℕ) → List ℕ

@@ -51,7 +51,7 @@ fn set_hash(words: &mut Addrs, class: Class, shape: GnuShape, hash: u32)
     set_addr(words, at, twice);
 }
 
-/// The same for a symbol that is listed.
+/// Sets both bits of the hash of a symbol, where it is listed.
 fn set_listed(words: &mut Addrs, class: Class, shape: GnuShape, hash: Option<u32>)
     requires some { 0 < shape.bloom }
     requires long { length words.old ≡ shape.bloom }
@@ -76,7 +76,7 @@ fn set_hashes(words: &mut Addrs, class: Class, shape: GnuShape, hashes: &List<Op
     }
 }
 
-/// So many words that are 0. It refuses `Memory` alone.
+/// So many words that are 0. It fails with `Memory` alone.
 fn zero_addrs(alloc: Global, count: u64) -> Result<Addrs, ElfError>
     ensures ok { IfOk result (λ words. words ≡ zeros_of count) }
     ensures err { IfErr result (λ e. e ≡ Memory) }
@@ -85,8 +85,8 @@ fn zero_addrs(alloc: Global, count: u64) -> Result<Addrs, ElfError>
     Ok(List::from_vec(words))
 }
 
-/// The words of the bloom: they have just the bits of these hashes, and fit the class. It refuses
-/// `Memory` alone.
+/// The words of the bloom: they have just the bits of these hashes, and fit the class. It fails
+/// with `Memory` alone.
 pub fn bloom_of(
     alloc: Global,
     class: Class,

@@ -33,7 +33,7 @@ pub fn first_hashed(hashes: &List<Option<u32>>) -> u64
     count
 }
 
-/// Whether a symbol stands out of the order behind one with another bucket, or with none.
+/// Whether a symbol is out of the order after one with another bucket, or with none.
 fn is_unsorted_after(before: Option<u64>, next: Option<u64>) -> bool
     ensures { result ≡ rules.is_unsorted_after before next }
 {
@@ -46,7 +46,7 @@ fn is_unsorted_after(before: Option<u64>, next: Option<u64>) -> bool
     }
 }
 
-/// Whether symbol `i` stands out of the order behind the one before it.
+/// Whether symbol `i` is out of the order after the one before it.
 fn is_unsorted_at(hashes: &List<Option<u32>>, nbuckets: u32, i: u64) -> bool
     requires some { 0 < nbuckets }
     requires from { 1 ≤ i }

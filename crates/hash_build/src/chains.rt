@@ -70,7 +70,7 @@ fn chain_word(hashes: &List<Option<u32>>, nbuckets: u32, i: u64) -> u32
     hash / 2 * 2
 }
 
-/// Appends the chain words of the symbols from one on. It refuses `Memory` alone.
+/// Appends the chain words of the symbols from one on. It fails with `Memory` alone.
 fn append_chains(
     hashes: &List<Option<u32>>,
     nbuckets: u32,
@@ -91,7 +91,7 @@ fn append_chains(
     Ok(())
 }
 
-/// Puts the first symbol of each bucket over zeros, and appends the chain words. It refuses
+/// Puts the first symbol of each bucket over zeros, and appends the chain words. It fails with
 /// `Memory` alone.
 fn fill_words(
     hashes: &List<Option<u32>>,
@@ -111,7 +111,7 @@ fn fill_words(
     append_chains(hashes, nbuckets, from, words)
 }
 
-/// The buckets of a section, and then its chain words, from that of a symbol on. It refuses
+/// The buckets of a section, and then its chain words, from that of a symbol on. It fails with
 /// `Memory` alone.
 pub fn chained_words(
     alloc: Global,

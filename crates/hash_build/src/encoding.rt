@@ -9,7 +9,7 @@ ghost use Rattle.symbol_lookup.specs.hash_model.HashSections.{bloom_bytes, numbe
 use elf_types::{Addrs, Class, ElfError, Octets, Order, Words};
 use elf_xlate::{Items, to_file};
 
-/// Appends the file form of items that fit the class, for which want of memory is the one refusal.
+/// Appends the file form of items that fit the class, for which out of memory is the one refusal.
 fn append_items(items: &Items, form: (Class, Order), out: &mut Octets) -> Result<(), ElfError>
     requires { first_unfit form.0 items.now ≡ None }
     ensures ok { OnOk result (out.new ≡ out.old ++ encoded form.0 form.1 items.now) }
@@ -21,7 +21,7 @@ fn append_items(items: &Items, form: (Class, Order), out: &mut Octets) -> Result
     }
 }
 
-/// Appends words of four bytes. It refuses `Memory` alone.
+/// Appends words of four bytes. It fails with `Memory` alone.
 fn append_words(words: Words, form: (Class, Order), out: &mut Octets) -> Result<(), ElfError>
     ensures ok { OnOk result (out.new ≡ out.old ++ numbers_as form.1 4 words) }
     ensures err { IfErr result (λ e. e ≡ Memory) }
@@ -29,7 +29,7 @@ fn append_words(words: Words, form: (Class, Order), out: &mut Octets) -> Result<
     append_items(&Items::Word(words), form, out)
 }
 
-/// Appends the words of a bloom, which fit the class. It refuses `Memory` alone.
+/// Appends the words of a bloom, which fit the class. It fails with `Memory` alone.
 fn append_bloom(bloom: Addrs, form: (Class, Order), out: &mut Octets) -> Result<(), ElfError>
     requires { first_unfit form.0 (items.Addr bloom) ≡ None }
     ensures ok { OnOk result (out.new ≡ out.old ++ numbers_as form.1 (bloom_bytes form.0) bloom) }
@@ -39,7 +39,7 @@ fn append_bloom(bloom: Addrs, form: (Class, Order), out: &mut Octets) -> Result<
 }
 
 /// Appends the parts of GNU's hash section: the four numbers with which it begins, the bloom, and
-/// the buckets with the chain words. It refuses `Memory` alone.
+/// the buckets with the chain words. It fails with `Memory` alone.
 pub fn append_parts(
     head: Words,
     bloom: Addrs,

@@ -1,4 +1,4 @@
-//! GNU's hash section, built anew.
+//! GNU's hash section, rebuilt.
 
 ghost use Rattle.std.specs.Prelude.{◌≡◌, ◌<◌, ◌++◌, ◌∷◌, ◌^◌, [], length, IsTrue, IfOk, IfErr, OnOk};
 ghost use Rattle.elf_types.specs.Answers.{Follows};
@@ -27,7 +27,7 @@ use elf_types::{Class, ElfError, List, Octets, Order, ScnId, Words};
 use std::alloc::Global;
 use symbol_lookup::prelude::Elf;
 
-/// The four numbers with which a section begins. It refuses `Memory` alone.
+/// The four numbers with which a section begins. It fails with `Memory` alone.
 fn head_words(alloc: Global, shape: GnuShape, from: u32) -> Result<Words, ElfError>
     ensures ok { IfOk result (λ words.
         words ≡ shape.nbuckets ∷ from ∷ shape.bloom ∷ shape.shift ∷ []) }
@@ -41,7 +41,7 @@ fn head_words(alloc: Global, shape: GnuShape, from: u32) -> Result<Words, ElfErr
     Ok(words)
 }
 
-/// Appends the section for symbols with these hashes. It refuses `Memory` alone.
+/// Appends the section for symbols with these hashes. It fails with `Memory` alone.
 fn append_section(
     alloc: Global,
     form: (Class, Order),
@@ -63,7 +63,7 @@ fn append_section(
     append_parts(head, bloom, words, form, out)
 }
 
-/// The section for symbols with these hashes. It refuses `Memory` alone.
+/// The section for symbols with these hashes. It fails with `Memory` alone.
 fn section_of(
     alloc: Global,
     form: (Class, Order),
@@ -84,7 +84,8 @@ fn section_of(
     }
 }
 
-/// The same where the symbols stand in the order that the section needs; else `Unsorted`.
+/// The section for symbols with these hashes, where they are in the order that it needs; else
+/// `Unsorted`.
 fn section_if_sorted(
     alloc: Global,
     form: (Class, Order),
@@ -129,12 +130,12 @@ fn section_for<S: Source>(
 /// bloom has just the bits of the listed symbols; a chain word is the hash with its low bit as the
 /// end mark.
 ///
-/// It refuses as `build_sysv` does: `NoSection`, `NoData`, `WrongKind`, and for the clean home
-/// piece `OutOfFile` and `Ragged`; then `TooMany` exactly where there are 2^32 symbols or more;
-/// then `Memory` or `Read`, at any step, and `Unsorted` exactly where the symbols do not stand in
-/// the order that `gnu_order` gives, with the first symbol that is not listed after a listed one,
-/// or whose bucket is below its predecessor's. It reads the table and its strings at the first use,
-/// each once, and marks nothing dirty.
+/// It fails as `build_sysv` does: `NoSection`, `NoData`, `WrongKind`, and for the clean home piece
+/// `OutOfFile` and `Ragged`; then `TooMany` exactly where there are 2^32 symbols or more; then
+/// `Memory` or `Read`, at any step, and `Unsorted` exactly where the symbols are not in the order
+/// that `gnu_order` gives, with the first symbol that is not listed after a listed one, or whose
+/// bucket is below its predecessor's. It reads the table and its strings at the first use, each
+/// once, and marks nothing dirty.
 ///
 /// Source: GNU's hash section, which is no part of the gABI.
 pub fn build_gnu<S: Source>(elf: &mut Elf<S>, s: ScnId, shape: GnuShape) -> Result<Octets, ElfError>

@@ -16,8 +16,8 @@ use elf_types::constants::{SHN_UNDEF, STB_LOCAL};
 use elf_types::{DataId, ElfError, List, Sym, bind};
 use symbol_lookup::prelude::{Elf, strptr, sym};
 
-/// What a symbol, or a name, that is refused tells: that it has no hash, unless it was for want of
-/// memory or a failed read.
+/// What a symbol, or a name, that is rejected tells: that it has no hash, unless memory ran out or
+/// a read failed.
 #[tactic(auto, unfolding(crate::specs::Reading::no_hash))]
 fn no_hash(e: ElfError) -> Result<Option<u32>, ElfError>
     ensures { result ≡ no_hash e }
@@ -145,7 +145,7 @@ fn fill_hashes<S: Source>(
     Ok(())
 }
 
-/// The same, with room for all of them made at first.
+/// Appends the hash of each symbol, with memory for all of them reserved first.
 fn fill_reserved<S: Source>(
     elf: &mut Elf<S>,
     t: SymbolTable,

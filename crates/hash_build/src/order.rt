@@ -8,7 +8,7 @@ ghost use Rattle.symbol_lookup.specs.hash_model.BuiltHashes.{gnu_order_of, order
 ghost use Rattle.symbol_lookup.specs.hash_model.Listed.{listed_names};
 ghost use Rattle.hash_build.specs.Calls as calls;
 ghost use Rattle.hash_build.specs.Hashed.{buckets_by};
-ghost use Rattle.hash_build.specs.Rows.{order_by, rows_of, sorted_rows, IsOrder};
+ghost use Rattle.hash_build.specs.Rows.{order_by, bucket_rows, sorted_rows, IsOrder};
 ghost use Rattle.hash_build.specs.Tables.{IsSymbolTable, ReadsTable};
 
 use crate::hashing::Hashing;
@@ -38,11 +38,11 @@ fn key_of(bucket: Option<u64>, count: u32) -> u32
     }
 }
 
-/// The symbols, in their order. It refuses `Memory` alone.
+/// The symbols, in their order. It fails with `Memory` alone.
 fn rows_of(alloc: Global, hashes: &List<Option<u32>>, nbuckets: u32) -> Result<Vec<Row>, ElfError>
     requires some { 0 < nbuckets }
     requires few { length hashes.now < 2 ^ 32 }
-    ensures ok { IfOk result (λ rows. rows.items ≡ rows_of (buckets_by nbuckets hashes.now)) }
+    ensures ok { IfOk result (λ rows. rows.items ≡ bucket_rows (buckets_by nbuckets hashes.now)) }
     ensures err { IfErr result (λ e. e ≡ Memory) }
 {
     let count = hashes.len();
@@ -58,7 +58,7 @@ fn rows_of(alloc: Global, hashes: &List<Option<u32>>, nbuckets: u32) -> Result<V
     Ok(rows)
 }
 
-/// The symbols by bucket, and those of one bucket in their order. It refuses `Memory` alone.
+/// The symbols by bucket, and those of one bucket in their order. It fails with `Memory` alone.
 fn sorted_rows(
     alloc: Global,
     hashes: &List<Option<u32>>,
@@ -74,7 +74,7 @@ fn sorted_rows(
     Ok(rows)
 }
 
-/// The indexes of symbols. It refuses `Memory` alone.
+/// The indexes of symbols. It fails with `Memory` alone.
 fn indexes_of(alloc: Global, rows: &[Row]) -> Result<Words, ElfError>
     ensures ok { IfOk result (λ indexes. indexes ≡ map (λ r. r.index) rows.now) }
     ensures err { IfErr result (λ e. e ≡ Memory) }
@@ -83,7 +83,7 @@ fn indexes_of(alloc: Global, rows: &[Row]) -> Result<Words, ElfError>
     Ok(List::from_vec(indexes))
 }
 
-/// The order of symbols with these hashes, for so many buckets. It refuses `Memory` alone.
+/// The order of symbols with these hashes, for so many buckets. It fails with `Memory` alone.
 fn order_of(alloc: Global, hashes: &List<Option<u32>>, nbuckets: u32) -> Result<Words, ElfError>
     requires some { 0 < nbuckets }
     requires few { length hashes.now < 2 ^ 32 }
@@ -116,10 +116,10 @@ fn order_for<S: Source>(elf: &mut Elf<S>, t: SymbolTable, nbuckets: u32) -> Resu
 /// listed ones by the bucket of their name's hash, and those of one bucket in their order. It holds
 /// each index once and begins with 0, whatever the source says.
 ///
-/// It refuses as `build_sysv` does: `NoSection`, `NoData`, `WrongKind`, and for the clean home
-/// piece `OutOfFile` and `Ragged`; then `TooMany` exactly where there are 2^32 symbols or more;
-/// then `Memory` or `Read`, at any step. It reads the table and its strings at the first use, each
-/// once, and marks nothing dirty.
+/// It fails as `build_sysv` does: `NoSection`, `NoData`, `WrongKind`, and for the clean home piece
+/// `OutOfFile` and `Ragged`; then `TooMany` exactly where there are 2^32 symbols or more; then
+/// `Memory` or `Read`, at any step. It reads the table and its strings at the first use, each once,
+/// and marks nothing dirty.
 ///
 /// Source: GNU's hash section, which is no part of the gABI.
 pub fn gnu_order<S: Source>(elf: &mut Elf<S>, s: ScnId, nbuckets: u32) -> Result<Words, ElfError>

@@ -1,4 +1,4 @@
-//! The section of type `SHT_HASH`, built anew.
+//! The section of type `SHT_HASH`, rebuilt.
 
 ghost use Rattle.std.specs.Prelude.{◌≡◌, ◌<◌, ◌+◌, ◌^◌, length, map, slice_index_or, slice_set, IsTrue, IfOk, IfErr, IfSome};
 ghost use Rattle.std.specs.List.{range_with_len};
@@ -15,13 +15,13 @@ ghost use Rattle.hash_build.specs.Tables.{IsSymbolTable, ReadsTable};
 use crate::hashing::Hashing;
 use crate::listed::read_hashes;
 use crate::tables::{SymbolTable, table_of};
-use crate::words::{bucket_of, hash_at, set_word, word_at, zeros};
+use crate::words::{bucket_of, hash_at, hash_word_at, set_word, zeros};
 use elf_outside::Source;
 use elf_types::{ElfError, List, ScnId, Words};
 use std::alloc::Global;
 use symbol_lookup::prelude::Elf;
 
-/// Puts symbol `i` before those of its bucket that stand behind it.
+/// Puts symbol `i` before those of its bucket that follow it.
 fn link_in(buckets: &mut Words, chains: &mut Words, bucket: u64, i: u64)
     requires bucket { bucket < length buckets.old }
     requires there { i < length chains.old }
@@ -29,12 +29,12 @@ fn link_in(buckets: &mut Words, chains: &mut Words, bucket: u64, i: u64)
     ensures buckets { buckets.new ≡ slice_set buckets.old bucket i }
     ensures chains { chains.new ≡ slice_set chains.old i (slice_index_or buckets.old bucket 0) }
 {
-    let first = word_at(buckets, bucket);
+    let first = hash_word_at(buckets, bucket);
     set_word(chains, i, first);
     set_word(buckets, bucket, i as u32);
 }
 
-/// The same where it is in a bucket.
+/// Puts symbol `i` into its bucket, where it is in one.
 fn link_symbol(buckets: &mut Words, chains: &mut Words, bucket: Option<u64>, i: u64)
     requires bucket { IfSome bucket (λ b. b < length buckets.old) }
     requires there { i < length chains.old }
@@ -69,7 +69,8 @@ fn link_symbols(hashes: &List<Option<u32>>, nbucket: u32, buckets: &mut Words, c
     }
 }
 
-/// The words of a section: the two counts, the buckets, the chain words. It refuses `Memory` alone.
+/// The words of a section: the two counts, the buckets, the chain words. It fails with `Memory`
+/// alone.
 #[tactic(auto, unfolding(symbol_lookup::specs::Passed::sysv_words))]
 fn join_words(alloc: Global, buckets: &Words, chains: &Words) -> Result<Words, ElfError>
     requires buckets { length buckets.now < 2 ^ 32 }
@@ -86,7 +87,7 @@ fn join_words(alloc: Global, buckets: &Words, chains: &Words) -> Result<Words, E
     Ok(words)
 }
 
-/// The words of a section with these buckets, which are zeros. It refuses `Memory` alone.
+/// The words of a section with these buckets, which are zeros. It fails with `Memory` alone.
 fn words_with(
     alloc: Global,
     hashes: &List<Option<u32>>,
@@ -108,7 +109,7 @@ fn words_with(
     }
 }
 
-/// The words of the section for symbols with these hashes, with so many buckets. It refuses
+/// The words of the section for symbols with these hashes, with so many buckets. It fails with
 /// `Memory` alone.
 fn words_of(alloc: Global, hashes: &List<Option<u32>>, nbucket: u32) -> Result<Words, ElfError>
     requires some { 0 < nbucket }
@@ -143,7 +144,7 @@ fn words_for<S: Source>(elf: &mut Elf<S>, t: SymbolTable, nbucket: u32) -> Resul
 /// many buckets: the number of buckets, the number of symbols, the buckets, and a chain word for
 /// each symbol. The chain of each bucket has its listed symbols in ascending order.
 ///
-/// It refuses as `find_linear` does, in this order: `NoSection`, `NoData`, `WrongKind`, and for the
+/// It fails as `find_linear` does, in this order: `NoSection`, `NoData`, `WrongKind`, and for the
 /// clean home piece `OutOfFile` and `Ragged`; then `TooMany` exactly where there are 2^32 symbols
 /// or more; then `Memory` or `Read`, at any step. It reads the table and its strings at the first
 /// use, each once, and marks nothing dirty.

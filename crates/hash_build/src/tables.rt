@@ -45,7 +45,7 @@ fn table_with<S: Source>(elf: &Elf<S>, s: ScnId, count: u64) -> Result<SymbolTab
     })
 }
 
-/// The table of a section. It refuses as a lend of its symbols, and then `TooMany` where there are
+/// The table of a section. It fails as a lend of its symbols, and then `TooMany` where there are
 /// 2^32 symbols or more. Nothing is read.
 pub fn table_of<S: Source>(elf: &Elf<S>, s: ScnId) -> Result<SymbolTable, ElfError>
     ensures table { IfOk result (IsSymbolTable elf.now.o) }

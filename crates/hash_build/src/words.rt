@@ -30,7 +30,7 @@ pub fn bucket_of(hash: Option<u32>, count: u32) -> Option<u64>
     }
 }
 
-/// So many zeros. It refuses `Memory` alone.
+/// So many zeros. It fails with `Memory` alone.
 pub fn zeros(alloc: Global, count: u64) -> Result<Words, ElfError>
     ensures ok { IfOk result (λ words. words ≡ zeros_of count) }
     ensures err { IfErr result (λ e. e ≡ Memory) }
@@ -40,7 +40,7 @@ pub fn zeros(alloc: Global, count: u64) -> Result<Words, ElfError>
 }
 
 /// The word at an index.
-pub fn word_at(words: &Words, i: u64) -> u32
+pub fn hash_word_at(words: &Words, i: u64) -> u32
     requires { i < length words.now }
     ensures { result ≡ slice_index_or words.now i 0 }
 {

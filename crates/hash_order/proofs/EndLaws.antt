@@ -28,7 +28,7 @@ use Rattle.symbol_lookup.specs.elf_object.Sections.{header_at}
 use Rattle.symbol_lookup.specs.hash_model.Reordered.{kind_by_symbols, in_order, reorder_refusal, reorder_refusal_of, too_few_items}
 use Rattle.hash_order.specs.declared.nexts.Next.{Next}
 use Rattle.hash_order.specs.Plans.{given_by, stored, IsNoItems, IsPlan, BecomesOrdered}
-use Rattle.hash_order.specs.Reading.{MayStop, ReadsHomes, Stores}
+use Rattle.hash_order.specs.Reading.{MayStopReading, ReadsHomes, Stores}
 use Rattle.hash_order.specs.Calls.{all_homes, order_homes, reorder_wants, Reorders}
 use Rattle.hash_order.proofs.FollowLaws.{symbols_passed, refusal_by, refusal_is, table_apart}
 use Rattle.hash_order.proofs.OrderLaws.{next_apart, becomes_ordered}
@@ -118,13 +118,13 @@ module _ {S : Type 0} (old : State S) (s : ℕ) where
         ap (λ (r : Option ElfError). unless_refused r (all_homes old.o s)) passed
 
     pub reorder_answers : (r : Result (Unit {0}) ElfError)
-        → IfErr r (MayStop old (all_homes old.o s))
+        → IfErr r (MayStopReading old (all_homes old.o s))
         → Answers true (reorder_wants old s) r (answered (reorder_refusal old.o s) (tt {0}))
     reorder_answers r ended =
         subst (λ (x : Option ElfError).
         Answers true (reorder_wants old s) r (answered x (tt {0}))) (sym passed) (by r ended)
       where
-        by : (q : Result (Unit {0}) ElfError) → IfErr q (MayStop old (all_homes old.o s))
+        by : (q : Result (Unit {0}) ElfError) → IfErr q (MayStopReading old (all_homes old.o s))
             → Answers true (reorder_wants old s) q (Ok (tt {0}))
         by (Ok x) ended = (refl, λ t. refl)
         by (Err Memory) ended = (refl, tt)
@@ -189,10 +189,10 @@ module _ {S : Type 0} (g : Ghosts S) (old mid : State S) (s : ℕ) where
 
   pub ended_then : {T : Type 0} (x : T) (r : Result (Unit {0}) ElfError)
       → ReadsHomes {T = T} g homes (Ok x) old mid
-      → IfErr r (MayStop mid (all_homes mid.o s)) → IfErr r (MayStop old homes)
+      → IfErr r (MayStopReading mid (all_homes mid.o s)) → IfErr r (MayStopReading old homes)
   ended_then x r reads ended =
       ended_before g homes old mid r reads.object reads.reads.stays
-      (subst (λ (o : Object). IfErr r (MayStop mid (all_homes o s))) reads.object ended)
+      (subst (λ (o : Object). IfErr r (MayStopReading mid (all_homes o s))) reads.object ended)
 
   module _ (order : List ℕ) where
     pub reorders_end : {T : Type 0} (e : ElfError) → reorder_refusal old.o s ≡ None

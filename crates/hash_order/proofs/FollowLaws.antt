@@ -20,13 +20,13 @@ use Rattle.symbol_lookup.specs.elf_object.Calls.{update_shdr_refusal}
 use Rattle.symbol_lookup.specs.elf_object.Valid.{IsObject}
 use Rattle.symbol_lookup.proofs.elf_object.AnswerLaws.{lend_passed}
 use Rattle.symbol_lookup.proofs.elf_object.PassedLaws.{none_first, none_rest}
-use Rattle.symbol_lookup.proofs.object_laws.KeepLaws.{section_at_is}
+use Rattle.symbol_lookup.proofs.law_object.KeepLaws.{section_at_is}
 use Rattle.symbol_lookup.specs.elf_object.Sections.{header_at}
 use Rattle.symbol_lookup.specs.hash_model.Reordered.{kind_by_symbols, items_by_symbols, new_index, too_few_items, reorder_refusal, reorder_refusal_of}
 use Rattle.hash_order.specs.declared.nexts.Next.{Next}
 use Rattle.hash_order.specs.declared.nexts.Next.TheVariants as nexts
 use Rattle.hash_order.specs.Kinds.{IsByIndex, CanFollow}
-use Rattle.hash_order.specs.Plans.{signed, planned, planned_signature, IsNoItems}
+use Rattle.hash_order.specs.Plans.{signed, planned_next, planned_signature, IsNoItems}
 use Rattle.hash_order.specs.Calls.{is_read, is_follower, all_homes}
 
 -- ---- Refusals that did not come
@@ -97,8 +97,8 @@ module _ (o : Object) (s n : ℕ) where
         → ((header_at o n).link == s) ≡ linked
         → ((header_at o n).stype == SHT_GROUP && not (n == 0)) ≡ group
         → kind_by_symbols (header_at o n).stype ≡ kind
-        → planned o s order n ≡ planned_by linked group kind
-    unfolding planned
+        → planned_next o s order n ≡ planned_by linked group kind
+    unfolding planned_next
     planned_is linked group kind link is by =
         ap (λ (b : Bool). planned_by b ((header_at o n).stype == SHT_GROUP && not (n == 0))
         (kind_by_symbols (header_at o n).stype)) link
@@ -257,7 +257,7 @@ no_kind kind same is = subst (λ (k : Kind). IsByIndex k) same is
 
 -- it goes by no symbols of its own
 pub table_apart : (o : Object) (s : ℕ) (order : List ℕ) → reorder_refusal o s ≡ None
-    → s < length o.sections → IsNoItems (planned o s order s)
+    → s < length o.sections → IsNoItems (planned_next o s order s)
 table_apart o s order passed below =
     by ((header_at o s).link == s) ((header_at o s).stype == SHT_GROUP && not (s == 0))
     (kind_by_symbols (header_at o s).stype) refl refl refl
@@ -272,7 +272,7 @@ table_apart o s order passed below =
 
     by : (linked group : Bool) (kind : Option Kind) → ((header_at o s).link == s) ≡ linked
         → ((header_at o s).stype == SHT_GROUP && not (s == 0)) ≡ group
-        → kind_by_symbols (header_at o s).stype ≡ kind → IsNoItems (planned o s order s)
+        → kind_by_symbols (header_at o s).stype ≡ kind → IsNoItems (planned_next o s order s)
     by false group kind link is k =
         subst (λ (x : Next). IsNoItems x) (sym (planned_is o s s order false group kind link is k))
         tt
@@ -293,7 +293,7 @@ table_apart o s order passed below =
 -- ---- What a section gets, as it is planned
 
 module _ (o : Object) (s n : ℕ) (order : List ℕ) (h : Shdr) (is : h ≡ header_at o n) where
-  pub plan_other : (h.link ≡ s → ⊥) → planned o s order n ≡ nexts.Stay
+  pub plan_other : (h.link ≡ s → ⊥) → planned_next o s order n ≡ nexts.Stay
   plan_other other =
       planned_is o s n order false _ _ (linked_as o s n h is false (ne_eqb h.link s other)) refl
       refl
@@ -303,7 +303,7 @@ module _ (o : Object) (s n : ℕ) (order : List ℕ) (h : Shdr) (is : h ≡ head
   group_as b known = ap (λ (x : Shdr). x.stype == SHT_GROUP && not (n == 0)) (sym is) ∙ known
 
   pub plan_group : h.link ≡ s → (h.stype == SHT_GROUP && not (n == 0)) ≡ true
-      → planned o s order n ≡ planned_signature order h.info
+      → planned_next o s order n ≡ planned_signature order h.info
   plan_group linked group =
       planned_is o s n order true true _ (linked_as o s n h is true (eq-eqb h.link s linked))
       (group_as true group) refl
@@ -311,7 +311,7 @@ module _ (o : Object) (s n : ℕ) (order : List ℕ) (h : Shdr) (is : h ≡ head
 
   pub plan_kind : (kind : Option Kind) → h.link ≡ s
       → (h.stype == SHT_GROUP && not (n == 0)) ≡ false → kind ≡ kind_by_symbols h.stype
-      → planned o s order n ≡ planned_by o s n order true false kind
+      → planned_next o s order n ≡ planned_by o s n order true false kind
   plan_kind kind linked group known =
       planned_is o s n order true false kind
       (linked_as o s n h is true (eq-eqb h.link s linked)) (group_as false group)

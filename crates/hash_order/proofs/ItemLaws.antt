@@ -22,7 +22,7 @@ use Rattle.symbol_lookup.specs.hash_model.Reordered.{in_order, moved_along, with
 use Rattle.hash_order.specs.declared.nexts.Next.TheVariants as nexts
 use Rattle.hash_order.specs.Indexes.{AreBelow, item_or_none}
 use Rattle.hash_order.specs.Kinds.{IsByIndex, CanFollow, MovesBy}
-use Rattle.hash_order.specs.Plans.{AreItems, IsNext, IsAtHand, IsReady}
+use Rattle.hash_order.specs.Plans.{AreStatedItems, IsStatedNext, IsAtHand, IsReadyNext}
 
 -- ---- How many there are
 
@@ -101,10 +101,10 @@ module _ (order : List ℕ) (below : AreBelow order) where
     pub made_next : (r : Result Items ElfError)
         → IfOk r (λ x. x ≡ items_by_symbols order l)
         → IfOk (result_map nexts.Items r)
-        (λ x. IsNext told x (nexts.Items (items_by_symbols order stated)))
+        (λ x. IsStatedNext told x (nexts.Items (items_by_symbols order stated)))
     made_next (Err e) is = tt
     made_next (Ok x) is =
-        subst (λ (y : Items). AreItems told y (items_by_symbols order stated)) (sym is)
+        subst (λ (y : Items). AreStatedItems told y (items_by_symbols order stated)) (sym is)
         (follow_alike, λ t. ap (items_by_symbols order) (exact t))
 
     pub made_kind : items_kind (items_by_symbols order l) ≡ items_kind stated
@@ -112,7 +112,7 @@ module _ (order : List ℕ) (below : AreBelow order) where
 
     pub made_ready : {S : Type 0} (state : State S) (n : ℕ) (kind : Kind) (r : Result Items ElfError)
         → IfOk r (λ x. x ≡ items_by_symbols order l) → items_kind stated ≡ kind → IsByIndex kind
-        → IsAtHand state n kind → IfOk (result_map nexts.Items r) (IsReady state n)
+        → IsAtHand state n kind → IfOk (result_map nexts.Items r) (IsReadyNext state n)
     made_ready state n kind (Err e) is same by hand = tt
     made_ready state n kind (Ok x) is same by hand =
         let kinds_are : kind ≡ items_kind x =

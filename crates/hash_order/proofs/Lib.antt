@@ -1,12 +1,12 @@
-pub mod IndexLaws
-pub mod MovingLaws
-pub mod CheckLaws
-pub mod ReadLaws
-pub mod DataLaws
-pub mod FollowLaws
-pub mod ItemLaws
+mod IndexLaws
+mod MovingLaws
+mod CheckLaws
+mod ReadLaws
+mod DataLaws
+mod FollowLaws
+mod ItemLaws
 pub mod StoreLaws
-pub mod OrderLaws
-pub mod PlanLaws
-pub mod StoringLaws
-pub mod EndLaws
+mod OrderLaws
+mod PlanLaws
+mod StoringLaws
+mod EndLaws

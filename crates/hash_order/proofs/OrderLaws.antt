@@ -15,20 +15,20 @@ use Rattle.symbol_lookup.specs.elf_object.Sections.{header_at}
 use Rattle.symbol_lookup.specs.hash_model.Reordered.{kind_by_symbols, items_by_symbols, in_order, new_index, reordered, reordered_section, reorder_refusal}
 use Rattle.hash_order.specs.declared.nexts.Next.{Next}
 use Rattle.hash_order.specs.declared.nexts.Next.TheVariants as nexts
-use Rattle.hash_order.specs.Plans.{planned, gets, stored, given_by, IsNext, IsNoItems, IsPlan, BecomesOrdered}
+use Rattle.hash_order.specs.Plans.{planned_next, gets, stored, given_by, IsStatedNext, IsNoItems, IsPlan, BecomesOrdered}
 use Rattle.hash_order.proofs.FollowLaws.{planned_by, planned_is, table_apart}
 use Rattle.hash_order.proofs.StoreLaws.{IsSameAt, same_items, own_same, own_headers, gets_same, gets_count}
 
 -- ---- Where the source tells its bytes
 
-next_exact : (told : Bool) (x y : Next) → IsNext told x y → IsTrue told → x ≡ y
+next_exact : (told : Bool) (x y : Next) → IsStatedNext told x y → IsTrue told → x ≡ y
 next_exact told nexts.Stay nexts.Stay is t = refl
 next_exact told (nexts.Items l) (nexts.Items m) is t = ap (λ (z : Items). nexts.Items z) (is.1 t)
 next_exact told (nexts.Signature i) (nexts.Signature j) is t =
     ap (λ (z : ℕ). nexts.Signature z) is
 next_exact told x y is t = absurd is
 
-pub next_apart : (told : Bool) (x y : Next) → IsNext told x y → IsNoItems y → IsNoItems x
+pub next_apart : (told : Bool) (x y : Next) → IsStatedNext told x y → IsNoItems y → IsNoItems x
 next_apart told nexts.Stay y is apart = tt
 next_apart told (nexts.Signature i) y is apart = tt
 next_apart told (nexts.Items l) (nexts.Items m) is apart = apart
@@ -70,8 +70,8 @@ module _ (o : Object) (s : ℕ) (order : List ℕ) (passed : reorder_refusal o s
       → ((header_at o k).stype == SHT_GROUP && not (k == 0)) ≡ false
       → kind_by_symbols (header_at o k).stype ≡ Some kind → k ≡ s → ⊥
   other_section k kind link group by same =
-      let here : IsNoItems (planned o s order k) =
-      subst (λ (n : ℕ). IsNoItems (planned o s order n)) (sym same)
+      let here : IsNoItems (planned_next o s order k) =
+      subst (λ (n : ℕ). IsNoItems (planned_next o s order n)) (sym same)
       (table_apart o s order passed below) in
       subst (λ (x : Next). IsNoItems x)
       (planned_is o s k order true false (Some kind) link group by) here
@@ -102,7 +102,7 @@ module _ (o : Object) (s : ℕ) (order : List ℕ) (passed : reorder_refusal o s
         } in
         ap (λ (l : Items). with_own z k 0 (items_by_symbols order l)) (same_items o z k same)
 
-    section_gets : reordered_section s order z k ≡ gets z k (planned o s order k)
+    section_gets : reordered_section s order z k ≡ gets z k (planned_next o s order k)
     section_gets =
         section_is s order z k
         ∙ ap (λ (h : Shdr). section_by s order z k (h.link == s)
@@ -127,7 +127,7 @@ module _ (o : Object) (s : ℕ) (order : List ℕ) (passed : reorder_refusal o s
     }
 
   module _ (given : ℕ → Next)
-      (exact : (n : ℕ) → n < length o.sections → given n ≡ planned o s order n) where
+      (exact : (n : ℕ) → n < length o.sections → given n ≡ planned_next o s order n) where
     ordered : (n k : ℕ) (z : Object) → k + n ≡ length o.sections → Agrees z k
         → stored given k n z ≡ fold (reordered_section s order) z (range_with_len k n)
     unfolding stored
@@ -166,12 +166,12 @@ module _ (o : Object) (s : ℕ) (order : List ℕ) (passed : reorder_refusal o s
       → new ≡ stored (given_by plan (length o.sections)) 0 (length o.sections)
       (with_own o s 0 (items.Sym symbols))
       → BecomesOrdered told o new s order
-  becomes_ordered told new symbols plan count is planned object = record {
+  becomes_ordered told new symbols plan count is planned_next object = record {
     symbols = symbols;
     count = count;
     given = given_by plan (length o.sections);
-    each = planned.each;
+    each = planned_next.each;
     object = object;
     exact = λ t. object ∙ reordered_is (given_by plan (length o.sections))
-        (λ n within. next_exact told _ _ (planned.each n within) t) symbols (is t);
+        (λ n within. next_exact told _ _ (planned_next.each n within) t) symbols (is t);
   }

@@ -17,7 +17,7 @@ use Rattle.hash_build.specs.Rows.{IsOrder}
 use Rattle.hash_order.specs.Indexes.{AreBelow}
 use Rattle.hash_order.specs.declared.nexts.Next.{Next}
 use Rattle.hash_order.specs.declared.nexts.Next.TheVariants as nexts
-use Rattle.hash_order.specs.Plans.{signed, planned, planned_signature, given_by, IsNext, IsPlan, IsAtHand, IsReady, AreReady, AppendsNext}
+use Rattle.hash_order.specs.Plans.{signed, planned_next, planned_signature, given_by, IsStatedNext, IsPlan, IsAtHand, IsReadyNext, AreReady, AppendsNext}
 use Rattle.hash_order.specs.Reading.{ReadsHomes}
 use Rattle.hash_order.proofs.FollowLaws.{signed_passes}
 
@@ -38,14 +38,14 @@ module _ (order : List ℕ) (info : ℕ) where
       by false = stay
 
   pub signature_next : (told : Bool)
-      → IsNext told (planned_signature order info) (planned_signature order info)
-  signature_next told = by_signature (λ x. IsNext told x x) tt refl
+      → IsStatedNext told (planned_signature order info) (planned_signature order info)
+  signature_next told = by_signature (λ x. IsStatedNext told x x) tt refl
 
   pub signature_ready : {S : Type 0} (state : State S) (n : ℕ) → IsObject state.o
       → n < length state.o.sections → (n ≡ 0 → ⊥)
-      → IsReady state n (planned_signature order info)
+      → IsReadyNext state n (planned_signature order info)
   signature_ready state n is below other =
-      by_signature (λ x. IsReady state n x) tt
+      by_signature (λ x. IsReadyNext state n x) tt
       (signed_passes state.o n (new_index order info) is below other)
 
 pub not_first : (b : Bool) (n : ℕ) → (b && not (n == 0)) ≡ true → n ≡ 0 → ⊥
@@ -55,8 +55,8 @@ not_first false n is same = cc
 
 pub appended : {S : Type 0} (old new : State S) (s : ℕ) (order : List ℕ) (n : ℕ)
     (before after : List Next) (x : Next) (r : Result (Unit {0}) ElfError)
-    → OnOk r (after ≡ before ++ x ∷ []) → IsNext old.told x (planned old.o s order n)
-    → IsReady new n x → OnOk r (AppendsNext old new s order n before after)
+    → OnOk r (after ≡ before ++ x ∷ []) → IsStatedNext old.told x (planned_next old.o s order n)
+    → IsReadyNext new n x → OnOk r (AppendsNext old new s order n before after)
 appended old new s order n before after x (Err e) items is ready = tt
 appended old new s order n before after x (Ok y) items is ready =
     record { next = x; items = items; is = is; ready = ready }
@@ -73,7 +73,7 @@ module _ {S T : Type 0} (g : Ghosts S) (homes : List ℕ) (r : Result T ElfError
         (subst (λ (o : Object). (piece_at o n 0).own ≡ None) reads.object clean));
   }
 
-  pub ready_stays : (n : ℕ) (x : Next) → IsReady old n x → IsReady new n x
+  pub ready_stays : (n : ℕ) (x : Next) → IsReadyNext old n x → IsReadyNext new n x
   ready_stays n nexts.Stay ready = tt
   ready_stays n (nexts.Items l) ready = (ready.0, hand_stays n (items_kind l) ready.1)
   ready_stays n (nexts.Signature info) ready =
@@ -105,8 +105,8 @@ module _ {S : Type 0} (old : State S) (s : ℕ) (order : List ℕ) where
   pub record ArePlanned (new : State S) (done : ℕ) (plan : List Next) : Type 0 where
     pub long : length plan ≡ done
     pub each : (k : ℕ) → k < done
-        → IsNext old.told (get_or plan k nexts.Stay) (planned old.o s order (number_of k))
-    pub ready : (k : ℕ) → k < done → IsReady new (number_of k) (get_or plan k nexts.Stay)
+        → IsStatedNext old.told (get_or plan k nexts.Stay) (planned_next old.o s order (number_of k))
+    pub ready : (k : ℕ) → k < done → IsReadyNext new (number_of k) (get_or plan k nexts.Stay)
 
   pub none_planned : (plan : List Next) → plan ≡ [] → ArePlanned old 0 plan
   none_planned plan is = record {
@@ -125,15 +125,15 @@ module _ {S : Type 0} (old : State S) (s : ℕ) (order : List ℕ) where
       omega (arith, length_push plan more.next, are.long) in
       subst (λ (l : List Next). ArePlanned new (done + 1) l) (sym more.items) (record {
         long = long';
-        each = pushed (λ k x. IsNext old.told x (planned old.o s order (number_of k))) plan
+        each = pushed (λ k x. IsStatedNext old.told x (planned_next old.o s order (number_of k))) plan
             more.next done are.long are.each
-            (subst (λ (b : Bool). IsNext b more.next (planned old.o s order (number_of done))) told
-            (subst (λ (o : Object). IsNext mid.told more.next
-            (planned o s order (number_of done))) same
-            (subst (λ (m : ℕ). IsNext mid.told more.next (planned mid.o s order m)) is more.is)));
-        ready = pushed (λ k x. IsReady new (number_of k) x) plan more.next done are.long
+            (subst (λ (b : Bool). IsStatedNext b more.next (planned_next old.o s order (number_of done))) told
+            (subst (λ (o : Object). IsStatedNext mid.told more.next
+            (planned_next o s order (number_of done))) same
+            (subst (λ (m : ℕ). IsStatedNext mid.told more.next (planned_next mid.o s order m)) is more.is)));
+        ready = pushed (λ k x. IsReadyNext new (number_of k) x) plan more.next done are.long
             (λ k below. ready_stays g homes r mid new reads (number_of k) _ (are.ready k below))
-            (subst (λ (m : ℕ). IsReady new m more.next) is more.ready);
+            (subst (λ (m : ℕ). IsReadyNext new m more.next) is more.ready);
       })
 
   module _ (new : State S) (done : ℕ) (plan : List Next) (all : done ≡ length old.o.sections)
@@ -148,14 +148,14 @@ module _ {S : Type 0} (old : State S) (s : ℕ) (order : List ℕ) where
     is_plan = record {
       long = are.long ∙ all;
       each = λ n below.
-          subst (λ (m : ℕ). IsNext old.told (given_by plan (length old.o.sections) n)
-          (planned old.o s order m)) (turned n below) (are.each (number_of n) (within n below));
+          subst (λ (m : ℕ). IsStatedNext old.told (given_by plan (length old.o.sections) n)
+          (planned_next old.o s order m)) (turned n below) (are.each (number_of n) (within n below));
     }
 
     pub plan_ready : new.o ≡ old.o → AreReady new plan
     plan_ready same =
-        subst (λ (c : ℕ). (n : ℕ) → n < c → IsReady new n (given_by plan c n))
+        subst (λ (c : ℕ). (n : ℕ) → n < c → IsReadyNext new n (given_by plan c n))
         (sym (ap (λ (o : Object). length o.sections) same))
         (λ n below.
-        subst (λ (m : ℕ). IsReady new m (given_by plan (length old.o.sections) n))
+        subst (λ (m : ℕ). IsReadyNext new m (given_by plan (length old.o.sections) n))
         (turned n below) (are.ready (number_of n) (within n below)))

@@ -15,7 +15,7 @@ use Rattle.symbol_lookup.specs.elf_descriptor.State.{State}
 use Rattle.symbol_lookup.specs.elf_descriptor.Reads.{Reads, Queries}
 use Rattle.symbol_lookup.proofs.elf_descriptor.ReadsLaws.{reads_then, reads_nothing, dues_stay, reads_among}
 use Rattle.symbol_lookup.proofs.SearchLaws.{IsFew, reads_few, few_due}
-use Rattle.hash_order.specs.Reading.{MayStop, ReadsHomes}
+use Rattle.hash_order.specs.Reading.{MayStopReading, ReadsHomes}
 
 -- ---- Homes that a call reads
 
@@ -55,9 +55,9 @@ module _ {S : Type 0} (g : Ghosts S) (homes : List ℕ) where
       subst (λ (d : ElfError). ReadRose {T = U} (Err d) a b) (sym is) tt
 
   pub want_stops : {U : Type 0} (q : Result U ElfError) (old : State S) → IfErr q (λ e. e ≡ Memory)
-      → IfErr q (MayStop old homes)
+      → IfErr q (MayStopReading old homes)
   want_stops (Ok y) old is = tt
-  want_stops (Err e) old is = subst (λ (d : ElfError). MayStop old homes d) (sym is) tt
+  want_stops (Err e) old is = subst (λ (d : ElfError). MayStopReading old homes d) (sym is) tt
 
   -- nothing is read
   pub homes_nothing : {T : Type 0} (x : T) (state : State S)
@@ -72,7 +72,7 @@ module _ {S : Type 0} (g : Ghosts S) (homes : List ℕ) where
   pub homes_step : {A T U : Type 0} (c : Call A) (holding : List ℕ) (r : Result T ElfError)
       (q : Result U ElfError) (old new : State S) → IsFew (c.reads old.o) homes
       → IsFew holding homes → (IfErr q IsRefusal → IfErr r IsRefusal)
-      → ReadRose q (g.faults old.source) (g.faults new.source) → IfErr q (MayStop old homes)
+      → ReadRose q (g.faults old.source) (g.faults new.source) → IfErr q (MayStopReading old homes)
       → Queries g c holding r old new → ReadsHomes g homes q old new
   homes_step c holding r q old new few held settled read ended asked = record {
     object = asked.object;
@@ -108,7 +108,7 @@ module _ {S : Type 0} (g : Ghosts S) (homes : List ℕ) where
   -- what is due does not rise
   stops_before : (old mid : State S) → mid.o ≡ old.o
       → ((i : ℕ) → IsTrue (is_loaded old.loaded i) → IsTrue (is_loaded mid.loaded i))
-      → (e : ElfError) → MayStop mid homes e → MayStop old homes e
+      → (e : ElfError) → MayStopReading mid homes e → MayStopReading old homes e
   stops_before old mid same stays Memory may = tt
   stops_before old mid same stays Read may =
       let some = subst (λ (o : Object). 0 < homes_due o mid.loaded homes) same may in
@@ -117,7 +117,7 @@ module _ {S : Type 0} (g : Ghosts S) (homes : List ℕ) where
 
   pub ended_before : {T : Type 0} (old mid : State S) (q : Result T ElfError) → mid.o ≡ old.o
       → ((i : ℕ) → IsTrue (is_loaded old.loaded i) → IsTrue (is_loaded mid.loaded i))
-      → IfErr q (MayStop mid homes) → IfErr q (MayStop old homes)
+      → IfErr q (MayStopReading mid homes) → IfErr q (MayStopReading old homes)
   ended_before old mid (Ok x) same stays ended = tt
   ended_before old mid (Err e) same stays ended = stops_before old mid same stays e ended
 

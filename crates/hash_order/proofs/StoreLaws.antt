@@ -35,7 +35,7 @@ use Rattle.symbol_lookup.proofs.elf_descriptor.LendLaws.{lend_there}
 use Rattle.symbol_lookup.specs.elf_object.Sections.{header_at}
 use Rattle.hash_order.specs.declared.nexts.Next.{Next}
 use Rattle.hash_order.specs.declared.nexts.Next.TheVariants as nexts
-use Rattle.hash_order.specs.Plans.{signed, gets, stored, IsAtHand, IsReady, IsNoItems}
+use Rattle.hash_order.specs.Plans.{signed, gets, stored, IsAtHand, IsReadyNext, IsNoItems}
 use Rattle.hash_order.specs.Reading.{Stores, StoresOne}
 
 -- ---- Refusals and items by the section alone
@@ -131,12 +131,12 @@ module _ (o z : Object) (n : ℕ) (same : IsSameAt o z n) where
       ∷ refused_if (not (shdr_fits e.class h)) (Unfit (part.Section n) 0) ∷ [])) same.header
 
 -- an object in which the header of a section is as it was
-pub record HasHeader (o z : Object) (n : ℕ) : Type 0 where
+pub record HasSameHeader (o z : Object) (n : ℕ) : Type 0 where
   pub header : z.header ≡ o.header
   pub count : length z.sections ≡ length o.sections
   pub section : header_at z n ≡ header_at o n
 
-pub signed_stays : (o z : Object) (n info : ℕ) → HasHeader o z n
+pub signed_stays : (o z : Object) (n info : ℕ) → HasSameHeader o z n
     → update_shdr_refusal o n (signed o n info) ≡ None
     → update_shdr_refusal z n (signed z n info) ≡ None
 unfolding update_shdr_refusal
@@ -183,7 +183,7 @@ own_same o n m l other = record {
 
 -- its own header too
 pub own_headers : (o : Object) (n m : ℕ) (l : Items) → n < length o.sections
-    → HasHeader o (with_own o n 0 l) m
+    → HasSameHeader o (with_own o n 0 l) m
 own_headers o n m l below = record {
   header = own_header o n l;
   count = section_count-with_own o n 0 l;
@@ -228,27 +228,27 @@ module _ {S : Type 0} (g : Ghosts S) (old new : State S) (after : Object)
       }
 
   -- of a section that is as it was
-  pub ready_after : (n : ℕ) (x : Next) → IsSameAt old.o after n → IsReady old n x
-      → IsReady new n x
+  pub ready_after : (n : ℕ) (x : Next) → IsSameAt old.o after n → IsReadyNext old n x
+      → IsReadyNext new n x
   ready_after n nexts.Stay same ready = tt
   ready_after n (nexts.Items l) same ready =
       (ready.0, hand_after n (items_kind l) same ready.1)
   ready_after n (nexts.Signature info) same ready =
       signed_stays old.o new.o n info
-      (subst (λ (z : Object). HasHeader old.o z n) (sym one.stores.object) (record {
+      (subst (λ (z : Object). HasSameHeader old.o z n) (sym one.stores.object) (record {
         header = same.header;
         count = same.count;
         section = ap (λ (c : Section). c.header) same.section;
       })) ready
 
   -- of one that gets no items, and whose header is as it was
-  pub ready_apart : (n : ℕ) (x : Next) → HasHeader old.o after n → IsNoItems x → IsReady old n x
-      → IsReady new n x
+  pub ready_apart : (n : ℕ) (x : Next) → HasSameHeader old.o after n → IsNoItems x → IsReadyNext old n x
+      → IsReadyNext new n x
   ready_apart n nexts.Stay same apart ready = tt
   ready_apart n (nexts.Items l) same apart ready = absurd apart
   ready_apart n (nexts.Signature info) same apart ready =
       signed_stays old.o new.o n info
-      (subst (λ (z : Object). HasHeader old.o z n) (sym one.stores.object) same) ready
+      (subst (λ (z : Object). HasSameHeader old.o z n) (sym one.stores.object) same) ready
 
 -- ---- One after another
 

@@ -13,7 +13,7 @@ use Rattle.symbol_lookup.specs.elf_descriptor.State.{State}
 use Rattle.symbol_lookup.proofs.elf_descriptor.LendLaws.{lend_there}
 use Rattle.hash_order.specs.declared.nexts.Next.{Next}
 use Rattle.hash_order.specs.declared.nexts.Next.TheVariants as nexts
-use Rattle.hash_order.specs.Plans.{gets, stored, given_by, IsAtHand, IsReady, AreReady, IsNoItems}
+use Rattle.hash_order.specs.Plans.{gets, stored, given_by, IsAtHand, IsReadyNext, AreReady, IsNoItems}
 use Rattle.hash_order.specs.Reading.{Stores, StoresOne}
 use Rattle.hash_order.proofs.StoreLaws.{own_same, own_headers, gets_same, gets_count, ready_after, ready_apart, stores_none, stores_both, stored_more, stored_all}
 
@@ -29,7 +29,7 @@ module _ {S : Type 0} (g : Ghosts S) (first : State S) (plan : List Next)
   pub record AreStored (n : ℕ) (rest : List Next) (now : State S) : Type 0 where
     pub rest_is : rest ≡ take (all - n) plan
     pub left : stored given n (all - n) now.o ≡ stored given 0 all first.o
-    pub ready : (m : ℕ) → n ≤ m → m < all → IsReady now m (given m)
+    pub ready : (m : ℕ) → n ≤ m → m < all → IsReadyNext now m (given m)
     pub stores : Stores g first now now.o
     pub count : length now.o.sections ≡ all
 
@@ -61,9 +61,9 @@ module _ {S : Type 0} (g : Ghosts S) (first : State S) (plan : List Next)
         ∙ ap (λ (k : ℕ). get_or plan k nexts.Stay)
         (let same : length rest - 1 ≡ all - 1 - n = omega (arith, rest_long) in same)
 
-    pub last_ready : IsReady now n (get_or rest (length rest - 1) nexts.Stay)
+    pub last_ready : IsReadyNext now n (get_or rest (length rest - 1) nexts.Stay)
     last_ready =
-        subst (λ (x : Next). IsReady now n x) (sym last_is) (are.ready n (omega arith) below)
+        subst (λ (x : Next). IsReadyNext now n x) (sym last_is) (are.ready n (omega arith) below)
 
     pub more_stored : (rest' : List Next) (next : State S)
         → rest' ≡ take (length rest - 1) rest
@@ -120,14 +120,14 @@ module _ {S : Type 0} (g : Ghosts S) (old mid : State S) (s : ℕ) (symbols : Li
         → IsNoItems (given_by plan (length old.o.sections) s) → AreReady old plan
         → AreReady mid plan
     table_ready hand apart are =
-        subst (λ (count : ℕ). (n : ℕ) → n < count → IsReady mid n (given_by plan count n))
+        subst (λ (count : ℕ). (n : ℕ) → n < count → IsReadyNext mid n (given_by plan count n))
         (sym table_count)
         (λ n below. by n (given_by plan (length old.o.sections) n) (cases_eq n s)
         (λ same. subst (λ (m : ℕ). IsNoItems (given_by plan (length old.o.sections) m)) (sym same)
         apart) (are n below))
       where
         by : (n : ℕ) (x : Next) → (n ≡ s) ⊎ (n ≡ s → ⊥) → (n ≡ s → IsNoItems x)
-            → IsReady old n x → IsReady mid n x
+            → IsReadyNext old n x → IsReadyNext mid n x
         by n x (inl same) apart ready =
             ready_apart g old mid (with_own old.o s 0 (items.Sym symbols)) one n x
             (own_headers old.o s n (items.Sym symbols)

@@ -32,8 +32,8 @@ abbrev pub planned_signature : List ℕ → ℕ → Next
 planned_signature order info =
     if nat_lt info (length order) then nexts.Signature (new_index order info) else nexts.Stay
 
-unfoldable pub planned : Object → ℕ → List ℕ → ℕ → Next
-planned o s order n =
+unfoldable pub planned_next : Object → ℕ → List ℕ → ℕ → Next
+planned_next o s order n =
     if not ((header_at o n).link == s) then nexts.Stay
     else (if (header_at o n).stype == SHT_GROUP && not (n == 0)
     then planned_signature order (header_at o n).info
@@ -44,14 +44,14 @@ planned o s order n =
 
 -- items, over a source that may not tell its bytes: of the stated kind, as many, and the stated
 -- ones where it tells them
-abbrev pub AreItems : Bool → Items → Items → Type 0
-AreItems told l stated = AlikeItems l stated × (IsTrue told → l ≡ stated)
+abbrev pub AreStatedItems : Bool → Items → Items → Type 0
+AreStatedItems told l stated = AlikeItems l stated × (IsTrue told → l ≡ stated)
 
-abbrev pub IsNext : Bool → Next → Next → Type 0
-IsNext told nexts.Stay nexts.Stay = Unit {0}
-IsNext told (nexts.Items l) (nexts.Items stated) = AreItems told l stated
-IsNext told (nexts.Signature info) (nexts.Signature stated) = info ≡ stated
-IsNext told _ _ = ⊥
+abbrev pub IsStatedNext : Bool → Next → Next → Type 0
+IsStatedNext told nexts.Stay nexts.Stay = Unit {0}
+IsStatedNext told (nexts.Items l) (nexts.Items stated) = AreStatedItems told l stated
+IsStatedNext told (nexts.Signature info) (nexts.Signature stated) = info ≡ stated
+IsStatedNext told _ _ = ⊥
 
 -- ---- The plan: what each section gets, the last one first
 
@@ -62,7 +62,7 @@ pub record IsPlan (told : Bool) (o : Object) (s : ℕ) (order : List ℕ) (plan 
     : Type 0 where
   pub long : length plan ≡ length o.sections
   pub each : (n : ℕ) → n < length o.sections
-      → IsNext told (given_by plan (length o.sections) n) (planned o s order n)
+      → IsStatedNext told (given_by plan (length o.sections) n) (planned_next o s order n)
 
 -- ---- The object with what sections get
 
@@ -84,23 +84,23 @@ pub record IsAtHand {S : Type 0} (state : State S) (n : ℕ) (kind : Kind) : Typ
   pub holds : IsTrue (holds_items state.o state.held n 0)
   pub loaded : (piece_at state.o n 0).own ≡ None → IsTrue (is_loaded state.loaded n)
 
-abbrev pub IsReady : {S : Type 0} → State S → ℕ → Next → Type 0
-IsReady state n nexts.Stay = Unit {0}
-IsReady state n (nexts.Items l) = IsByIndex (items_kind l) × IsAtHand state n (items_kind l)
-IsReady state n (nexts.Signature info) =
+abbrev pub IsReadyNext : {S : Type 0} → State S → ℕ → Next → Type 0
+IsReadyNext state n nexts.Stay = Unit {0}
+IsReadyNext state n (nexts.Items l) = IsByIndex (items_kind l) × IsAtHand state n (items_kind l)
+IsReadyNext state n (nexts.Signature info) =
     update_shdr_refusal state.o n (signed state.o n info) ≡ None
 
 abbrev pub AreReady : {S : Type 0} → State S → List Next → Type 0
 AreReady state plan = (n : ℕ) → n < length state.o.sections
-    → IsReady state n (given_by plan (length state.o.sections) n)
+    → IsReadyNext state n (given_by plan (length state.o.sections) n)
 
 -- what section n gets is appended to what is planned, and can be stored
 pub record AppendsNext {S : Type 0} (old new : State S) (s : ℕ) (order : List ℕ) (n : ℕ)
     (before after : List Next) : Type 0 where
   pub next : Next
   pub items : after ≡ before ++ next ∷ []
-  pub is : IsNext old.told next (planned old.o s order n)
-  pub ready : IsReady new n next
+  pub is : IsStatedNext old.told next (planned_next old.o s order n)
+  pub ready : IsReadyNext new n next
 
 -- no items: so it is of the symbol table itself
 abbrev pub IsNoItems : Next → Type 0
@@ -117,7 +117,8 @@ pub record BecomesOrdered (told : Bool) (old new : Object) (s : ℕ) (order : Li
   pub symbols : List Sym
   pub count : length symbols ≡ length order
   pub given : ℕ → Next
-  pub each : (n : ℕ) → n < length old.sections → IsNext told (given n) (planned old s order n)
+  pub each : (n : ℕ) → n < length old.sections → IsStatedNext told (given n)
+      (planned_next old s order n)
   pub object : new
       ≡ stored given 0 (length old.sections) (with_own old s 0 (items.Sym symbols))
   pub exact : IsTrue told → new ≡ reordered old s order

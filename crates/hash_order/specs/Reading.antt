@@ -11,17 +11,17 @@ use Rattle.symbol_lookup.specs.elf_descriptor.State.{State}
 use Rattle.symbol_lookup.specs.elf_descriptor.Reads.{Reads}
 
 -- how a step may end: for want of memory, and by a failed read where a home is not loaded
-abbrev pub MayStop : {S : Type 0} → State S → List ℕ → ElfError → Type 0
-MayStop state homes Memory = Unit {0}
-MayStop state homes Read = 0 < homes_due state.o state.loaded homes
-MayStop state homes e = ⊥
+abbrev pub MayStopReading : {S : Type 0} → State S → List ℕ → ElfError → Type 0
+MayStopReading state homes Memory = Unit {0}
+MayStopReading state homes Read = 0 < homes_due state.o state.loaded homes
+MayStopReading state homes e = ⊥
 
 -- a step that reads homes of a list, each at the first use, and leaves the object
 pub record ReadsHomes {S T : Type 0} (g : Ghosts S) (homes : List ℕ) (result : Result T ElfError)
     (old new : State S) : Type 0 where
   pub object : new.o ≡ old.o
   pub reads : Reads g result old new homes homes (homes_due old.o old.loaded homes)
-  pub ended : IfErr result (MayStop old homes)
+  pub ended : IfErr result (MayStopReading old homes)
 
 -- steps that leave an object, and read nothing: what is loaded stays so, and no more is
 pub record Stores {S : Type 0} (g : Ghosts S) (old new : State S) (after : Object) : Type 0 where

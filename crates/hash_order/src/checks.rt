@@ -1,4 +1,4 @@
-//! What a reordering refuses. Nothing is read.
+//! What a reordering rejects. Nothing is read.
 
 ghost use Rattle.std.specs.Prelude.{◌≡◌, ◌<◌, ◌∷◌, [], length, map, None};
 ghost use Rattle.elf_types.specs.Answers.{answered, first_refusal};
@@ -13,8 +13,7 @@ use elf_outside::Source;
 use elf_types::{DataId, ElfError, Kind, Rel, Rela, ScnId, Sym};
 use symbol_lookup::prelude::{Elf, item_count};
 
-/// The number of items of a kind by which a section may go by symbols. It refuses as a lend of
-/// them.
+/// The number of items of a kind by which a section may go by symbols. It fails as a lend of them.
 fn count_of<S: Source>(elf: &Elf<S>, n: u32, kind: Kind) -> Result<u64, ElfError>
     requires { IsByIndex kind }
     ensures { result ≡ answered (lend_refusal elf.now.o kind n 0) (count_at elf.now.o n 0) }
@@ -106,7 +105,7 @@ fn check_followers<S: Source>(elf: &Elf<S>, s: ScnId, count: u64) -> Result<u64,
     }
 }
 
-/// The number of symbols of a table that can be put in another order. It refuses as a lend of them,
+/// The number of symbols of a table that can be put in another order. It fails as a lend of them,
 /// and then, of each section that goes by them, as a lend of its items and with `NoEntry`.
 pub fn check_order<S: Source>(elf: &Elf<S>, s: ScnId) -> Result<u64, ElfError>
     ensures { result ≡ answered (reorder_refusal elf.now.o s.0) (count_at elf.now.o s.0 0) }

@@ -29,7 +29,7 @@ fn set_number(words: &mut Words, i: u32, n: u64)
     words.as_mut_slice()[i as usize] = n as u32;
 }
 
-/// The indexes below a number. It refuses `Memory` alone.
+/// The indexes below a number. It fails with `Memory` alone.
 fn indexes_below(alloc: Global, count: u64) -> Result<Words, ElfError>
     requires { count ≤ 2 ^ 32 }
     ensures ok { IfOk result (λ words. words ≡ range_with_len 0 count) }
@@ -43,7 +43,7 @@ fn indexes_below(alloc: Global, count: u64) -> Result<Words, ElfError>
 }
 
 /// Puts the new indexes over the old ones: the last one first, so that the first one counts where
-/// an index stands twice.
+/// an index is twice.
 fn fill_indexes(order: &Words, indexes: &mut Words)
     requires few { length order.now ≤ 2 ^ 32 }
     requires below { AreBelow order.now }
@@ -58,7 +58,7 @@ fn fill_indexes(order: &Words, indexes: &mut Words)
     }
 }
 
-/// The new index of each old one. It refuses `Memory` alone.
+/// The new index of each old one. It fails with `Memory` alone.
 pub fn new_indexes(alloc: Global, order: &Words) -> Result<Words, ElfError>
     requires { AreBelow order.now }
     ensures ok { IfOk result (AreNewIndexes order.now) }

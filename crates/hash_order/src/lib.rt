@@ -1,8 +1,8 @@
-//! A symbol table in another order, with what goes by the indexes of its symbols: extended indexes,
-//! versions, relocations and the signatures of groups.
+//! A symbol table in another order, with all that goes by the indexes of its symbols: extended
+//! indexes, versions, relocations and the signatures of groups.
 //!
-//! [`reorder`] works out all that changes before the first change, so that a refusal, want of memory
-//! and a failed read leave the object.
+//! [`reorder`] works out all changes before it makes the first one, so an error leaves the object
+//! as it was.
 #![tactic(auto)]
 
 mod checks;

@@ -9,7 +9,7 @@ use crate::indexes::number_at;
 use elf_types::{ElfError, List, Words};
 use std::alloc::Global;
 
-/// Appends the item at an index, where there is one. It refuses `Memory` alone.
+/// Appends the item at an index, where there is one. It fails with `Memory` alone.
 fn push_item<T: Copy>(items: &List<T>, i: u32, moved: &mut List<T>) -> Result<(), ElfError>
     ensures ok { OnOk result (moved.new ≡ moved.old ++ item_or_none items.now i) }
     ensures err { IfErr result (λ e. e ≡ Memory) }
@@ -20,7 +20,7 @@ fn push_item<T: Copy>(items: &List<T>, i: u32, moved: &mut List<T>) -> Result<()
     }
 }
 
-/// The items at these indexes, one after another. It refuses `Memory` alone.
+/// The items at these indexes, one after another. It fails with `Memory` alone.
 pub fn in_order<T: Copy>(alloc: Global, order: &Words, items: &List<T>) -> Result<List<T>, ElfError>
     ensures ok { IfOk result (λ l. l ≡ in_order order.now items.now) }
     ensures err { IfErr result (λ e. e ≡ Memory) }
@@ -34,7 +34,8 @@ pub fn in_order<T: Copy>(alloc: Global, order: &Words, items: &List<T>) -> Resul
     Ok(moved)
 }
 
-/// The same with the items behind them, which stay. It refuses `Memory` alone.
+/// The items at these indexes, one after another, and then the items of the list after them, which
+/// stay. It fails with `Memory` alone.
 pub fn moved_along<T: Copy>(
     alloc: Global,
     order: &Words,

@@ -12,7 +12,7 @@ ghost use Rattle.symbol_lookup.specs.hash_model.Reordered.{in_order, items_by_sy
 ghost use Rattle.hash_build.specs.Rows.{IsOrder};
 ghost use Rattle.hash_order.specs.Indexes.{AreBelow, AreNewIndexes};
 ghost use Rattle.hash_order.specs.Kinds.{IsByIndex, CanFollow, MovesBy};
-ghost use Rattle.hash_order.specs.Plans.{planned, planned_signature, IsNext, IsPlan, IsAtHand, IsReady, AreReady, AppendsNext};
+ghost use Rattle.hash_order.specs.Plans.{planned_next, planned_signature, IsStatedNext, IsPlan, IsAtHand, IsReadyNext, AreReady, AppendsNext};
 ghost use Rattle.hash_order.specs.Reading.{ReadsHomes};
 ghost use Rattle.hash_order.specs.Calls.{all_homes};
 ghost use Rattle.hash_order.specs.declared.nexts.Next.TheVariants as nexts;
@@ -31,7 +31,7 @@ use symbol_lookup::prelude::Elf;
 
 // ---- Items
 
-/// The items of a section that goes by the symbols. It refuses `Memory` alone.
+/// The items of a section that goes by the symbols. It fails with `Memory` alone.
 fn items_by_symbols(
     alloc: Global,
     order: &Words,
@@ -53,7 +53,7 @@ fn items_by_symbols(
     }
 }
 
-/// The symbols in their new order. It refuses `Memory` alone.
+/// The symbols in their new order. It fails with `Memory` alone.
 fn symbols_in_order(alloc: Global, order: &Words, items: &Items) -> Result<Syms, ElfError>
     requires { items_kind items.now ≡ kinds.Sym }
     ensures ok { IfOk result (λ l. l ≡ in_order order.now (syms_of items.now)) }
@@ -92,9 +92,9 @@ fn plan_items<S: Source>(
     requires kind { IsByIndex _kind }
     requires passed { lend_refusal elf.old.o _kind n 0 ≡ None }
     requires moves { CanFollow (length order.now) _kind (count_at elf.old.o n 0) }
-    ensures next { IfOk result (λ x. IsNext elf.old.told x
+    ensures next { IfOk result (λ x. IsStatedNext elf.old.told x
         (nexts.Items (items_by_symbols order.now (items_at elf.old.o n 0)))) }
-    ensures ready { IfOk result (IsReady elf.new n) }
+    ensures ready { IfOk result (IsReadyNext elf.new n) }
     ensures reads { (homes : List ℕ)
         → (IsTrue (is_none (piece_at elf.old.o n 0).own) → Contains homes n)
         → ReadsHomes S.Source homes result elf.old elf.new }
@@ -142,9 +142,9 @@ fn plan_section<S: Source>(
     requires passed { reorder_refusal elf.old.o s.0 ≡ None }
     requires order { IsOrder order.now (count_at elf.old.o s.0 0) }
     requires new { AreNewIndexes order.now indexes.now }
-    ensures next { IfOk result (λ x. IsNext elf.old.told x
-        (planned elf.old.o s.0 order.now n)) }
-    ensures ready { IfOk result (IsReady elf.new n) }
+    ensures next { IfOk result (λ x. IsStatedNext elf.old.told x
+        (planned_next elf.old.o s.0 order.now n)) }
+    ensures ready { IfOk result (IsReadyNext elf.new n) }
     ensures reads { ReadsHomes S.Source (all_homes elf.old.o s.0) result elf.old elf.new }
 {
     let _dirty = elf.dirty();
@@ -163,7 +163,7 @@ fn plan_section<S: Source>(
 
 // ---- All sections
 
-/// Appends what a section gets. It refuses `Memory` alone.
+/// Appends what a section gets. It fails with `Memory` alone.
 fn push_next(plan: &mut Vec<Next>, next: Next) -> Result<(), ElfError>
     ensures ok { OnOk result (plan.new.items ≡ plan.old.items ++ next ∷ []) }
     ensures err { IfErr result (λ e. e ≡ Memory) }

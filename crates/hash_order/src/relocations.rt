@@ -48,7 +48,7 @@ fn follow_all<T: Relocates>(list: &mut List<T>, order: &Words, indexes: &Words)
     }
 }
 
-/// Relocations by the new indexes of their symbols. It refuses `Memory` alone.
+/// Relocations by the new indexes of their symbols. It fails with `Memory` alone.
 pub fn followed<T: Relocates>(
     alloc: Global,
     order: &Words,

@@ -9,7 +9,7 @@ ghost use Rattle.symbol_lookup.specs.hash_model.Reordered.{in_order, reorder_ref
 ghost use Rattle.hash_build.specs.Rows.{IsOrder};
 ghost use Rattle.hash_order.specs.Indexes.{AreNewIndexes};
 ghost use Rattle.hash_order.specs.Plans.{IsAtHand};
-ghost use Rattle.hash_order.specs.Reading.{MayStop};
+ghost use Rattle.hash_order.specs.Reading.{MayStopReading};
 ghost use Rattle.hash_order.specs.Calls.{all_homes, order_homes, reorder_wants, Reorders};
 
 use crate::checks::check_order;
@@ -36,7 +36,7 @@ fn reorder_with<S: Source>(
     requires long { length symbols ≡ length order.now }
     requires hand { IsAtHand elf.old s.0 kinds.Sym }
     ensures reorders { Reorders S.Source s.0 order.now result elf.old elf.new }
-    ensures ended { IfErr result (MayStop elf.old (all_homes elf.old.o s.0)) }
+    ensures ended { IfErr result (MayStopReading elf.old (all_homes elf.old.o s.0)) }
 {
     let mut plan = Vec::new(elf.alloc());
     match plan_sections(elf, s, order, indexes, &mut plan) {
@@ -59,7 +59,7 @@ fn reorder_by<S: Source>(
     requires order { IsOrder order.now (count_at elf.old.o s.0 0) }
     requires new { AreNewIndexes order.now indexes.now }
     ensures reorders { Reorders S.Source s.0 order.now result elf.old elf.new }
-    ensures ended { IfErr result (MayStop elf.old (all_homes elf.old.o s.0)) }
+    ensures ended { IfErr result (MayStopReading elf.old (all_homes elf.old.o s.0)) }
 {
     match plan_symbols(elf, s, order) {
         Ok(symbols) => reorder_with(elf, s, order, indexes, symbols),
@@ -67,12 +67,12 @@ fn reorder_by<S: Source>(
     }
 }
 
-/// Plans a new order that nothing refuses, and stores it.
+/// Plans a new order that nothing rejects, and stores it.
 fn reorder_passed<S: Source>(elf: &mut Elf<S>, s: ScnId, order: &Words) -> Result<(), ElfError>
     requires passed { reorder_refusal elf.old.o s.0 ≡ None }
     requires order { IsOrder order.now (count_at elf.old.o s.0 0) }
     ensures reorders { Reorders S.Source s.0 order.now result elf.old elf.new }
-    ensures ended { IfErr result (MayStop elf.old (all_homes elf.old.o s.0)) }
+    ensures ended { IfErr result (MayStopReading elf.old (all_homes elf.old.o s.0)) }
 {
     match new_indexes(elf.alloc(), order) {
         Ok(indexes) => reorder_by(elf, s, order, &indexes),
@@ -86,10 +86,10 @@ fn reorder_passed<S: Source>(elf: &mut Elf<S>, s: ScnId, order: &Words) -> Resul
 /// relocation's symbol, and in `SHT_GROUP`, but for section 0, the signature in `sh_info`. An index
 /// that is no symbol's stays.
 ///
-/// It refuses as a lend of the symbols, and then, section by section, as a lend of the items that
-/// go along, and with `NoEntry` where there are fewer of them than symbols, with the last symbol;
-/// then `Memory` or `Read`. All this comes before the first change. It reads each piece at the
-/// first use.
+/// It fails as a lend of the symbols, and then, section by section, as a lend of the items that go
+/// along, and with `NoEntry` where there are fewer of them than symbols, with the last symbol; then
+/// `Memory` or `Read`. All this comes before the first change. It reads each piece at the first
+/// use.
 ///
 /// Source: gABI chapter 4, "Sections", `sh_link` and `sh_info`.
 pub fn reorder<S: Source>(elf: &mut Elf<S>, s: ScnId, order: &Words) -> Result<(), ElfError>

@@ -1,5 +1,5 @@
-//! Stores what is planned. Each piece is at hand by now, so nothing is read, no memory is taken, and
-//! nothing is refused.
+//! Stores what is planned. Each piece is in memory by now, so nothing is read, no memory is taken,
+//! and nothing is rejected.
 
 ghost use Rattle.std.specs.Prelude.{◌≡◌, ◌<◌, ◌-◌, length, take, slice_index_or, None};
 ghost use Rattle.elf_types.specs.declared.records.Kind.TheVariants as kinds;
@@ -8,7 +8,7 @@ ghost use Rattle.elf_xlate.specs.Translation.{items_kind};
 ghost use Rattle.symbol_lookup.specs.elf_object.Calls.{update_shdr_refusal};
 ghost use Rattle.symbol_lookup.specs.elf_object.Steps.{with_own, with_shdr};
 ghost use Rattle.hash_order.specs.Kinds.{IsByIndex};
-ghost use Rattle.hash_order.specs.Plans.{signed, gets, stored, given_by, IsAtHand, IsReady, AreReady, IsNoItems};
+ghost use Rattle.hash_order.specs.Plans.{signed, gets, stored, given_by, IsAtHand, IsReadyNext, AreReady, IsNoItems};
 ghost use Rattle.hash_order.specs.Reading.{Stores, StoresOne};
 ghost use Rattle.hash_order.specs.declared.nexts.Next.TheVariants as nexts;
 
@@ -66,7 +66,7 @@ fn put_signature<S: Source>(elf: &mut Elf<S>, n: u32, info: u32)
 
 /// Stores what section n gets.
 fn store_next<S: Source>(elf: &mut Elf<S>, n: u32, next: Next)
-    requires { IsReady elf.old n next }
+    requires { IsReadyNext elf.old n next }
     ensures { StoresOne S.Source elf.old elf.new (gets elf.old.o n next) }
 {
     match next {
@@ -79,7 +79,7 @@ fn store_next<S: Source>(elf: &mut Elf<S>, n: u32, next: Next)
 /// Stores the last of what is planned: section n gets it.
 fn store_last<S: Source>(elf: &mut Elf<S>, n: u32, plan: &mut Vec<Next>)
     requires some { 0 < length plan.old.items }
-    requires ready { IsReady elf.old n
+    requires ready { IsReadyNext elf.old n
         (slice_index_or plan.old.items (length plan.old.items - 1) nexts.Stay) }
     ensures plan { plan.new.items ≡ take (length plan.old.items - 1) plan.old.items }
     ensures stores { StoresOne S.Source elf.old elf.new (gets elf.old.o n

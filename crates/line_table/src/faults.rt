@@ -1,4 +1,4 @@
-//! Why a unit is refused.
+//! Why a unit is rejected.
 
 ghost use Rattle.std.specs.Prelude.{◌≡◌};
 ghost use Rattle.line_table.specs.declared.faults.UnitFault.TheVariants.{Memory};
@@ -6,7 +6,7 @@ ghost use Rattle.line_table.specs.declared.faults.UnitFault.TheVariants.{Memory}
 use elf_types::ElfError;
 use std::alloc::{AllocError, AllocFailed};
 
-/// Why a unit of a line table is refused.
+/// Why a unit of a line table is rejected.
 #[derive(Clone, Copy, Debug, PartialEq, Eq)]
 pub enum LineWhy {
     /// A field, a string or an operand passes its unit, its extended opcode or the section, or an
@@ -47,7 +47,7 @@ impl LineWhy {
     }
 }
 
-/// What `unit_at` refuses.
+/// What `unit_at` rejects.
 #[derive(Clone, Copy, Debug, PartialEq, Eq)]
 pub enum LineFault {
     /// There is no memory for the call.
@@ -62,7 +62,7 @@ pub enum LineFault {
     },
 }
 
-/// Why a part of a unit is refused, without the place, which its caller knows.
+/// Why a part of a unit is rejected, without the place, which its caller knows.
 #[derive(Clone, Copy, Debug)]
 pub enum UnitFault {
     /// There is no memory.

@@ -39,8 +39,8 @@ pub struct Header<'a> {
     ghost counted: { length operand_counts.now ≡ opcode_base - 1 },
 }
 
-/// The body of the unit at the front of bytes, which is what `unit_length` counts. It refuses `Cut`
-/// where that field passes the bytes, then `Form`, and then `Cut` where the body passes them.
+/// The body of the unit at the start of bytes, which is what `unit_length` counts. It fails with
+/// `Cut` where that field passes the bytes, then `Form`, and then `Cut` where the body passes them.
 #[tactic(auto, unfolding(crate::proofs::Words::body))]
 pub fn read_body(bytes: &[u8], order: Order) -> Result<&[u8], UnitFault>
     ensures value { FollowsBy (λ b. b.now) why_of result (unit_body_at order bytes.now) }
@@ -81,9 +81,9 @@ fn read_maximum_operations(version: u16, reader: &mut Reader) -> Result<u8, Unit
 impl<'a> Header<'a> {
     ghost use Rattle.line_table.specs.Views.{seen};
 
-    /// The header in a unit's body, and a reader of what stands behind it. It refuses `Cut` where
-    /// the body ends before the version, then `Version`, then `Cut` where it ends before another
-    /// field, and then `Ops`.
+    /// The header in a unit's body, and a reader of what follows it. It fails with `Cut` where the
+    /// body ends before the version, then `Version`, then `Cut` where it ends before another field,
+    /// and then `Ops`.
     #[tactic(auto, unfolding(crate::specs::Reading::bytes_at))]
     pub fn read(
         body: &'a [u8],

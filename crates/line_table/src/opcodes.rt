@@ -39,8 +39,8 @@ pub const DW_LNE_SET_ADDRESS: u8 = 2;
 /// A file more.
 pub const DW_LNE_DEFINE_FILE: u8 = 3;
 
-/// Each constant is the number that stands beside its name in the tables of specs/Constants. It is
-/// for the reader and for proofs, and does nothing.
+/// Each constant is the number that is beside its name in the tables of specs/Constants. It is for
+/// the reader and for proofs, and does nothing.
 pub fn constants_are()
     ensures standard { are_numbers standard_opcodes ≡ true }
     ensures extended { are_numbers extended_opcodes ≡ true }

@@ -1,4 +1,4 @@
-//! Opening a unit: what stands before its program (DWARF 4, 6.2.4).
+//! Opening a unit: what is before its program (DWARF 4, 6.2.4).
 
 ghost use Rattle.std.specs.Prelude.{◌≡◌, ◌+◌, length, IfOk};
 ghost use Rattle.elf_types.specs.Answers.{FollowsBy};
@@ -27,7 +27,7 @@ pub struct Opened<'a> {
     pub size: u64,
 }
 
-/// The unit at the front of bytes. It refuses `Form`, then `Cut` of the length, then `Version`,
+/// The unit at the start of bytes. It fails with `Form`, then `Cut` of the length, then `Version`,
 /// then `Cut` of the header's fields, then `Ops`, then `Cut` of the directories and the files, and
 /// then `Header`.
 #[tactic(auto, unfolding(crate::specs::Header::opened_unit))]
@@ -53,7 +53,7 @@ pub fn open<'a>(
     })
 }
 
-/// The program in a unit's body, where a reader stands behind the files.
+/// The program in a unit's body, where a reader follows the files.
 #[tactic(auto, unfolding(crate::specs::Header::program_at, crate::specs::Header::program_refusal))]
 fn find_program<'a>(
     header: &Header,
@@ -70,7 +70,7 @@ fn find_program<'a>(
         return Err(UnitFault::Why(LineWhy::Header));
     }
     let (_, program) = body.split_at(begin);
-    // Where the files end past the program's begin, less is left behind them than the program has.
+    // Where the files end past the program's begin, less is left after them than the program has.
     if after_files.len() < program.len() {
         return Err(UnitFault::Why(LineWhy::Header));
     }

@@ -49,7 +49,7 @@ pub enum Operation {
     Nothing,
 }
 
-/// The next instruction. It refuses `Cut` where one of its parts passes the unit or its extended
+/// The next instruction. It fails with `Cut` where one of its parts passes the unit or its extended
 /// opcode, and `Address` where an address is not as wide as one of the class.
 #[tactic(auto, unfolding(crate::specs::Program::operation_at))]
 pub fn read_operation(

@@ -1,4 +1,4 @@
-//! Reading numbers and strings from the front of bytes.
+//! Reading numbers and strings from the start of bytes.
 
 ghost use Rattle.std.specs.Prelude.{◌≡◌, ◌≤◌, ◌<◌, length, OnOk, ◌==◌};
 ghost use Rattle.std.specs.Int.{w16, w32, w64};
@@ -14,8 +14,8 @@ use elf_types::Order;
 use std::marker::Model;
 
 /// What is left to read, which contracts see as the list of these bytes. Each call takes what it
-/// reads off the front, and refuses `Cut` where the bytes end before it does; what is left then is
-/// open.
+/// reads off the start, and fails with `Cut` where the bytes end before it does; what is left then
+/// is open.
 #[derive(Drop)]
 pub struct Reader<'a> {
     rest: &'a [u8],

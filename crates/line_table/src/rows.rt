@@ -102,7 +102,7 @@ impl Registers {
         self.address = self.address.wrapping_add(u64::from(bytes));
     }
 
-    /// Goes on in addresses and in lines, by a special opcode less `opcode_base`. It refuses
+    /// Goes on in addresses and in lines, by a special opcode less `opcode_base`. It fails with
     /// `Range` where `line_range` is 0.
     fn advance_special(&mut self, header: &Header, adjusted: u8) -> Result<(), UnitFault>
         ensures { FollowsBy (λ _. self.new) why_of result
@@ -116,8 +116,8 @@ impl Registers {
         Ok(())
     }
 
-    /// Goes on in addresses as the special opcode 255 does. It refuses `Range` where `line_range`
-    /// is 0.
+    /// Goes on in addresses as the special opcode 255 does. It fails with `Range` where
+    /// `line_range` is 0.
     fn const_add_pc(&mut self, header: &Header) -> Result<(), UnitFault>
         ensures { FollowsBy (λ _. self.new) why_of result
             (ranged (seen header.now) (const_added (seen header.now) self.old)) }
@@ -145,7 +145,7 @@ pub struct Table {
 impl Table {
     ghost use Rattle.line_table.specs.Table.{stepped, shown_in};
 
-    /// Executes an instruction. It refuses `Range` where it would divide by a `line_range` of 0.
+    /// Executes an instruction. It fails with `Range` where it would divide by a `line_range` of 0.
     #[tactic(auto, unfolding(crate::specs::Rows::effect))]
     pub fn execute(&mut self, header: &Header, operation: Operation) -> Result<(), UnitFault>
         ensures { FollowsBy (λ _. self.new) why_of result
@@ -175,7 +175,7 @@ impl Table {
         Ok(())
     }
 
-    /// Appends the row that the registers make. It refuses `Memory` alone.
+    /// Appends the row that the registers make. It fails with `Memory` alone.
     fn append_row(&mut self, end: bool) -> Result<(), UnitFault>
         ensures { FollowsBy (λ _. self.new) why_of result (Ok (shown_in end self.old)) }
     {

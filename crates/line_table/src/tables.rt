@@ -1,4 +1,4 @@
-//! The tables of directories and files behind a unit's header (DWARF 4, 6.2.4, items 11 and 12).
+//! The tables of directories and files after a unit's header (DWARF 4, 6.2.4, items 11 and 12).
 
 ghost use Rattle.elf_types.specs.Answers.{FollowsBy};
 ghost use Rattle.line_table.specs.Reading.{list_at};
@@ -11,7 +11,7 @@ use crate::rows::FileNames;
 use elf_types::{List, Octets};
 use std::alloc::Global;
 
-/// The names of the files. It refuses `Cut` where a string or a file passes the unit.
+/// The names of the files. It fails with `Cut` where a string or a file passes the unit.
 #[tactic(auto, unfolding(crate::specs::Header::tables_at))]
 pub fn read_tables(alloc: Global, reader: &mut Reader) -> Result<FileNames, UnitFault>
     ensures { FollowsBy (λ names. (names, reader.new)) why_of result (tables_at reader.old) }

@@ -30,9 +30,9 @@ pub struct Unit {
 /// The unit at a place of a `.debug_line` section, or None exactly where the place is the section's
 /// end. The places of a unit that is not well formed are those in the section.
 ///
-/// It refuses a unit, at the unit's place, by the first of these that holds: `Form`, `Cut` of
+/// It rejects a unit, at the unit's place, by the first of these that holds: `Form`, `Cut` of
 /// `unit_length`, `Version`, `Cut` of the header's fields, `Ops`, `Cut` of the directories and the
-/// files, `Header`. Else it refuses at the first opcode that is `Cut`, `Address` or `Range`; where
+/// files, `Header`. Else it fails at the first opcode that is `Cut`, `Address` or `Range`; where
 /// one opcode is both, `Cut` comes before `Address`. `Memory` comes alone where memory runs out.
 ///
 /// Source: DWARF 2, 3 and 4, section 6.2, in the 32-bit format.

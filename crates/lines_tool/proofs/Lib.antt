@@ -1,2 +1,2 @@
-pub mod TableLemmas
-pub mod UnitLemmas
+mod TableLemmas
+mod UnitLemmas

@@ -11,25 +11,25 @@ use Rattle.elf_outside.specs.declared.sinks.Sink.{Ghosts}
 use Rattle.tool_output.specs.declared.stops.Stop.{Stop}
 use Rattle.tool_output.specs.declared.outputs.Outputs.{Outputs}
 use Rattle.tool_output.specs.Names.{Name}
-use Rattle.tool_output.specs.Reports.{Report, Reports, no_report, shown, joined, all_joined, reports_of, UnderWay}
+use Rattle.tool_output.specs.Reports.{Report, Reports, no_report, shown_report, joined_reports, all_reports_joined, reports_of, UnderWay}
 use Rattle.tool_output.specs.Steps.{KeepsSinks}
 use Rattle.tool_output.proofs.StepLemmas.{keeps_none, keeps_then}
-use Rattle.tool_output.proofs.ReportLemmas.{joined_assoc, joined_none, none_joined, reports_nothing}
+use Rattle.tool_output.proofs.ReportLemmas.{joined_assoc, joined_no_report, no_report_joined, reports_nothing}
 use Rattle.tool_output.proofs.UnderWayLemmas.{begins, goes_on, stops_at, ends_with, is_given}
 use Rattle.lines_tool.specs.Rows.{row_line, fault_text}
 use Rattle.lines_tool.specs.Units.{UnitList, unit_then, units_at_most, units_of}
-use Rattle.lines_tool.specs.Tables.{section_refused, fault_report, unit_report, units_report}
+use Rattle.lines_tool.specs.Tables.{section_message_report, fault_report, unit_report, units_report}
 
 -- ---- A unit
 
 -- lines refuse nothing
-lines_pass : {X : Type 0} (line : X → List ℕ) (xs : List X) → (reports_of (λ x. shown (line x)) xs).refused ≡ false
-unfolding reports_of all_joined joined shown no_report
+lines_pass : {X : Type 0} (line : X → List ℕ) (xs : List X) → (reports_of (λ x. shown_report (line x)) xs).refused ≡ false
+unfolding reports_of all_reports_joined joined_reports shown_report no_report
 lines_pass line [] = refl
 lines_pass line (x ∷ xs) = lines_pass line xs
 
 unit_passes : (u : LineUnit) → (unit_report u).refused ≡ false
-unfolding unit_report joined shown
+unfolding unit_report joined_reports shown_report
 unit_passes u = lines_pass row_line u.rows
 
 -- ---- The units of a section
@@ -37,21 +37,21 @@ unit_passes u = lines_pass row_line u.rows
 module _ (name : Name) (s : ℕ) where
   -- a unit, and then others
   report_cons : (u : LineUnit) (l : UnitList)
-      → units_report name s (record { units = u ∷ l.units; fault = l.fault }) ≡ joined (unit_report u) (units_report name s l)
-  unfolding units_report reports_of all_joined
+      → units_report name s (record { units = u ∷ l.units; fault = l.fault }) ≡ joined_reports (unit_report u) (units_report name s l)
+  unfolding units_report reports_of all_reports_joined
   report_cons u l = joined_assoc (unit_report u) (reports_of unit_report l.units) (fault_report name s l.fault)
 
   -- no more units
   report_end : (fault : Option LineFault) → units_report name s (record { units = []; fault = fault }) ≡ fault_report name s fault
-  unfolding units_report reports_of all_joined
-  report_end fault = none_joined (fault_report name s fault)
+  unfolding units_report reports_of all_reports_joined
+  report_end fault = no_report_joined (fault_report name s fault)
 
   module _ (class : Class) (order : Order) (section : List ℕ) where
     -- what is left at a place, of at most so many units
     abbrev pub left : ℕ → ℕ → Report
     left n at = units_report name s (units_at_most n class order section at)
 
-    unit_left : (n at : ℕ) (u : LineUnit) → unit_at class order section at ≡ Ok (Some u) → left (suc n) at ≡ joined (unit_report u) (left n u.next)
+    unit_left : (n at : ℕ) (u : LineUnit) → unit_at class order section at ≡ Ok (Some u) → left (suc n) at ≡ joined_reports (unit_report u) (left n u.next)
     unit_left n at u is =
         ap (λ (r : Result (Option LineUnit) LineFault). units_report name s (unit_then r (λ v. units_at_most n class order section v.next))) is
         ∙ report_cons u (units_at_most n class order section u.next)
@@ -62,7 +62,7 @@ module _ (name : Name) (s : ℕ) where
         ap (λ (r : Result (Option LineUnit) LineFault). units_report name s (unit_then r (λ v. units_at_most n class order section v.next))) is
         ∙ report_end None
 
-    fault_left : (n at place : ℕ) (why : LineWhy) → unit_at class order section at ≡ Err (Bad place why) → left (suc n) at ≡ section_refused name s (fault_text place why)
+    fault_left : (n at place : ℕ) (why : LineWhy) → unit_at class order section at ≡ Err (Bad place why) → left (suc n) at ≡ section_message_report name s (fault_text place why)
     unfolding fault_report
     fault_left n at place why is =
         ap (λ (r : Result (Option LineUnit) LineFault). units_report name s (unit_then r (λ v. units_at_most n class order section v.next))) is
@@ -115,7 +115,7 @@ module _ (name : Name) (s : ℕ) where
 
       -- there was no memory for a unit
       pub unit_wants : (stop : Stop) → Reports o e (Err stop) t u whole
-      unit_wants stop = stops_at h.report (left h.turns at) no_report (sym (joined_none (left h.turns at))) (reports_nothing o e u stop (left h.turns at))
+      unit_wants stop = stops_at h.report (left h.turns at) no_report (sym (joined_no_report (left h.turns at))) (reports_nothing o e u stop (left h.turns at))
 
       pub units_end : unit_at class order section at ≡ Ok None → Reports o e (Ok false) t u whole
       units_end is =
@@ -123,7 +123,7 @@ module _ (name : Name) (s : ℕ) where
           is_given turn.2 (none_left turn.0 at is)
 
       pub units_fail : (v : Outputs O E) (r : Result Bool Stop) (place : ℕ) (why : LineWhy) → unit_at class order section at ≡ Err (Bad place why)
-          → Reports o e r u v (section_refused name s (fault_text place why)) → Reports o e r t v whole
+          → Reports o e r u v (section_message_report name s (fault_text place why)) → Reports o e r t v whole
       units_fail v r place why is k =
           let turn = one_turn h.turns h.enough h.report in
-          ends_with turn.2 r (section_refused name s (fault_text place why)) refl (fault_left turn.0 at place why is) k
+          ends_with turn.2 r (section_message_report name s (fault_text place why)) refl (fault_left turn.0 at place why is) k

@@ -6,8 +6,8 @@ use Rattle.line_table.specs.declared.rows.Row.{Row}
 use Rattle.line_table.specs.Texts.{cause_text}
 
 -- the line before the units of a section, which all have one name
-unfoldable pub table_title : ℕ → List ℕ
-table_title section =
+unfoldable pub line_table_title : ℕ → List ℕ
+line_table_title section =
     codes "Line table of section " ++ decimal section ++ codes " [.debug_line]\n"
 
 -- the line before a unit

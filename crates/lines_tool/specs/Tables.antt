@@ -12,49 +12,51 @@ use Rattle.line_table.specs.declared.faults.LineFault.TheVariants.{Memory, Bad}
 use Rattle.line_table.specs.declared.units.Unit.{Unit as LineUnit}
 use Rattle.tool_output.specs.Names.{Name}
 use Rattle.tool_output.specs.Lines.{numbered_lines}
-use Rattle.tool_output.specs.Messages.{in_section}
-use Rattle.tool_output.specs.Reports.{Report, no_report, shown, refusal_report, joined, reports_of}
-use Rattle.lines_tool.specs.Rows.{table_title, unit_title, file_line, row_line, fault_text}
+use Rattle.tool_output.specs.Messages.{section_message}
+use Rattle.tool_output.specs.Reports.{Report, no_report, shown_report, refusal_report, joined_reports, reports_of}
+use Rattle.lines_tool.specs.Rows.{line_table_title, unit_title, file_line, row_line, fault_text}
 use Rattle.lines_tool.specs.Units.{UnitList, units_of}
 
 -- a message on a section
-unfoldable pub section_refused : Name → ℕ → List ℕ → Report
-section_refused name s text = refusal_report (codes "lines") name (in_section s text)
+unfoldable pub section_message_report : Name → ℕ → List ℕ → Report
+section_message_report name s text = refusal_report (codes "lines") name (section_message s text)
 
 -- the message of the fault that ends a section's units; no definition states want of memory
 unfoldable pub fault_report : Name → ℕ → Option LineFault → Report
 fault_report name s None = no_report
 fault_report name s (Some Memory) = no_report
-fault_report name s (Some (Bad at why)) = section_refused name s (fault_text at why)
+fault_report name s (Some (Bad at why)) = section_message_report name s (fault_text at why)
 
 -- a unit: its files, of which the first is file 1, and its rows
 unfoldable pub unit_report : LineUnit → Report
 unit_report u =
-    joined (shown (unit_title u.at u.version))
-    (joined (shown (numbered_lines (λ i name. file_line (i + 1) name) 0 u.files))
-    (reports_of (λ r. shown (row_line r)) u.rows))
+    joined_reports (shown_report (unit_title u.at u.version))
+    (joined_reports (shown_report (numbered_lines (λ i name. file_line (i + 1) name) 0 u.files))
+    (reports_of (λ r. shown_report (row_line r)) u.rows))
 
 -- the units that are well formed, and then the message
 unfoldable pub units_report : Name → ℕ → UnitList → Report
 units_report name s l =
-    joined (reports_of unit_report l.units) (fault_report name s l.fault)
+    joined_reports (reports_of unit_report l.units) (fault_report name s l.fault)
 
 -- the table in a section's bytes
-unfoldable pub table_report : Name → ℕ → Class → Order → List ℕ → Report
-table_report name s class order bytes =
-    joined (shown (table_title s)) (units_report name s (units_of class order bytes))
+unfoldable pub line_table_report : Name → ℕ → Class → Order → List ℕ → Report
+line_table_report name s class order bytes =
+    joined_reports (shown_report (line_table_title s))
+    (units_report name s (units_of class order bytes))
 
 -- the same of a section whose data may be compressed, which then has a message
-unfoldable pub bytes_report : Bool → Name → ℕ → Class → Order → List ℕ → Report
-bytes_report true name s class order bytes = section_refused name s (codes "compressed")
-bytes_report false name s class order bytes = table_report name s class order bytes
+unfoldable pub report_by_compression : Bool → Name → ℕ → Class → Order → List ℕ → Report
+report_by_compression true name s class order bytes =
+    section_message_report name s (codes "compressed")
+report_by_compression false name s class order bytes = line_table_report name s class order bytes
 
 -- the same of a section whose bytes may be out of the file, which then has the message of that
-unfoldable pub section_report : Name → Object → ℕ → Report
-section_report name o s = by_bytes (raw_answer o s)
+unfoldable pub line_section_report : Name → Object → ℕ → Report
+line_section_report name o s = by_bytes (raw_answer o s)
   where
     by_bytes : Result (List ℕ) ElfError → Report
     by_bytes (Err e) = refusal_report (codes "lines") name (error_text e)
     by_bytes (Ok bytes) =
-        bytes_report (is_compressed (section_at o s).header.flags) name s
+        report_by_compression (is_compressed (section_at o s).header.flags) name s
         o.header.class o.header.order bytes

@@ -1,4 +1,5 @@
-//! lines: the line tables of an object as lines of text (DWARF 2 to 4, section 6.2).
+//! The tool lines: the files of each unit, and of each row its address, file, line and column, as
+//! lines of text (DWARF 2 to 4, section 6.2).
 #![tactic(auto)]
 
 pub mod rows;

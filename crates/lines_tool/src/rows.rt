@@ -2,13 +2,13 @@
 
 ghost use Rattle.std.specs.Prelude.{◌≡◌, ◌++◌, decimal, OnOk, IfErr};
 ghost use Rattle.elf_types.specs.Writers.{WantsMemory};
-ghost use Rattle.lines_tool.specs.Rows.{table_title, unit_title, file_line, word_if, row_place, row_words, row_line, fault_text};
+ghost use Rattle.lines_tool.specs.Rows.{line_table_title, unit_title, file_line, word_if, row_place, row_words, row_line, fault_text};
 
 use elf_types::{ElfError, Octets, put_bytes, put_decimal, put_hex, put_text};
 use line_table::{LineWhy, Row};
 use tool_output::Line;
 
-/// Appends a number behind the words that name it.
+/// Appends a number after the words that name it.
 #[tactic(auto, using(elf_types::proofs::Writers::kept))]
 fn put_named(page: &mut Octets, words: &str, n: u64) -> Result<(), ElfError>
     ensures ok { OnOk result (page.new ≡ page.old ++ (words.now ++ decimal n)) }
@@ -26,9 +26,9 @@ pub struct TableTitle {
 }
 
 impl Line for TableTitle {
-    ghost text = { λ t. table_title t.section };
+    ghost text = { λ t. line_table_title t.section };
 
-    #[tactic(auto, using(elf_types::proofs::Writers::kept), unfolding(crate::specs::Rows::table_title))]
+    #[tactic(auto, using(elf_types::proofs::Writers::kept), unfolding(crate::specs::Rows::line_table_title))]
     fn put(&self, page: &mut Octets) -> Result<(), ElfError> {
         put_named(page, "Line table of section ", u64::from(self.section))?;
         put_text(page, " [.debug_line]\n")

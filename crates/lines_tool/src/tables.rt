@@ -5,26 +5,26 @@ ghost use Rattle.elf_types.specs.Kinds.{is_compressed};
 ghost use Rattle.elf_object.specs.Object.{section_at};
 ghost use Rattle.tool_output.specs.Reports.{Reports};
 ghost use Rattle.tool_output.specs.Steps.{LeavesOutputs};
-ghost use Rattle.lines_tool.specs.Tables.{table_report, section_report};
+ghost use Rattle.lines_tool.specs.Tables.{line_table_report, line_section_report};
 
 use crate::rows::TableTitle;
-use crate::units::{TableBytes, refuse_section, show_units};
+use crate::units::{LineTableSection, refuse_section, show_units};
 use elf_outside::{Sink, Source};
 use elf_types::{Ehdr, ElfError, ScnId, is_compressed};
-use object_output::prelude::Elf;
-use object_output::{SectionTool, section_header};
 use std::alloc::Global;
+use tool_objects::prelude::Elf;
+use tool_objects::{SectionTool, section_header};
 use tool_output::{FileName, Message, Outputs, Stop};
 
 /// Shows the line table in the bytes of a section.
 fn show_table<O: Sink, E: Sink>(
     alloc: Global,
-    table: &TableBytes<'_>,
+    table: &LineTableSection<'_>,
     name: &FileName<'_>,
     outputs: &mut Outputs<'_, O, E>,
 ) -> Result<bool, Stop>
     ensures reports { let t = table.now in Reports O.Sink E.Sink result outputs.old outputs.new
-        (table_report name.now t.section t.class t.order t.bytes.now) }
+        (line_table_report name.now t.section t.class t.order t.bytes.now) }
     ensures leaves { LeavesOutputs O.Sink E.Sink ⊥ result outputs.old outputs.new }
 {
     let section = table.section;
@@ -32,7 +32,7 @@ fn show_table<O: Sink, E: Sink>(
     show_units(alloc, table, name, outputs)
 }
 
-/// Refuses a section whose data is compressed, or for being out of the file where it is that.
+/// Rejects a section whose data is compressed, or for being out of the file where it is that.
 /// Nothing is read.
 fn refuse_compressed<S: Source, O: Sink, E: Sink>(
     name: &FileName<'_>,
@@ -43,7 +43,7 @@ fn refuse_compressed<S: Source, O: Sink, E: Sink>(
     requires there { s.0 < length elf.now.o.sections }
     requires compressed { is_compressed (section_at elf.now.o s.0).header.flags ≡ true }
     ensures reports { Reports O.Sink E.Sink result outputs.old outputs.new
-        (section_report name.now elf.now.o s.0) }
+        (line_section_report name.now elf.now.o s.0) }
     ensures leaves { LeavesOutputs O.Sink E.Sink ⊥ result outputs.old outputs.new }
 {
     match elf.is_out_of_file(s) {
@@ -65,7 +65,7 @@ pub struct LineTables<'a> {
 }
 
 impl SectionTool for LineTables<'_> {
-    ghost report = { λ t o s. section_report t.name.now o s };
+    ghost report = { λ t o s. line_section_report t.name.now o s };
 
     fn show<S: Source, O: Sink, E: Sink>(
         &self,
@@ -81,7 +81,7 @@ impl SectionTool for LineTables<'_> {
         let alloc = elf.alloc();
         match elf.raw(s) {
             Ok(bytes) => {
-                let table = &TableBytes {
+                let table = &LineTableSection {
                     section: s.0,
                     bytes,
                     class,

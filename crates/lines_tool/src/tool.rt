@@ -2,15 +2,15 @@
 
 ghost use Rattle.std.specs.Prelude.{◌≡◌, codes};
 ghost use Rattle.tool_output.specs.Names.{file_name};
-ghost use Rattle.object_output.specs.Looks.{looks_over};
-ghost use Rattle.object_output.specs.Shows.{ShowsOver};
+ghost use Rattle.tool_objects.specs.Looks.{looks_over};
+ghost use Rattle.tool_objects.specs.Shows.{ShowsOver};
 ghost use Rattle.lines_tool.specs.Tool.{lines_report};
 
 use crate::tables::LineTables;
 use elf_outside::{Sink, Source};
-use object_output::prelude::Elf;
-use object_output::{ObjectTool, each_section_named, show_object};
 use std::alloc::Global;
+use tool_objects::prelude::Elf;
+use tool_objects::{ObjectTool, each_section_named, show_object};
 use tool_output::{FileName, Outputs, Stop};
 
 /// The tool of the command lines.
@@ -40,9 +40,8 @@ impl ObjectTool for LinesTool {
 }
 
 /// Shows the line table of each section named `.debug_line`, as the command lines does, on two
-/// outputs. Messages name the object by `name`. The answer tells whether something was refused. It
-/// stops by `Read` where a read of the source failed, by `Write` where a put failed, and by
-/// `Memory`.
+/// outputs. Messages name the object by `name`. It returns whether something was rejected. It stops
+/// by `Read` where a read of the source failed, by `Write` where a put failed, and by `Memory`.
 pub fn lines<S: Source, O: Sink, E: Sink>(
     alloc: Global,
     elf: &mut Elf<S>,

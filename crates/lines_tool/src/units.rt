@@ -2,11 +2,11 @@
 
 ghost use Rattle.std.specs.Prelude.{◌+◌};
 ghost use Rattle.tool_output.specs.Lines.{numbered_lines};
-ghost use Rattle.tool_output.specs.Reports.{Reports, shown, reports_of};
+ghost use Rattle.tool_output.specs.Reports.{Reports, shown_report, reports_of};
 ghost use Rattle.tool_output.specs.Steps.{LeavesOutputs};
 ghost use Rattle.lines_tool.specs.Rows.{file_line, row_line};
 ghost use Rattle.lines_tool.specs.Units.{units_of};
-ghost use Rattle.lines_tool.specs.Tables.{section_refused, unit_report, units_report};
+ghost use Rattle.lines_tool.specs.Tables.{section_message_report, unit_report, units_report};
 
 use crate::rows::{FaultText, FileLine, RowLine, UnitTitle};
 use elf_outside::Sink;
@@ -21,7 +21,7 @@ fn show_files<O: Sink, E: Sink>(
     outputs: &mut Outputs<'_, O, E>,
 ) -> Result<bool, Stop>
     ensures reports { Reports O.Sink E.Sink result outputs.old outputs.new
-        (shown (numbered_lines (λ i name. file_line (i + 1) name) 0 files.now)) }
+        (shown_report (numbered_lines (λ i name. file_line (i + 1) name) 0 files.now)) }
     ensures leaves { LeavesOutputs O.Sink E.Sink ⊥ result outputs.old outputs.new }
 {
     for (i, file) in files.iter().enumerate() {
@@ -35,7 +35,7 @@ fn show_files<O: Sink, E: Sink>(
 /// Shows the rows of a unit.
 fn show_rows<O: Sink, E: Sink>(rows: &[Row], outputs: &mut Outputs<'_, O, E>) -> Result<bool, Stop>
     ensures reports { Reports O.Sink E.Sink result outputs.old outputs.new
-        (reports_of (λ r. shown (row_line r)) rows.now) }
+        (reports_of (λ r. shown_report (row_line r)) rows.now) }
     ensures leaves { LeavesOutputs O.Sink E.Sink ⊥ result outputs.old outputs.new }
 {
     for row in rows {
@@ -59,7 +59,7 @@ fn show_unit<O: Sink, E: Sink>(unit: &Unit, outputs: &mut Outputs<'_, O, E>) -> 
 
 /// A section whose bytes hold a line table.
 #[derive(Clone, Copy)]
-pub struct TableBytes<'a> {
+pub struct LineTableSection<'a> {
     /// Its number.
     pub section: u32,
     /// Its bytes.
@@ -70,8 +70,8 @@ pub struct TableBytes<'a> {
     pub order: Order,
 }
 
-/// Refuses a section, by a message that names it.
-#[tactic(auto, unfolding(crate::specs::Tables::section_refused))]
+/// Rejects a section, by a message that names it.
+#[tactic(auto, unfolding(crate::specs::Tables::section_message_report))]
 pub fn refuse_section<T: Line + Drop, O: Sink, E: Sink>(
     name: &FileName<'_>,
     section: u32,
@@ -79,7 +79,7 @@ pub fn refuse_section<T: Line + Drop, O: Sink, E: Sink>(
     outputs: &mut Outputs<'_, O, E>,
 ) -> Result<bool, Stop>
     ensures reports { Reports O.Sink E.Sink result outputs.old outputs.new
-        (section_refused name.now section (T.text text)) }
+        (section_message_report name.now section (T.text text)) }
     ensures leaves { LeavesOutputs O.Sink E.Sink ⊥ result outputs.old outputs.new }
 {
     outputs.refuse(&Message {
@@ -93,7 +93,7 @@ pub fn refuse_section<T: Line + Drop, O: Sink, E: Sink>(
 /// that is not well formed has a message, and ends them.
 pub fn show_units<O: Sink, E: Sink>(
     alloc: Global,
-    table: &TableBytes<'_>,
+    table: &LineTableSection<'_>,
     name: &FileName<'_>,
     outputs: &mut Outputs<'_, O, E>,
 ) -> Result<bool, Stop>

@@ -12,21 +12,21 @@ use Rattle.elf_object.specs.Open.{begun, opened, opened_section}
 use Rattle.elf_object.specs.Answers.{syms_of}
 use Rattle.elf_object.specs.Strings.{string_answer, readable}
 use Rattle.section_data.specs.Held.{items_of_bytes}
-use Rattle.object_output.specs.gelf_view.Records.{string_front}
+use Rattle.tool_objects.specs.gelf_view.Records.{string_front}
 use Rattle.nm_tool.specs.declared.options.NmOptions.{NmOptions}
 use Rattle.tool_output.specs.Names.{Name}
 use Rattle.tool_output.specs.Reports.{Report, no_report}
-use Rattle.object_output.specs.Images.{image_report, object_report as image_object_report}
-use Rattle.bytes_at_hand.specs.declared.items.ItemBytes.{ItemBytes}
-use Rattle.front_symbols.specs.declared.tables.PlainTable.{PlainTable}
-use Rattle.front_symbols.specs.Tables.{is_symbols, IsPlain}
-use Rattle.front_symbols.proofs.PlainLaws.{headers_begun, position_begun, plain_lent, plain_items, plain_counted, plain_unindexed, plain_link, plain_strings}
+use Rattle.tool_objects.specs.Images.{image_report, object_report as image_object_report}
+use Rattle.tool_objects.specs.declared.at_hand.items.ItemBytes.{ItemBytes}
+use Rattle.nm_front.specs.declared.tables.PlainTable.{PlainTable}
+use Rattle.nm_front.specs.Tables.{is_symbols, IsPlain}
+use Rattle.nm_front.proofs.PlainLaws.{headers_begun, position_begun, plain_lent, plain_items, plain_counted, plain_unindexed, plain_link, plain_strings}
 use Rattle.nm_tool.specs.declared.kept.Kept.{Kept}
-use Rattle.nm_tool.specs.declared.symbols.TableBytes.{TableBytes}
-use Rattle.nm_tool.specs.Listed.{is_table, symbol_table, symbols, name_or_none}
-use Rattle.nm_tool.specs.Tables.{ArePlain, AreFirst, AreOfFront}
-use Rattle.nm_tool.specs.Kept.{kept_of, kept_entries, shown_in, shown_name, TellsRows}
-use Rattle.nm_tool.specs.Tool.{entries_report, rows_report, table_report, object_report, nm_report}
+use Rattle.nm_tool.specs.declared.symbols.SymbolTableBytes.{SymbolTableBytes}
+use Rattle.nm_tool.specs.Listed.{is_table, symbol_table, symbols_in_table, name_or_none}
+use Rattle.nm_tool.specs.Tables.{ArePlainSymbols, IsFirstSymbolTable, AreOfFront}
+use Rattle.nm_tool.specs.Kept.{kept_of, kept_entries, shown_name_in, linked_shown_name, TellsRows}
+use Rattle.nm_tool.specs.Tool.{symbol_entries_report, rows_report, table_report, listing_report, nm_report}
 use Rattle.nm_tool.proofs.KeptLemmas.{kept_rows, none_reported}
 
 -- ---- What nm says of an image
@@ -46,7 +46,7 @@ unfolding symbol_table opened_section
 none_found f image none = sym (position_begun f image is_table ∙ none)
 
 module _ (f : Front) (image : List ℕ) (t : PlainTable) (plain : IsPlain f (length image) t)
-    (first : AreFirst f t) where
+    (first : IsFirstSymbolTable f t) where
   abbrev o : Object
   o = begun f image
 
@@ -60,9 +60,9 @@ module _ (f : Front) (image : List ℕ) (t : PlainTable) (plain : IsPlain f (len
   -- or it has the rows of its plain table
   pub plain_said : (options : NmOptions) (file : Name)
       → nm_report options file o ≡ rows_report options file o s
-  unfolding nm_report object_report table_report
+  unfolding nm_report listing_report table_report
   plain_said options file =
-      ap (object_report options file o) (sym plain_found)
+      ap (listing_report options file o) (sym plain_found)
       ∙ ap (table_report options file o s) (plain_lent f image t plain first)
 
   -- ---- By the bytes of the two ranges
@@ -72,7 +72,7 @@ module _ (f : Front) (image : List ℕ) (t : PlainTable) (plain : IsPlain f (len
     abbrev range : List ℕ
     range = take t.symbols.size (drop t.symbols.offset image)
 
-    pub plain_held : ArePlain o s b
+    pub plain_held : ArePlainSymbols o s b
     plain_held = record {
       plain = sym (plain_unindexed f image t plain first);
       held = ap syms_of (plain_items f image t plain first)
@@ -86,7 +86,7 @@ module _ (f : Front) (image : List ℕ) (t : PlainTable) (plain : IsPlain f (len
   names_are : (strings bytes : List ℕ)
       → ((at : ℕ) → string_front (drop at strings) ≡ string_front (drop at bytes))
       → bytes ≡ take t.names.size (drop t.names.offset image)
-      → (at : ℕ) → shown_in strings at ≡ shown_name o s at
+      → (at : ℕ) → shown_name_in strings at ≡ linked_shown_name o s at
   names_are strings bytes same is at =
       ap name_or_none (same at ∙ ap (λ (l : List ℕ). string_front (drop at l)) is
       ∙ sym (plain_strings f image t plain first at))
@@ -94,7 +94,7 @@ module _ (f : Front) (image : List ℕ) (t : PlainTable) (plain : IsPlain f (len
       (sym (plain_link f image t plain first))
 
   -- the rows are those that the bytes tell
-  pub rows_told : (b : TableBytes) (bytes : List ℕ) → AreOfFront f b.symbols
+  pub rows_told : (b : SymbolTableBytes) (bytes : List ℕ) → AreOfFront f b.symbols
       → b.symbols.bytes.now ≡ take t.symbols.size (drop t.symbols.offset image)
       → ((at : ℕ) → string_front (drop at b.strings.now) ≡ string_front (drop at bytes))
       → bytes ≡ take t.names.size (drop t.names.offset image)
@@ -109,12 +109,12 @@ module _ (f : Front) (image : List ℕ) (t : PlainTable) (plain : IsPlain f (len
   module _ (options : NmOptions) (file : Name) (count : ℕ) (list : List Kept)
       (counted : count ≡ t.symbols.size / item_size kinds.Sym f.ehdr.class)
       (kept : list ≡ kept_of options o s (count - 1)) where
-    all_counted : count ≡ length (symbols o s)
+    all_counted : count ≡ length (symbols_in_table o s)
     all_counted = counted ∙ sym (plain_counted f image t plain first)
 
     pub plain_rows : rows_report options file o s
-        ≡ entries_report options file o s
-        (kept_entries options.by_value (shown_name o s) list)
+        ≡ symbol_entries_report options file o s
+        (kept_entries options.by_value (linked_shown_name o s) list)
     plain_rows = kept_rows options file o s count list all_counted kept
 
     pub no_rows : length list ≡ 0 → rows_report options file o s ≡ no_report

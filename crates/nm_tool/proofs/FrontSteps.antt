@@ -12,9 +12,9 @@ use Rattle.elf_ident.specs.Front.{front_bytes}
 use Rattle.elf_object.specs.Object.{Object}
 use Rattle.elf_object.specs.Open.{begun, opened}
 use Rattle.elf_object.specs.Due.{all_sections}
-use Rattle.object_output.specs.elf_descriptor.State.{State}
-use Rattle.object_output.specs.elf_descriptor.Begun.{begun_state}
-use Rattle.object_output.specs.elf_descriptor.Views.{source_bytes}
+use Rattle.tool_objects.specs.elf_descriptor.State.{State}
+use Rattle.tool_objects.specs.elf_descriptor.Begun.{begun_state}
+use Rattle.tool_objects.specs.elf_descriptor.Views.{source_bytes}
 use Rattle.tool_output.specs.declared.stops.Stop.{Stop}
 use Rattle.tool_output.specs.declared.stops.Stop.TheVariants.{Memory}
 use Rattle.tool_output.specs.declared.outputs.Outputs.{Outputs}
@@ -26,17 +26,17 @@ use Rattle.tool_output.specs.Stops.{stop_of}
 use Rattle.tool_output.proofs.SourceLemmas.{Stops, reads_weaker, refuses_after}
 use Rattle.tool_output.proofs.ReportLemmas.{reports_none, reports_nothing}
 use Rattle.tool_output.proofs.StepLemmas.{keeps_none}
-use Rattle.object_output.specs.Images.{image_report, object_asks, image_asks}
-use Rattle.object_output.specs.Looks.{looks_over}
-use Rattle.object_output.specs.Steps.{ReportsElf, LeavesElfOver, WentOn, homes_left, homes_total, asked_again}
-use Rattle.object_output.proofs.OnceReads.{due_at_first}
+use Rattle.tool_objects.specs.Images.{image_report, object_asks, image_asks}
+use Rattle.tool_objects.specs.Looks.{looks_over}
+use Rattle.tool_objects.specs.Steps.{ReportsElf, LeavesElfOver, WentOn, homes_left, homes_total, asked_again}
+use Rattle.tool_objects.proofs.OnceReads.{due_at_first}
 use Rattle.nm_tool.proofs.FrontLemmas.{image_nm}
 
 -- ---- Of an image, where the source tells it
 
-pub always : {T : Type 0} (P : T → Type 0) (r : Option T) → ((x : T) → P x) → IfSome r P
-always P None f = tt
-always P (Some x) f = f x
+pub if_some_of_all : {T : Type 0} (P : T → Type 0) (r : Option T) → ((x : T) → P x) → IfSome r P
+if_some_of_all P None f = tt
+if_some_of_all P (Some x) f = f x
 
 pub of_both : {T : Type 0} (P Q R : T → Type 0) (r : Option T) → IfSome r P → IfSome r Q
     → ((x : T) → P x → Q x → R x) → IfSome r R
@@ -65,7 +65,7 @@ module _ {S O E : Type 0} (g : SourceGhosts S) (o : SinkGhosts O) (e : SinkGhost
       → ReportsOn g o e report (Err stop) a b t t
   range_unread {T} report d stop n a b t is asks =
       refuses_after o e {S = S} {T = T} g report (Err stop) n a b t t d no_report asks
-      (always (λ image. stop_of d ≡ None → report image ≡ no_report) (g.holds a)
+      (if_some_of_all (λ image. stop_of d ≡ None → report image ≡ no_report) (g.holds a)
       (λ image none. let never = sym is ∙ none in cc))
       (rw is tt) (rw is (refl, refl)) (rw is tt)
 
@@ -74,7 +74,7 @@ module _ {S O E : Type 0} (g : SourceGhosts S) (o : SinkGhosts O) (e : SinkGhost
       → stop ≡ Memory → ReportsOn g o e report (Err stop) a a t t
   want_stops report stop a t is =
       subst (λ (x : Stop). ReportsOn g o e report (Err x) a a t t) (sym is) (record {
-        reports = always (λ image. Reports o e (Err Memory) t t (report image)) (g.holds a)
+        reports = if_some_of_all (λ image. Reports o e (Err Memory) t t (report image)) (g.holds a)
             (λ image. reports_nothing o e t Memory (report image));
         source = record { same_len = refl; same_bytes = refl; same_rest = refl };
         later = omega arith;

@@ -12,8 +12,8 @@ use Rattle.elf_types.specs.Answers.{answered, refused_if}
 use Rattle.elf_types.specs.declared.errors.ElfError.TheVariants.{NoSection}
 use Rattle.elf_object.specs.Object.{Object, Section, section_at, absent_section}
 use Rattle.elf_object.specs.Calls.{shdr_answer}
-use Rattle.object_output.specs.gelf_view.declared.symbols.SymPlace.TheVariants as places
-use Rattle.bytes_at_hand.proofs.HeldItems.{all_before}
+use Rattle.tool_objects.specs.gelf_view.declared.symbols.SymPlace.TheVariants as places
+use Rattle.tool_objects.proofs.at_hand.HeldItems.{all_before}
 use Rattle.nm_tool.specs.Letters.{section_letter, place_letter, HasHeaders}
 
 abbrev header_of : Section → Shdr

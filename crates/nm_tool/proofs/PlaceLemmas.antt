@@ -12,14 +12,14 @@ use Rattle.elf_object.specs.Words.{result_map}
 use Rattle.elf_object.specs.Object.{Object}
 use Rattle.elf_object.specs.Calls.{word_answer}
 use Rattle.elf_object.specs.SymbolSections.{shndx_table, extended_index, place_of_symbol}
-use Rattle.object_output.specs.elf_descriptor.State.{State}
-use Rattle.object_output.specs.gelf_view.declared.symbols.SymPlace.{SymPlace}
-use Rattle.object_output.specs.gelf_view.declared.symbols.SymPlace.TheVariants.{Special, Section}
-use Rattle.object_output.specs.Answers.{value_of}
-use Rattle.object_output.specs.Symbols.{symbol_place}
-use Rattle.bytes_at_hand.specs.declared.items.ItemBytes.{ItemBytes}
+use Rattle.tool_objects.specs.elf_descriptor.State.{State}
+use Rattle.tool_objects.specs.gelf_view.declared.symbols.SymPlace.{SymPlace}
+use Rattle.tool_objects.specs.gelf_view.declared.symbols.SymPlace.TheVariants.{Special, Section}
+use Rattle.tool_objects.specs.Answers.{value_of}
+use Rattle.tool_objects.specs.Symbols.{told_symbol_place}
+use Rattle.tool_objects.specs.declared.at_hand.items.ItemBytes.{ItemBytes}
 use Rattle.nm_tool.specs.declared.symbols.Tables.{Tables}
-use Rattle.nm_tool.specs.Tables.{AreTables, ArePlain, HoldsSymbols}
+use Rattle.nm_tool.specs.Tables.{AreTables, ArePlainSymbols, HoldsSymbols}
 
 -- ---- By the index
 
@@ -45,33 +45,33 @@ place_by n false false index none = refl
 
 module _ (o : Object) (s i : ℕ) (x : Sym) (index : ℕ) (none : None ≡ shndx_table o s)
     (is : x.shndx ≡ index) where
-  place_is : symbol_place o s i x
+  place_is : told_symbol_place o s i x
       ≡ by_tests index (nat_lt index SHN_LORESERVE) (index == SHN_XINDEX)
-  unfolding symbol_place place_of_symbol
+  unfolding told_symbol_place place_of_symbol
   place_is =
       place_by x.shndx (nat_lt x.shndx SHN_LORESERVE) (x.shndx == SHN_XINDEX)
       (extended_index o s i) (no_index o s i none)
       ∙ ap (λ (n : ℕ). by_tests n (nat_lt n SHN_LORESERVE) (n == SHN_XINDEX)) is
 
-  pub place_below : index < SHN_LORESERVE → symbol_place o s i x ≡ Some (Section index)
+  pub place_below : index < SHN_LORESERVE → told_symbol_place o s i x ≡ Some (Section index)
   place_below below =
       place_is
       ∙ ap (λ (low : Bool). by_tests index low (index == SHN_XINDEX))
       (lt-ltb index SHN_LORESERVE below)
 
   not_below : SHN_LORESERVE ≤ index
-      → symbol_place o s i x ≡ by_tests index false (index == SHN_XINDEX)
+      → told_symbol_place o s i x ≡ by_tests index false (index == SHN_XINDEX)
   not_below above =
       place_is
       ∙ ap (λ (low : Bool). by_tests index low (index == SHN_XINDEX))
       (le-ltb index SHN_LORESERVE above)
 
-  pub place_extended : SHN_LORESERVE ≤ index → index ≡ SHN_XINDEX → symbol_place o s i x ≡ None
+  pub place_extended : SHN_LORESERVE ≤ index → index ≡ SHN_XINDEX → told_symbol_place o s i x ≡ None
   place_extended above extended =
       not_below above ∙ ap (by_tests index false) (eq-eqb index SHN_XINDEX extended)
 
   pub place_special : SHN_LORESERVE ≤ index → index ≢ SHN_XINDEX
-      → symbol_place o s i x ≡ Some (Special index)
+      → told_symbol_place o s i x ≡ Some (Special index)
   place_special above plain =
       not_below above ∙ ap (by_tests index false) (ne_eqb index SHN_XINDEX plain)
 
@@ -79,7 +79,7 @@ module _ (o : Object) (s i : ℕ) (x : Sym) (index : ℕ) (none : None ≡ shndx
 
 -- what they hold, where the source tells its bytes
 pub plain_told : {S : Type 0} (state : State S) (t : Tables) (b : ItemBytes) → AreTables state.o t
-    → HoldsSymbols state t b → IsTrue state.told → ArePlain state.o t.symbols.0 b
+    → HoldsSymbols state t b → IsTrue state.told → ArePlainSymbols state.o t.symbols.0 b
 plain_told state t b tables holds told = record {
   plain = sym (ap (λ (indexes : Option ScnId). option_map (λ (x : ScnId). x.0) indexes) holds.plain)
       ∙ tables.indexes;

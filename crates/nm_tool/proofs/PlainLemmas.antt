@@ -4,15 +4,15 @@ use Rattle.std.specs.Prelude.{slice_get, if◌then◌else◌}
 use Rattle.elf_types.specs.declared.records.Sym.{Sym}
 use Rattle.elf_outside.specs.declared.sources.Source.{Ghosts as SourceGhosts}
 use Rattle.elf_object.specs.Object.{Object}
-use Rattle.object_output.specs.elf_descriptor.State.{State}
+use Rattle.tool_objects.specs.elf_descriptor.State.{State}
 use Rattle.nm_tool.specs.declared.options.NmOptions.{NmOptions}
 use Rattle.tool_output.specs.declared.stops.Stop.{Stop}
 use Rattle.tool_output.specs.declared.stops.Stop.TheVariants.{Memory}
-use Rattle.object_output.specs.Steps.{Learns}
-use Rattle.object_output.proofs.ElfSteps.{elf_left, left_as}
-use Rattle.object_output.proofs.LearnLemmas.{learns_now}
+use Rattle.tool_objects.specs.Steps.{Learns}
+use Rattle.tool_objects.proofs.ElfSteps.{elf_left, left_as}
+use Rattle.tool_objects.proofs.LearnLemmas.{learns_now}
 use Rattle.nm_tool.specs.declared.kept.Kept.{Kept}
-use Rattle.nm_tool.specs.Listed.{symbols, is_kept, is_wanted}
+use Rattle.nm_tool.specs.Listed.{symbols_in_table, is_listable_symbol, is_wanted}
 use Rattle.nm_tool.specs.Pools.{if_wanted, wanted_at}
 use Rattle.nm_tool.specs.Kept.{kept_symbol, with_kept, kept_of}
 
@@ -21,13 +21,13 @@ module _ (options : NmOptions) (o : Object) (s : ℕ) (list : List Kept) (i : �
   made w = elim w [ None ↦ list | Some y ↦ list ++ kept_symbol y i ∷ [] ]
 
   -- it is not there
-  pub with_none : slice_get (symbols o s) i ≡ None → with_kept options o s list i ≡ list
+  pub with_none : slice_get (symbols_in_table o s) i ≡ None → with_kept options o s list i ≡ list
   unfolding with_kept wanted_at
   with_none none =
       ap (λ (g : Option Sym). made (elim g [ None ↦ None | Some y ↦ if_wanted options o s i y ]))
       none
 
-  module _ (x : Sym) (there : slice_get (symbols o s) i ≡ Some x) where
+  module _ (x : Sym) (there : slice_get (symbols_in_table o s) i ≡ Some x) where
     by_wanted : with_kept options o s list i ≡ made (if_wanted options o s i x)
     unfolding with_kept wanted_at
     by_wanted =
@@ -35,9 +35,9 @@ module _ (options : NmOptions) (o : Object) (s : ℕ) (list : List Kept) (i : �
         there
 
     -- it is wanted
-    pub with_one : (is_kept options x && is_wanted options o s i x) ≡ true
+    pub with_one : (is_listable_symbol options x && is_wanted options o s i x) ≡ true
         → with_kept options o s list i ≡ list ++ kept_symbol x i ∷ []
-    with_one both = by_wanted ∙ by_tests (is_kept options x) (is_wanted options o s i x) both
+    with_one both = by_wanted ∙ by_tests (is_listable_symbol options x) (is_wanted options o s i x) both
       where
         by_tests : (kept wanted : Bool) → (kept && wanted) ≡ true
             → made (if kept then (if wanted then Some x else None) else None)
@@ -47,10 +47,10 @@ module _ (options : NmOptions) (o : Object) (s : ℕ) (list : List Kept) (i : �
         by_tests false wanted both = cc
 
     -- or not
-    pub with_unwanted : (is_kept options x && is_wanted options o s i x) ≡ false
+    pub with_unwanted : (is_listable_symbol options x && is_wanted options o s i x) ≡ false
         → with_kept options o s list i ≡ list
     with_unwanted neither =
-        by_wanted ∙ by_tests (is_kept options x) (is_wanted options o s i x) neither
+        by_wanted ∙ by_tests (is_listable_symbol options x) (is_wanted options o s i x) neither
       where
         by_tests : (kept wanted : Bool) → (kept && wanted) ≡ false
             → made (if kept then (if wanted then Some x else None) else None) ≡ list

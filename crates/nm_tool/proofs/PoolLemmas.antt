@@ -8,9 +8,9 @@ use Rattle.elf_object.specs.Object.{Object}
 use Rattle.nm_tool.specs.declared.options.NmOptions.{NmOptions}
 use Rattle.nm_tool.specs.declared.pools.Spot.{Spot}
 use Rattle.nm_tool.specs.declared.pools.Pool.{Pool}
-use Rattle.nm_tool.specs.Order.{Entry}
-use Rattle.nm_tool.specs.Listed.{symbols, listed_name, is_empty, is_kept, is_wanted, is_listed, entry_of, entry_if, listed}
-use Rattle.nm_tool.specs.Pools.{spot_entries, if_wanted, wanted_at, with_name, with_symbol, pool_of}
+use Rattle.nm_tool.specs.Order.{SymbolEntry}
+use Rattle.nm_tool.specs.Listed.{symbols_in_table, shown_symbol_name, is_empty, is_listable_symbol, is_wanted, is_listed, symbol_entry_of, entry_if, listed_entries}
+use Rattle.nm_tool.specs.Pools.{spot_entries, if_wanted, wanted_at, pool_with_name, with_symbol, pool_of}
 use Rattle.nm_tool.proofs.ListedLemmas.{all_listed}
 
 -- how many bytes the names have
@@ -35,15 +35,15 @@ spots_append v names name (u ∷ us) t sized is =
     let rest : spots_total us ≡ length (drop u.len names) = omega (arith, sized, length-drop u.len names) in
     ap (λ (l : List ℕ). record { value = if v then u.value else 0; name = l; index = u.index } ∷ spot_entries v (drop u.len (names ++ name)) (us ++ t ∷ [])) (take-append-le u.len names name within)
     ∙ ap (λ (l : List ℕ). record { value = if v then u.value else 0; name = take u.len names; index = u.index } ∷ spot_entries v l (us ++ t ∷ [])) (drop-append-le u.len names name within)
-    ∙ ap (λ (es : List Entry). record { value = if v then u.value else 0; name = take u.len names; index = u.index } ∷ es) (spots_append v (drop u.len names) name us t rest is)
+    ∙ ap (λ (es : List SymbolEntry). record { value = if v then u.value else 0; name = take u.len names; index = u.index } ∷ es) (spots_append v (drop u.len names) name us t rest is)
 
 module _ (options : NmOptions) (o : Object) (s : ℕ) where
-  abbrev entries : Pool → List Entry
+  abbrev entries : Pool → List SymbolEntry
   entries p = spot_entries options.by_value p.names p.spots
 
   module _ (i : ℕ) (p : Pool) where
     abbrev made : Option Sym → Pool
-    made w = elim w [ None ↦ p | Some y ↦ with_name p y.value i (listed_name o s y) ]
+    made w = elim w [ None ↦ p | Some y ↦ pool_with_name p y.value i (shown_symbol_name o s y) ]
 
     sized_by : (value : ℕ) (name : List ℕ) (empty : Bool) → spots_total p.spots ≡ length p.names
         → let q : Pool = if empty then p else record { names = p.names ++ name; spots = p.spots ++ record { value = value; index = i; len = length name } ∷ [] } in spots_total q.spots ≡ length q.names
@@ -51,35 +51,35 @@ module _ (options : NmOptions) (o : Object) (s : ℕ) where
     sized_by value name false sized = omega (arith, sized, total_append p.spots (record { value = value; index = i; len = length name }), length-append p.names name)
 
     sized_with : (w : Option Sym) → spots_total p.spots ≡ length p.names → spots_total (made w).spots ≡ length (made w).names
-    unfolding with_name
+    unfolding pool_with_name
     sized_with None sized = sized
-    sized_with (Some y) sized = sized_by y.value (listed_name o s y) (is_empty (listed_name o s y)) sized
+    sized_with (Some y) sized = sized_by y.value (shown_symbol_name o s y) (is_empty (shown_symbol_name o s y)) sized
 
     module _ (x : Sym) (sized : spots_total p.spots ≡ length p.names) where
       named : (empty : Bool)
-          → entries (if empty then p else record { names = p.names ++ listed_name o s x; spots = p.spots ++ record { value = x.value; index = i; len = length (listed_name o s x) } ∷ [] })
-          ≡ entries p ++ (if not empty then entry_of options o s i x ∷ [] else [])
-      unfolding entry_of
+          → entries (if empty then p else record { names = p.names ++ shown_symbol_name o s x; spots = p.spots ++ record { value = x.value; index = i; len = length (shown_symbol_name o s x) } ∷ [] })
+          ≡ entries p ++ (if not empty then symbol_entry_of options o s i x ∷ [] else [])
+      unfolding symbol_entry_of
       named true = sym (append-nil (entries p))
-      named false = spots_append options.by_value p.names (listed_name o s x) p.spots (record { value = x.value; index = i; len = length (listed_name o s x) }) sized refl
+      named false = spots_append options.by_value p.names (shown_symbol_name o s x) p.spots (record { value = x.value; index = i; len = length (shown_symbol_name o s x) }) sized refl
 
       by_tests : (kept wanted : Bool) → entries (made (if kept then (if wanted then Some x else None) else None))
-          ≡ entries p ++ (if kept && (wanted && not (is_empty (listed_name o s x))) then entry_of options o s i x ∷ [] else [])
-      unfolding with_name
+          ≡ entries p ++ (if kept && (wanted && not (is_empty (shown_symbol_name o s x))) then symbol_entry_of options o s i x ∷ [] else [])
+      unfolding pool_with_name
       by_tests false wanted = sym (append-nil (entries p))
       by_tests true false = sym (append-nil (entries p))
-      by_tests true true = named (is_empty (listed_name o s x))
+      by_tests true true = named (is_empty (shown_symbol_name o s x))
 
-      more : slice_get (symbols o s) i ≡ Some x → entries (with_symbol options o s p i) ≡ entries p ++ entry_if options o s i x
+      more : slice_get (symbols_in_table o s) i ≡ Some x → entries (with_symbol options o s p i) ≡ entries p ++ entry_if options o s i x
       unfolding with_symbol wanted_at is_listed
-      more is = ap (λ (g : Option Sym). entries (made (elim g [ None ↦ None | Some y ↦ if_wanted options o s i y ]))) is ∙ by_tests (is_kept options x) (is_wanted options o s i x)
+      more is = ap (λ (g : Option Sym). entries (made (elim g [ None ↦ None | Some y ↦ if_wanted options o s i y ]))) is ∙ by_tests (is_listable_symbol options x) (is_wanted options o s i x)
 
   pool_sized : (n : ℕ) → spots_total (pool_of options o s n).spots ≡ length (pool_of options o s n).names
   unfolding pool_of with_symbol
   pool_sized zero = refl
   pool_sized (suc n) = sized_with (n + 1) (pool_of options o s n) (wanted_at options o s (n + 1)) (pool_sized n)
 
-  made_more : (n : ℕ) (x : Sym) → slice_get (symbols o s) (n + 1) ≡ Some x
+  made_more : (n : ℕ) (x : Sym) → slice_get (symbols_in_table o s) (n + 1) ≡ Some x
       → entries (pool_of options o s (suc n))
       ≡ entries (pool_of options o s n) ++ entry_if options o s (n + 1) x
   unfolding pool_of
@@ -90,9 +90,9 @@ module _ (options : NmOptions) (o : Object) (s : ℕ) where
   made_none = refl
 
   -- the entries of the pool of all symbols
-  pub pool_entries : (count : ℕ) → count ≡ length (symbols o s)
+  pub pool_entries : (count : ℕ) → count ≡ length (symbols_in_table o s)
       → spot_entries options.by_value (pool_of options o s (count - 1)).names
-      (pool_of options o s (count - 1)).spots ≡ listed options o s
+      (pool_of options o s (count - 1)).spots ≡ listed_entries options o s
   pool_entries count is =
       all_listed options o s (λ (n : ℕ). entries (pool_of options o s n)) made_none made_more count is
 

@@ -18,12 +18,12 @@ use Rattle.std.proofs.lemmas.Simd.{map-map}
 use Rattle.std.proofs.Math.ListN.{drop_of_length-le}
 use Rattle.elf_types.specs.Lists.{AreBytes, refilled}
 use Rattle.elf_object.specs.Strings.{has_nul}
-use Rattle.object_output.specs.gelf_view.Records.{string_front}
+use Rattle.tool_objects.specs.gelf_view.Records.{string_front}
 use Rattle.nm_tool.specs.declared.kept.Kept.{Kept}
-use Rattle.nm_tool.specs.Order.{Entry, entry_cmp, inserted, in_order}
+use Rattle.nm_tool.specs.Order.{SymbolEntry, entry_cmp, inserted, entries_in_order}
 use Rattle.nm_tool.specs.Listed.{is_empty, name_or_none}
-use Rattle.nm_tool.specs.Kept.{shown_in, ranked_entry, kept_entry, kept_entries, order_of}
-use Rattle.nm_tool.specs.Ranked.{number_from, SharesFront, keyed, HasKey, AreKeyed, names_cmp, kept_cmp, is_named}
+use Rattle.nm_tool.specs.Kept.{shown_name_in, ranked_entry, kept_entry, kept_entries, order_of}
+use Rattle.nm_tool.specs.Ranked.{number_from, SharesFront, keyed, HasKey, AreKeyed, names_cmp, kept_cmp, has_nonempty_name}
 use Rattle.nm_tool.proofs.Sorting.{sorted_by, first_less, byte_small, in_order_moved}
 
 -- ---- The bytes that names share
@@ -222,13 +222,13 @@ first_named (b ∷ l) = by_tests (b == 0) (has_nul l)
 
 -- a name is empty exactly where its first byte is a NUL
 pub named_first : (strings : List ℕ) (at : ℕ)
-    → (slice_index_or strings at 1 == 0) ≡ is_empty (shown_in strings at)
+    → (slice_index_or strings at 1 == 0) ≡ is_empty (shown_name_in strings at)
 named_first strings at =
     let here : at + 0 ≡ at = omega arith in
     ap (λ (n : ℕ). slice_index_or strings n 1 == 0) (sym here)
     ∙ ap (λ (n : ℕ). n == 0) (sym (get_or-drop at strings 0 1)) ∙ first_named (drop at strings)
 
-pub shown_small : (strings : List ℕ) → AreBytes strings → (at : ℕ) → Small (shown_in strings at)
+pub shown_small : (strings : List ℕ) → AreBytes strings → (at : ℕ) → Small (shown_name_in strings at)
 shown_small strings bytes at =
     front_small (drop at strings) (All-drop (λ x. x < 2 ^ 8) at strings bytes)
 
@@ -236,10 +236,10 @@ shown_small strings bytes at =
 
 -- the name of one place
 pub same_shown : (strings : List ℕ) (a b : ℕ) → a ≡ b
-    → Equal ≡ slice_cmp nat_cmp (shown_in strings a) (shown_in strings b)
+    → Equal ≡ slice_cmp nat_cmp (shown_name_in strings a) (shown_name_in strings b)
 same_shown strings a b same =
-    sym (tied_itself nat_list_cmp_total (shown_in strings a))
-    ∙ ap (λ (n : ℕ). slice_cmp nat_cmp (shown_in strings a) (shown_in strings n)) same
+    sym (tied_itself nat_list_cmp_total (shown_name_in strings a))
+    ∙ ap (λ (n : ℕ). slice_cmp nat_cmp (shown_name_in strings a) (shown_name_in strings n)) same
 
 module _ (name_of : ℕ → List ℕ) where
   pub names_cmp_total : IsTotalOrder (names_cmp name_of)
@@ -270,7 +270,7 @@ module _ (name_of : ℕ → List ℕ) where
   -- what a sort by value leaves
   pub sorted_values : (old new : List Kept) → IsPermutation old new
       → IsSorted (kept_cmp name_of) new
-      → map (ranked_entry true name_of) new ≡ in_order (map (ranked_entry true name_of) old)
+      → map (ranked_entry true name_of) new ≡ entries_in_order (map (ranked_entry true name_of) old)
   sorted_values old new moved sorted =
       sorted_by (kept_cmp name_of) (ranked_entry true name_of) (λ _. Unit {0})
       (λ x y kx ky later. valued x y later) kept_cmp_total old new (λ i d lt. tt) moved sorted
@@ -278,15 +278,15 @@ module _ (name_of : ℕ → List ℕ) where
   -- and one by name
   pub sorted_names : (old new : List Kept) → IsPermutation old new
       → IsSorted (names_cmp name_of) new
-      → map (ranked_entry false name_of) new ≡ in_order (map (ranked_entry false name_of) old)
+      → map (ranked_entry false name_of) new ≡ entries_in_order (map (ranked_entry false name_of) old)
   sorted_names old new moved sorted =
       sorted_by (names_cmp name_of) (ranked_entry false name_of) (λ _. Unit {0})
       (λ x y kx ky later. named x y later) names_cmp_total old new (λ i d lt. tt) moved sorted
 
   -- fewer than two are in order
   pub few_sorted : (rows : List Kept) → length rows < 2
-      → map (ranked_entry false name_of) rows ≡ in_order (map (ranked_entry false name_of) rows)
-  unfolding in_order inserted
+      → map (ranked_entry false name_of) rows ≡ entries_in_order (map (ranked_entry false name_of) rows)
+  unfolding entries_in_order inserted
   few_sorted [] few = refl
   few_sorted (x ∷ []) few = refl
   few_sorted (x ∷ y ∷ rows) few = absurd (omega (arith, few))
@@ -294,45 +294,45 @@ module _ (name_of : ℕ → List ℕ) where
   -- symbols whose keys were set and that then were moved have the same order
   pub moved_order : (place : ℕ) (rows keys new : List Kept)
       → keys ≡ map (keyed name_of place) rows → IsPermutation keys new
-      → in_order (map (ranked_entry false name_of) new)
-      ≡ in_order (map (ranked_entry false name_of) rows)
+      → entries_in_order (map (ranked_entry false name_of) new)
+      ≡ entries_in_order (map (ranked_entry false name_of) rows)
   moved_order place rows keys new is moved =
       let entry = ranked_entry false name_of in
       in_order_moved (map entry keys) (map entry new) (IsPermutation-map entry keys new moved)
-      ∙ ap in_order (ap (map entry) is ∙ keyed_entries name_of place rows)
+      ∙ ap entries_in_order (ap (map entry) is ∙ keyed_entries name_of place rows)
 
 -- ---- What is sorted
 
 module _ (v : Bool) (name_of : ℕ → List ℕ) where
-  abbrev rows_of : List Kept → List Entry
-  rows_of list = map (ranked_entry v name_of) (filter (is_named name_of) list)
+  abbrev rows_of : List Kept → List SymbolEntry
+  rows_of list = map (ranked_entry v name_of) (filter (has_nonempty_name name_of) list)
 
   -- the entries are those of the symbols whose names are not empty
   entries_named : (list : List Kept) → kept_entries v name_of list ≡ rows_of list
   unfolding kept_entries
   entries_named [] = refl
   entries_named (k ∷ ks) =
-      ap (λ (es : List Entry). kept_entry v name_of k ++ es) (entries_named ks)
+      ap (λ (es : List SymbolEntry). kept_entry v name_of k ++ es) (entries_named ks)
       ∙ by_test (is_empty (name_of k.name))
     where
       by_test : (t : Bool)
           → (if t then [] else ranked_entry v name_of k ∷ []) ++ rows_of ks
           ≡ map (ranked_entry v name_of)
-          (cond (not t) (k ∷ filter (is_named name_of) ks) (filter (is_named name_of) ks))
+          (cond (not t) (k ∷ filter (has_nonempty_name name_of) ks) (filter (has_nonempty_name name_of) ks))
       by_test true = refl
       by_test false = refl
 
-  pub entries_made : (list old new : List Kept) → old ≡ filter (is_named name_of) list
-      → map (ranked_entry v name_of) new ≡ in_order (map (ranked_entry v name_of) old)
-      → map (ranked_entry v name_of) new ≡ in_order (kept_entries v name_of list)
+  pub entries_made : (list old new : List Kept) → old ≡ filter (has_nonempty_name name_of) list
+      → map (ranked_entry v name_of) new ≡ entries_in_order (map (ranked_entry v name_of) old)
+      → map (ranked_entry v name_of) new ≡ entries_in_order (kept_entries v name_of list)
   entries_made list old new made sorted =
-      sorted ∙ ap in_order (ap (map (ranked_entry v name_of)) made ∙ sym (entries_named list))
+      sorted ∙ ap entries_in_order (ap (map (ranked_entry v name_of)) made ∙ sym (entries_named list))
 
   -- their indexes
   pub indexes_made : (list new : List Kept)
-      → map (ranked_entry v name_of) new ≡ in_order (kept_entries v name_of list)
+      → map (ranked_entry v name_of) new ≡ entries_in_order (kept_entries v name_of list)
       → map (λ (k : Kept). k.index) new ≡ order_of v name_of list
   unfolding order_of
   indexes_made list new is =
-      sym (map-map (λ (e : Entry). e.index) (ranked_entry v name_of) new)
-      ∙ ap (map (λ (e : Entry). e.index)) is
+      sym (map-map (λ (e : SymbolEntry). e.index) (ranked_entry v name_of) new)
+      ∙ ap (map (λ (e : SymbolEntry). e.index)) is

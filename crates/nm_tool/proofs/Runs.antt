@@ -13,7 +13,7 @@ use Rattle.std.proofs.lemmas.Cmp.{nat_list_cmp_total}
 use Rattle.std.proofs.lemmas.List.{get_or_default, get_or-take, get_or-drop, length-take, length-take-le, length-drop, length-append, take_all, take_at, drop_at, drop-drop, map-append}
 use Rattle.std.proofs.lemmas.List.Elements.{recursion_from_All, All-map, All-take}
 use Rattle.nm_tool.specs.declared.kept.Kept.{Kept}
-use Rattle.nm_tool.specs.Order.{Entry, entry_cmp, in_order}
+use Rattle.nm_tool.specs.Order.{SymbolEntry, entry_cmp, entries_in_order}
 use Rattle.nm_tool.specs.Kept.{ranked_entry}
 use Rattle.nm_tool.specs.Ranked.{number_from, HasKey, AreKeyed}
 use Rattle.nm_tool.proofs.Sorting.{AreBefore, in_order_append}
@@ -97,14 +97,14 @@ module _ (name_of : ℕ → List ℕ) (small : (at : ℕ) → Small (name_of at)
   keys_before xs ys hx hy less =
       let entry = ranked_entry false name_of in
       recursion_from_All
-      (λ (e : Entry). AllByRecursion (λ (f : Entry). is_lt (entry_cmp f e) ≡ false) (map entry ys))
+      (λ (e : SymbolEntry). AllByRecursion (λ (f : SymbolEntry). is_lt (entry_cmp f e) ≡ false) (map entry ys))
       (map entry xs)
       (All-map
-      (λ (e : Entry). AllByRecursion (λ (f : Entry). is_lt (entry_cmp f e) ≡ false) (map entry ys))
+      (λ (e : SymbolEntry). AllByRecursion (λ (f : SymbolEntry). is_lt (entry_cmp f e) ≡ false) (map entry ys))
       entry xs
       (λ i d lt. recursion_from_All
-      (λ (f : Entry). is_lt (entry_cmp f (entry (get_or xs i d))) ≡ false) (map entry ys)
-      (All-map (λ (f : Entry). is_lt (entry_cmp f (entry (get_or xs i d))) ≡ false) entry ys
+      (λ (f : SymbolEntry). is_lt (entry_cmp f (entry (get_or xs i d))) ≡ false) (map entry ys)
+      (All-map (λ (f : SymbolEntry). is_lt (entry_cmp f (entry (get_or xs i d))) ≡ false) entry ys
       (λ j e inside. key_before (get_or xs i d) (get_or ys j e) (hx i d lt) (hy j e inside)
       (less i j d e lt inside)))))
 
@@ -116,11 +116,11 @@ pub record RunsDone (name_of : ℕ → List ℕ) (old new : List Kept) (at : ℕ
   pub long : length new ≡ length old
   pub rest : drop at new ≡ drop at old
   pub done : map (ranked_entry false name_of) (take at new)
-      ≡ in_order (map (ranked_entry false name_of) (take at old))
+      ≡ entries_in_order (map (ranked_entry false name_of) (take at old))
   pub parted : Parted old at
 
 pub runs_begin : (name_of : ℕ → List ℕ) (rows : List Kept) → RunsDone name_of rows rows 0
-unfolding in_order
+unfolding entries_in_order
 runs_begin name_of rows = record {
   within = omega arith;
   long = refl;
@@ -131,18 +131,18 @@ runs_begin name_of rows = record {
 
 pub runs_all : (name_of : ℕ → List ℕ) (old new : List Kept) (at : ℕ)
     → RunsDone name_of old new at → length new ≤ at
-    → map (ranked_entry false name_of) new ≡ in_order (map (ranked_entry false name_of) old)
+    → map (ranked_entry false name_of) new ≡ entries_in_order (map (ranked_entry false name_of) old)
 runs_all name_of old new at runs past =
     let entry = ranked_entry false name_of in
     ap (map entry) (sym (take_all at new past)) ∙ runs.done
-    ∙ ap (λ (l : List Kept). in_order (map entry l))
+    ∙ ap (λ (l : List Kept). entries_in_order (map entry l))
     (take_all at old (omega (arith, past, runs.long)))
 
 -- the symbols of the next key
 module _ (name_of : ℕ → List ℕ) (small : (at : ℕ) → Small (name_of at)) (old new run : List Kept)
     (at end : ℕ) (keyed : AreKeyed name_of old) (runs : RunsDone name_of old new at)
     (some : at < end) (inside : end ≤ length old) where
-  abbrev entry : Kept → Entry
+  abbrev entry : Kept → SymbolEntry
   entry k = ranked_entry false name_of k
 
   abbrev taken : List Kept
@@ -170,7 +170,7 @@ module _ (name_of : ℕ → List ℕ) (small : (at : ℕ) → Small (name_of at)
       ap (λ (n : ℕ). take n old) up ∙ take-add at (end - at) old
 
   module _ (sized : length run ≡ end - at)
-      (sorted : map entry run ≡ in_order (map entry (take (end - at) (drop at new)))) where
+      (sorted : map entry run ≡ entries_in_order (map entry (take (end - at) (drop at new)))) where
     front_long : length (take at new ++ run) ≡ end
     front_long =
         let front : length (take at new) ≡ at =
@@ -194,15 +194,15 @@ module _ (name_of : ℕ → List ℕ) (small : (at : ℕ) → Small (name_of at)
         ∙ ap (λ (n : ℕ). drop n old) up
 
     done_is : map entry (take end (put_mid at (end - at) new run))
-        ≡ in_order (map entry (take end old))
+        ≡ entries_in_order (map entry (take end old))
     done_is =
         ap (map entry) front_is ∙ map-append entry (take at new) run
-        ∙ ap (λ (es : List Entry). es ++ map entry run) runs.done
-        ∙ ap (λ (es : List Entry). in_order (map entry (take at old)) ++ es)
-        (sorted ∙ ap (λ (l : List Kept). in_order (map entry (take (end - at) l))) runs.rest)
+        ∙ ap (λ (es : List SymbolEntry). es ++ map entry run) runs.done
+        ∙ ap (λ (es : List SymbolEntry). entries_in_order (map entry (take at old)) ++ es)
+        (sorted ∙ ap (λ (l : List Kept). entries_in_order (map entry (take (end - at) l))) runs.rest)
         ∙ sym (in_order_append (map entry (take at old)) (map entry taken)
         (front_before runs.parted))
-        ∙ ap in_order (sym (map-append entry (take at old) taken)
+        ∙ ap entries_in_order (sym (map-append entry (take at old) taken)
         ∙ ap (map entry) (sym whole_front))
 
     put_long : length (put_mid at (end - at) new run) ≡ length old

@@ -15,8 +15,8 @@ use Rattle.std.proofs.lemmas.List.Sorted.{sum_by-IsPermutation, IsPermutation-ma
 use Rattle.std.proofs.lemmas.Bool.{ltb-true, ltb-false}
 use Rattle.std.proofs.lemmas.Bool.Decides.{nat_tests}
 use Rattle.elf_types.specs.Lists.{AreBytes}
-use Rattle.nm_tool.specs.declared.order.Row.{Row}
-use Rattle.nm_tool.specs.Order.{Entry, entry_cmp, inserted, in_order, IsOrderOf, OrderLaw}
+use Rattle.nm_tool.specs.declared.order.SymbolSortRow.{SymbolSortRow}
+use Rattle.nm_tool.specs.Order.{SymbolEntry, entry_cmp, inserted, entries_in_order, IsOrderOf, OrderLaw}
 use Rattle.nm_tool.specs.Keys.{prefix, as_entry, KeyIs}
 use Rattle.elf_layout.proofs.Unique.{Rises, Rises-from_sorted, IsSorted-from_rises, unique}
 
@@ -25,8 +25,8 @@ use Rattle.elf_layout.proofs.Unique.{Rises, Rises-from_sorted, IsSorted-from_ris
 entry_cmp_total : IsTotalOrder entry_cmp
 unfolding entry_cmp
 entry_cmp_total =
-    then_total (on_total (λ (e : Entry). e.value) nat_cmp_total)
-    (then_total (on_total (λ (e : Entry). e.name) nat_list_cmp_total) (on_total (λ (e : Entry). e.index) nat_cmp_total))
+    then_total (on_total (λ (e : SymbolEntry). e.value) nat_cmp_total)
+    (then_total (on_total (λ (e : SymbolEntry). e.name) nat_list_cmp_total) (on_total (λ (e : SymbolEntry). e.index) nat_cmp_total))
 
 then_equal : (r s : Ordering) → ordering_then r s ≡ Equal → (r ≡ Equal) × (s ≡ Equal)
 then_equal Less s e = absurd (let h : Less ≡ Equal = e in cc)
@@ -34,10 +34,10 @@ then_equal Equal s e = (refl, e)
 then_equal Greater s e = absurd (let h : Greater ≡ Equal = e in cc)
 
 same_entry : (value value' : ℕ) (name name' : List ℕ) (index index' : ℕ) → value ≡ value' → name ≡ name' → index ≡ index'
-    → ◌≡◌ {A = Entry} (record { value = value; name = name; index = index }) (record { value = value'; name = name'; index = index' })
+    → ◌≡◌ {A = SymbolEntry} (record { value = value; name = name; index = index }) (record { value = value'; name = name'; index = index' })
 same_entry value value' name name' index index' a b c = cc
 
-entry_cmp_exact : (x y : Entry) → entry_cmp x y ≡ Equal → x ≡ y
+entry_cmp_exact : (x y : SymbolEntry) → entry_cmp x y ≡ Equal → x ≡ y
 unfolding entry_cmp
 entry_cmp_exact x y e =
     let at = then_equal _ _ e in
@@ -46,38 +46,38 @@ entry_cmp_exact x y e =
 
 -- ---- What the stated list keeps and gives
 
-either_sum : (f : Entry → ℕ) (e g : Entry) (gs rest : List Entry) (b : Bool) → sum_by f rest ≡ f e + sum_by f gs → sum_by f (cond b (g ∷ rest) (e ∷ g ∷ gs)) ≡ f e + sum_by f (g ∷ gs)
+either_sum : (f : SymbolEntry → ℕ) (e g : SymbolEntry) (gs rest : List SymbolEntry) (b : Bool) → sum_by f rest ≡ f e + sum_by f gs → sum_by f (cond b (g ∷ rest) (e ∷ g ∷ gs)) ≡ f e + sum_by f (g ∷ gs)
 either_sum f e g gs rest true is = omega (arith, sum_by-cons f g rest, sum_by-cons f g gs, is)
 either_sum f e g gs rest false is = sum_by-cons f e (g ∷ gs)
 
-sum_by-inserted : (f : Entry → ℕ) (e : Entry) (es : List Entry) → sum_by f (inserted e es) ≡ f e + sum_by f es
+sum_by-inserted : (f : SymbolEntry → ℕ) (e : SymbolEntry) (es : List SymbolEntry) → sum_by f (inserted e es) ≡ f e + sum_by f es
 unfolding inserted
 sum_by-inserted f e [] = sum_by-cons f e []
 sum_by-inserted f e (g ∷ gs) = either_sum f e g gs (inserted e gs) (is_lt (entry_cmp g e)) (sum_by-inserted f e gs)
 
-sum_by-in_order : (f : Entry → ℕ) (es : List Entry) → sum_by f (in_order es) ≡ sum_by f es
-unfolding in_order
+sum_by-in_order : (f : SymbolEntry → ℕ) (es : List SymbolEntry) → sum_by f (entries_in_order es) ≡ sum_by f es
+unfolding entries_in_order
 sum_by-in_order f [] = refl
-sum_by-in_order f (e ∷ es) = omega (arith, sum_by-inserted f e (in_order es), sum_by-cons f e es, sum_by-in_order f es)
+sum_by-in_order f (e ∷ es) = omega (arith, sum_by-inserted f e (entries_in_order es), sum_by-cons f e es, sum_by-in_order f es)
 
 -- no entry comes before another
-abbrev NotBefore : Entry → Entry → Type 0
+abbrev NotBefore : SymbolEntry → SymbolEntry → Type 0
 NotBefore x y = is_lt (entry_cmp y x) ≡ false
 
-all_either : (P : Entry → Type 0) (e g : Entry) (gs rest : List Entry) (b : Bool) → P e → P g → AllByRecursion P gs → AllByRecursion P rest → AllByRecursion P (cond b (g ∷ rest) (e ∷ g ∷ gs))
+all_either : (P : SymbolEntry → Type 0) (e g : SymbolEntry) (gs rest : List SymbolEntry) (b : Bool) → P e → P g → AllByRecursion P gs → AllByRecursion P rest → AllByRecursion P (cond b (g ∷ rest) (e ∷ g ∷ gs))
 all_either P e g gs rest true pe pg pgs prest = (pg, prest)
 all_either P e g gs rest false pe pg pgs prest = (pe, (pg, pgs))
 
-all_inserted : (P : Entry → Type 0) (e : Entry) (es : List Entry) → P e → AllByRecursion P es → AllByRecursion P (inserted e es)
+all_inserted : (P : SymbolEntry → Type 0) (e : SymbolEntry) (es : List SymbolEntry) → P e → AllByRecursion P es → AllByRecursion P (inserted e es)
 unfolding inserted
 all_inserted P e [] pe all = (pe, tt)
 all_inserted P e (g ∷ gs) pe all = all_either P e g gs (inserted e gs) (is_lt (entry_cmp g e)) pe all.0 all.1 (all_inserted P e gs pe all.1)
 
-pub all_in_order : (P : Entry → Type 0) (es : List Entry) → AllByRecursion P es
-    → AllByRecursion P (in_order es)
-unfolding in_order
+pub all_in_order : (P : SymbolEntry → Type 0) (es : List SymbolEntry) → AllByRecursion P es
+    → AllByRecursion P (entries_in_order es)
+unfolding entries_in_order
 all_in_order P [] all = tt
-all_in_order P (e ∷ es) all = all_inserted P e (in_order es) all.0 (all_in_order P es all.1)
+all_in_order P (e ∷ es) all = all_inserted P e (entries_in_order es) all.0 (all_in_order P es all.1)
 
 lt_is : (r : Ordering) → is_lt r ≡ true → r ≡ Less
 lt_is Less e = refl
@@ -92,7 +92,7 @@ reversed_not Equal s e is = cc
 reversed_not Greater s e is = cc
 
 -- what does not come before one that does not come before a third does not come before that
-not_before_trans : (x y z : Entry) → NotBefore x y → NotBefore y z → NotBefore x z
+not_before_trans : (x y z : SymbolEntry) → NotBefore x y → NotBefore y z → NotBefore x z
 not_before_trans x y z h k = by_lt (is_lt (entry_cmp z x)) refl
   where
     o : IsTotalOrder entry_cmp
@@ -113,30 +113,30 @@ not_before_trans x y z h k = by_lt (is_lt (entry_cmp z x)) refl
     by_lt false is = is
     by_lt true is = absurd (by_cmp (entry_cmp z y) refl k (lt_is _ is))
 
-later_all : (e g : Entry) (gs : List Entry) → NotBefore e g → AllByRecursion (λ y. is_lt (entry_cmp y g) ≡ false) gs → AllByRecursion (λ y. is_lt (entry_cmp y e) ≡ false) gs
+later_all : (e g : SymbolEntry) (gs : List SymbolEntry) → NotBefore e g → AllByRecursion (λ y. is_lt (entry_cmp y g) ≡ false) gs → AllByRecursion (λ y. is_lt (entry_cmp y e) ≡ false) gs
 later_all e g [] h all = tt
 later_all e g (x ∷ xs) h all = (not_before_trans e g x h all.0, later_all e g xs h all.1)
 
-rises_either : (e g : Entry) (gs rest : List Entry) (b : Bool) → is_lt (entry_cmp g e) ≡ b → Rises entry_cmp (g ∷ gs) → Rises entry_cmp rest → (NotBefore g e → AllByRecursion (λ y. is_lt (entry_cmp y g) ≡ false) rest)
+rises_either : (e g : SymbolEntry) (gs rest : List SymbolEntry) (b : Bool) → is_lt (entry_cmp g e) ≡ b → Rises entry_cmp (g ∷ gs) → Rises entry_cmp rest → (NotBefore g e → AllByRecursion (λ y. is_lt (entry_cmp y g) ≡ false) rest)
     → Rises entry_cmp (cond b (g ∷ rest) (e ∷ g ∷ gs))
 rises_either e g gs rest true is rises more all = (all (reversed_not (entry_cmp g e) (entry_cmp e g) (entry_cmp_total.antisymm g e) (lt_is _ is)), more)
 rises_either e g gs rest false is rises more all = ((is, later_all e g gs is rises.0), rises)
 
-rises_inserted : (e : Entry) (es : List Entry) → Rises entry_cmp es → Rises entry_cmp (inserted e es)
+rises_inserted : (e : SymbolEntry) (es : List SymbolEntry) → Rises entry_cmp es → Rises entry_cmp (inserted e es)
 unfolding inserted
 rises_inserted e [] rises = (tt, tt)
 rises_inserted e (g ∷ gs) rises =
     rises_either e g gs (inserted e gs) (is_lt (entry_cmp g e)) refl rises (rises_inserted e gs rises.1) (λ h. all_inserted (λ y. is_lt (entry_cmp y g) ≡ false) e gs h rises.0)
 
-rises_in_order : (es : List Entry) → Rises entry_cmp (in_order es)
-unfolding in_order
+rises_in_order : (es : List SymbolEntry) → Rises entry_cmp (entries_in_order es)
+unfolding entries_in_order
 rises_in_order [] = tt
-rises_in_order (e ∷ es) = rises_inserted e (in_order es) (rises_in_order es)
+rises_in_order (e ∷ es) = rises_inserted e (entries_in_order es) (rises_in_order es)
 
 -- ---- What a sort leaves
 
 -- by an order that the entries of items follow
-module _ {R : Type 0} (cmp : R → R → Ordering) (entry : R → Entry) (Good : R → Type 0)
+module _ {R : Type 0} (cmp : R → R → Ordering) (entry : R → SymbolEntry) (Good : R → Type 0)
     (follow : (x y : R) → Good x → Good y → is_lt (cmp y x) ≡ false
     → is_lt (entry_cmp (entry y) (entry x)) ≡ false) where
   later_entries : (x : R) (rs : List R) → Good x → AllByRecursion Good rs
@@ -153,9 +153,9 @@ module _ {R : Type 0} (cmp : R → R → Ordering) (entry : R → Entry) (Good :
       (later_entries x xs keys.0 keys.1 rises.0, rises_entries xs keys.1 rises.1)
 
   pub sorted_by : IsTotalOrder cmp → (old new : List R) → All Good old → IsPermutation old new
-      → IsSorted cmp new → map entry new ≡ in_order (map entry old)
+      → IsSorted cmp new → map entry new ≡ entries_in_order (map entry old)
   sorted_by total old new keys moved sorted =
-      unique entry_cmp entry_cmp_total entry_cmp_exact (map entry new) (in_order (map entry old))
+      unique entry_cmp entry_cmp_total entry_cmp_exact (map entry new) (entries_in_order (map entry old))
       (rises_entries new (recursion_from_All Good new (All-permutation Good old new moved keys))
       (Rises-from_sorted cmp total new sorted))
       (rises_in_order (map entry old))
@@ -163,23 +163,23 @@ module _ {R : Type 0} (cmp : R → R → Ordering) (entry : R → Entry) (Good :
       (IsPermutation-map entry old new moved) ∙ sym (sum_by-in_order f (map entry old)))
 
 -- both of two lists
-pub both_all : (P : Entry → Type 0) (es fs : List Entry) → AllByRecursion P es
+pub both_all : (P : SymbolEntry → Type 0) (es fs : List SymbolEntry) → AllByRecursion P es
     → AllByRecursion P fs → AllByRecursion P (es ++ fs)
 both_all P [] fs all more = more
 both_all P (e ∷ es) fs all more = (all.0, both_all P es fs all.1 more)
 
 -- no entry of one list comes after one of another
-abbrev pub AreBefore : List Entry → List Entry → Type 0
+abbrev pub AreBefore : List SymbolEntry → List SymbolEntry → Type 0
 AreBefore es fs =
-    AllByRecursion (λ (e : Entry). AllByRecursion (λ (f : Entry). is_lt (entry_cmp f e) ≡ false) fs)
+    AllByRecursion (λ (e : SymbolEntry). AllByRecursion (λ (f : SymbolEntry). is_lt (entry_cmp f e) ≡ false) fs)
     es
 
-each_before : (es fs : List Entry) → AreBefore es fs → AreBefore es (in_order fs)
+each_before : (es fs : List SymbolEntry) → AreBefore es fs → AreBefore es (entries_in_order fs)
 each_before [] fs all = tt
 each_before (e ∷ es) fs all =
     (all_in_order (λ f. is_lt (entry_cmp f e) ≡ false) fs all.0, each_before es fs all.1)
 
-rises_append : (es fs : List Entry) → Rises entry_cmp es → Rises entry_cmp fs → AreBefore es fs
+rises_append : (es fs : List SymbolEntry) → Rises entry_cmp es → Rises entry_cmp fs → AreBefore es fs
     → Rises entry_cmp (es ++ fs)
 rises_append [] fs rises more all = more
 rises_append (e ∷ es) fs rises more all = (
@@ -188,27 +188,27 @@ rises_append (e ∷ es) fs rises more all = (
 )
 
 -- the order of two lists of which one stands before the other
-pub in_order_append : (es fs : List Entry) → AreBefore es fs
-    → in_order (es ++ fs) ≡ in_order es ++ in_order fs
+pub in_order_append : (es fs : List SymbolEntry) → AreBefore es fs
+    → entries_in_order (es ++ fs) ≡ entries_in_order es ++ entries_in_order fs
 in_order_append es fs before =
-    unique entry_cmp entry_cmp_total entry_cmp_exact (in_order (es ++ fs))
-    (in_order es ++ in_order fs) (rises_in_order (es ++ fs))
-    (rises_append (in_order es) (in_order fs) (rises_in_order es) (rises_in_order fs)
-    (all_in_order (λ (e : Entry). AllByRecursion (λ (f : Entry). is_lt (entry_cmp f e) ≡ false)
-    (in_order fs)) es (each_before es fs before)))
+    unique entry_cmp entry_cmp_total entry_cmp_exact (entries_in_order (es ++ fs))
+    (entries_in_order es ++ entries_in_order fs) (rises_in_order (es ++ fs))
+    (rises_append (entries_in_order es) (entries_in_order fs) (rises_in_order es) (rises_in_order fs)
+    (all_in_order (λ (e : SymbolEntry). AllByRecursion (λ (f : SymbolEntry). is_lt (entry_cmp f e) ≡ false)
+    (entries_in_order fs)) es (each_before es fs before)))
     (λ f. omega (
       arith,
       sum_by-in_order f (es ++ fs),
       sum_by-append f es fs,
-      sum_by-append f (in_order es) (in_order fs),
+      sum_by-append f (entries_in_order es) (entries_in_order fs),
       sum_by-in_order f es,
       sum_by-in_order f fs,
     ))
 
 -- entries that are moved have one order
-pub in_order_moved : (es fs : List Entry) → IsPermutation es fs → in_order fs ≡ in_order es
+pub in_order_moved : (es fs : List SymbolEntry) → IsPermutation es fs → entries_in_order fs ≡ entries_in_order es
 in_order_moved es fs moved =
-    unique entry_cmp entry_cmp_total entry_cmp_exact (in_order fs) (in_order es)
+    unique entry_cmp entry_cmp_total entry_cmp_exact (entries_in_order fs) (entries_in_order es)
     (rises_in_order fs) (rises_in_order es)
     (λ f. sum_by-in_order f fs ∙ sum_by-IsPermutation f es fs moved ∙ sym (sum_by-in_order f es))
 
@@ -268,19 +268,19 @@ module _ (a b : List ℕ) (bytes_a : AllByRecursion (λ x. x < 2 ^ 8) a) (bytes_
 -- ---- The order of rows
 
 -- the derived order
-abbrev pub row_cmp : Row → Row → Ordering
+abbrev pub row_cmp : SymbolSortRow → SymbolSortRow → Ordering
 row_cmp r s = ordering_then (nat_cmp r.key s.key) (ordering_then (slice_cmp nat_cmp r.name.now s.name.now) (nat_cmp r.index s.index))
 
 row_cmp_total : IsTotalOrder row_cmp
 row_cmp_total =
-    then_total (on_total (λ (r : Row). r.key) nat_cmp_total)
-    (then_total (on_total (λ (r : Row). r.name.now) nat_list_cmp_total) (on_total (λ (r : Row). r.index) nat_cmp_total))
+    then_total (on_total (λ (r : SymbolSortRow). r.key) nat_cmp_total)
+    (then_total (on_total (λ (r : SymbolSortRow). r.name.now) nat_list_cmp_total) (on_total (λ (r : SymbolSortRow). r.index) nat_cmp_total))
 
 pub above_is : (x y : ℕ) → nat_cmp x y ≡ Greater → y < x
 above_is x y e = grind (arith, nat_tests)
 
 -- the order of the entries is that of the rows
-weaker : (by_value : Bool) (x y : Row) → KeyIs by_value x → KeyIs by_value y → is_lt (row_cmp y x) ≡ false → is_lt (entry_cmp (as_entry by_value y) (as_entry by_value x)) ≡ false
+weaker : (by_value : Bool) (x y : SymbolSortRow) → KeyIs by_value x → KeyIs by_value y → is_lt (row_cmp y x) ≡ false → is_lt (entry_cmp (as_entry by_value y) (as_entry by_value x)) ≡ false
 unfolding entry_cmp as_entry
 weaker true x y kx ky later = later
 weaker false x y kx ky later = by_key (nat_cmp y.key x.key) refl later
@@ -298,38 +298,38 @@ weaker false x y kx ky later = by_key (nat_cmp y.key x.key) refl later
         ap (λ (r : Ordering). is_lt (ordering_then r (nat_cmp y.index x.index))) back
 
 -- what the sort leaves
-pub sorted_rows : (by_value : Bool) (old new : List Row) → All (KeyIs by_value) old → IsPermutation old new → IsSorted row_cmp new → map (as_entry by_value) new ≡ in_order (map (as_entry by_value) old)
+pub sorted_rows : (by_value : Bool) (old new : List SymbolSortRow) → All (KeyIs by_value) old → IsPermutation old new → IsSorted row_cmp new → map (as_entry by_value) new ≡ entries_in_order (map (as_entry by_value) old)
 sorted_rows by_value old new keys moved sorted =
     sorted_by row_cmp (as_entry by_value) (KeyIs by_value) (weaker by_value) row_cmp_total old new keys moved sorted
 
 -- ---- The law of the order
 
-either_moved : (e g : Entry) (gs rest : List Entry) (b : Bool) → IsPermutation (e ∷ gs) rest → IsPermutation (e ∷ g ∷ gs) (cond b (g ∷ rest) (e ∷ g ∷ gs))
+either_moved : (e g : SymbolEntry) (gs rest : List SymbolEntry) (b : Bool) → IsPermutation (e ∷ gs) rest → IsPermutation (e ∷ g ∷ gs) (cond b (g ∷ rest) (e ∷ g ∷ gs))
 either_moved e g gs rest true moved =
     IsPermutation-trans (e ∷ g ∷ gs) (g ∷ e ∷ gs) (g ∷ rest)
     (IsPermutation-sym (g ∷ e ∷ gs) (e ∷ g ∷ gs) (IsPermutation-middle (g ∷ []) e gs))
     (IsPermutation-cons g (e ∷ gs) rest moved)
 either_moved e g gs rest false moved = IsPermutation-refl (e ∷ g ∷ gs)
 
-moved_inserted : (e : Entry) (es : List Entry) → IsPermutation (e ∷ es) (inserted e es)
+moved_inserted : (e : SymbolEntry) (es : List SymbolEntry) → IsPermutation (e ∷ es) (inserted e es)
 unfolding inserted
 moved_inserted e [] = IsPermutation-refl (e ∷ [])
 moved_inserted e (g ∷ gs) = either_moved e g gs (inserted e gs) (is_lt (entry_cmp g e)) (moved_inserted e gs)
 
-moved_in_order : (es : List Entry) → IsPermutation es (in_order es)
-unfolding in_order
+moved_in_order : (es : List SymbolEntry) → IsPermutation es (entries_in_order es)
+unfolding entries_in_order
 moved_in_order [] = IsPermutation-refl []
 moved_in_order (e ∷ es) =
-    IsPermutation-trans (e ∷ es) (e ∷ in_order es) (inserted e (in_order es))
-    (IsPermutation-cons e es (in_order es) (moved_in_order es))
-    (moved_inserted e (in_order es))
+    IsPermutation-trans (e ∷ es) (e ∷ entries_in_order es) (inserted e (entries_in_order es))
+    (IsPermutation-cons e es (entries_in_order es) (moved_in_order es))
+    (moved_inserted e (entries_in_order es))
 
-sorted_in_order : (es : List Entry) → IsSorted entry_cmp (in_order es)
-sorted_in_order es = IsSorted-from_rises entry_cmp (in_order es) (rises_in_order es)
+sorted_in_order : (es : List SymbolEntry) → IsSorted entry_cmp (entries_in_order es)
+sorted_in_order es = IsSorted-from_rises entry_cmp (entries_in_order es) (rises_in_order es)
 
-only_in_order : (es fs : List Entry) → IsOrderOf es fs → fs ≡ in_order es
+only_in_order : (es fs : List SymbolEntry) → IsOrderOf es fs → fs ≡ entries_in_order es
 only_in_order es fs is =
-    unique entry_cmp entry_cmp_total entry_cmp_exact fs (in_order es)
+    unique entry_cmp entry_cmp_total entry_cmp_exact fs (entries_in_order es)
     (Rises-from_sorted entry_cmp entry_cmp_total fs is.sorted)
     (rises_in_order es)
     (λ f. sum_by-IsPermutation f es fs is.moved ∙ sym (sum_by-in_order f es))

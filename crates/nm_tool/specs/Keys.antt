@@ -2,8 +2,8 @@
 -- stand by value, and else the first sixteen bytes of the name.
 use Rattle.std.specs.Prelude.{◌≡◌, ◌+◌, ◌*◌, ℕ, zero, suc, Bool, false, List, slice_index_or, if◌then◌else◌}
 use Rattle.elf_types.specs.Lists.{AreBytes}
-use Rattle.nm_tool.specs.declared.order.Row.{Row}
-use Rattle.nm_tool.specs.Order.{Entry}
+use Rattle.nm_tool.specs.declared.order.SymbolSortRow.{SymbolSortRow}
+use Rattle.nm_tool.specs.Order.{SymbolEntry}
 
 -- the number of the first bytes of a list, of which the first counts most; where there is none it
 -- counts as 0
@@ -12,7 +12,7 @@ prefix zero bytes = 0
 prefix (suc n) bytes = prefix n bytes * 256 + slice_index_or bytes n 0
 
 -- the entry of a row
-unfoldable pub as_entry : Bool → Row → Entry
+unfoldable pub as_entry : Bool → SymbolSortRow → SymbolEntry
 as_entry by_value r = record {
   value = if by_value then r.key else 0;
   name = r.name.now;
@@ -20,6 +20,6 @@ as_entry by_value r = record {
 }
 
 -- its key is the one of its name, where rows do not stand by value
-pub record KeyIs (by_value : Bool) (r : Row) : Type 0 where
+pub record KeyIs (by_value : Bool) (r : SymbolSortRow) : Type 0 where
   pub key : by_value ≡ false → r.key ≡ prefix 16 r.name.now
   pub bytes : AreBytes r.name.now

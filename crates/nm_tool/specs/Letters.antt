@@ -9,8 +9,8 @@ use Rattle.elf_types.specs.Kinds.{has_flag}
 use Rattle.elf_types.specs.Symbols.{has_bind, has_type, is_local}
 use Rattle.elf_types.specs.declared.constants.TheConstants.{SHN_UNDEF, SHN_ABS, SHN_COMMON, SHT_NOBITS, SHF_WRITE, SHF_ALLOC, SHF_EXECINSTR, STB_WEAK, STB_GNU_UNIQUE, STT_OBJECT, STT_GNU_IFUNC}
 use Rattle.elf_object.specs.Object.{Object, section_at}
-use Rattle.object_output.specs.gelf_view.declared.symbols.SymPlace.{SymPlace}
-use Rattle.object_output.specs.gelf_view.declared.symbols.SymPlace.TheVariants.{Special, Section}
+use Rattle.tool_objects.specs.gelf_view.declared.symbols.SymPlace.{SymPlace}
+use Rattle.tool_objects.specs.gelf_view.declared.symbols.SymPlace.TheVariants.{Special, Section}
 
 -- ---- What a letter rests on
 

@@ -52,5 +52,5 @@ kept_cmp name_of a b = ordering_then (nat_cmp a.key b.key) (names_cmp name_of a 
 -- ---- What is sorted
 
 -- whether its name is not empty
-abbrev pub is_named : (ℕ → List ℕ) → Kept → Bool
-is_named name_of k = not (is_empty (name_of k.name))
+abbrev pub has_nonempty_name : (ℕ → List ℕ) → Kept → Bool
+has_nonempty_name name_of k = not (is_empty (name_of k.name))

@@ -6,7 +6,7 @@ use Rattle.elf_types.specs.declared.records.Sym.{Sym}
 use Rattle.nm_tool.specs.declared.options.NmOptions.{NmOptions}
 use Rattle.tool_text.specs.declared.radixes.Radix.{Radix}
 use Rattle.tool_output.specs.Names.{Name, shown_name}
-use Rattle.number_columns.specs.Columns.{number, spaces, zero_filled}
+use Rattle.tool_output.specs.Columns.Columns.{radix_digits, spaces, zero_filled}
 
 -- the file's name, where each row has it (-A)
 unfoldable pub file_column : Bool → Name → List ℕ
@@ -26,7 +26,7 @@ value_column radix class undefined value =
 unfoldable pub value_and_size : Radix → Bool → Sym → List ℕ
 value_and_size radix undefined x =
     if undefined then []
-    else codes " " ++ number radix x.value ++ codes " " ++ number radix x.size
+    else codes " " ++ radix_digits radix x.value ++ codes " " ++ radix_digits radix x.size
 
 -- `VALUE LETTER NAME`
 unfoldable pub plain_row : Radix → Class → Bool → Sym → ℕ → List ℕ → List ℕ

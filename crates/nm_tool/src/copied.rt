@@ -1,38 +1,39 @@
 //! The rows of a table with copies of the names, which are sorted.
 
 ghost use Rattle.std.specs.Prelude.{◌≡◌, length};
-ghost use Rattle.tool_output.specs.Reports.{shown, reports_of};
-ghost use Rattle.object_output.specs.Steps.{ReportsElf};
+ghost use Rattle.tool_output.specs.Reports.{shown_report, reports_of};
+ghost use Rattle.tool_objects.specs.Steps.{ReportsElf};
 ghost use Rattle.nm_tool.specs.Tables.{AreTables};
-ghost use Rattle.nm_tool.specs.Listed.{symbols as stated_symbols};
-ghost use Rattle.nm_tool.specs.Tool.{symbol_row, rows_report};
+ghost use Rattle.nm_tool.specs.Listed.{symbols_in_table as stated_symbols};
+ghost use Rattle.nm_tool.specs.Tool.{listed_symbol_row, rows_report};
 ghost use Rattle.nm_tool.specs.PoolReports.{row_report, pool_report};
 
-use crate::form::{Form, show_symbol};
+use crate::form::{ListingForm, show_symbol};
 use crate::listed::pool_of;
-use crate::order::{Row, sorted};
+use crate::order::{SymbolSortRow, sorted};
 use crate::pools::{Pool, rows_of};
-use crate::symbols::{Tables, place_at, symbol_at};
+use crate::symbols::{Tables, symbol_at, symbol_place_at};
 use elf_outside::{Sink, Source};
 use elf_types::Sym;
-use object_output::prelude::Elf;
+use tool_objects::prelude::Elf;
 use tool_output::{Outputs, Stop};
 
 /// Shows the row of symbol `i`.
 fn show_placed<S: Source, O: Sink, E: Sink>(
     elf: &mut Elf<S>,
     t: Tables,
-    form: Form<'_>,
+    form: ListingForm<'_>,
     symbol: Sym,
-    row: &Row<'_>,
+    row: &SymbolSortRow<'_>,
     outputs: &mut Outputs<'_, O, E>,
 ) -> Result<bool, Stop>
     requires { AreTables elf.old.o t }
-    ensures { ReportsElf S.Source O.Sink E.Sink (λ o. shown (symbol_row form.entry.options.now
+    ensures { ReportsElf S.Source O.Sink E.Sink
+        (λ o. shown_report (listed_symbol_row form.entry.options.now
         form.entry.file.now o t.symbols.0 row.now.index row.now.name.now symbol))
         result elf.old elf.new outputs.old outputs.new }
 {
-    match place_at(elf, t, row.index, symbol) {
+    match symbol_place_at(elf, t, row.index, symbol) {
         Ok(place) => show_symbol(&*elf, form, symbol, place, row.name, outputs),
         Err(stop) => Err(stop),
     }
@@ -42,8 +43,8 @@ fn show_placed<S: Source, O: Sink, E: Sink>(
 fn show_row<S: Source, O: Sink, E: Sink>(
     elf: &mut Elf<S>,
     t: Tables,
-    form: Form<'_>,
-    row: &Row<'_>,
+    form: ListingForm<'_>,
+    row: &SymbolSortRow<'_>,
     outputs: &mut Outputs<'_, O, E>,
 ) -> Result<bool, Stop>
     requires { AreTables elf.old.o t }
@@ -62,8 +63,8 @@ fn show_row<S: Source, O: Sink, E: Sink>(
 fn show_rows<S: Source, O: Sink, E: Sink>(
     elf: &mut Elf<S>,
     t: Tables,
-    form: Form<'_>,
-    rows: &[Row<'_>],
+    form: ListingForm<'_>,
+    rows: &[SymbolSortRow<'_>],
     outputs: &mut Outputs<'_, O, E>,
 ) -> Result<bool, Stop>
     requires { AreTables elf.old.o t }
@@ -84,7 +85,7 @@ fn show_rows<S: Source, O: Sink, E: Sink>(
 fn show_pool<S: Source, O: Sink, E: Sink>(
     elf: &mut Elf<S>,
     t: Tables,
-    form: Form<'_>,
+    form: ListingForm<'_>,
     pool: &Pool,
     outputs: &mut Outputs<'_, O, E>,
 ) -> Result<bool, Stop>
@@ -107,7 +108,7 @@ pub fn show_copied<S: Source, O: Sink, E: Sink>(
     elf: &mut Elf<S>,
     t: Tables,
     count: u64,
-    form: Form<'_>,
+    form: ListingForm<'_>,
     outputs: &mut Outputs<'_, O, E>,
 ) -> Result<bool, Stop>
     requires tables { AreTables elf.old.o t }

@@ -1,7 +1,7 @@
 //! What a row shows besides its symbol, and the row of a symbol whose place and name are known.
 
 ghost use Rattle.elf_object.specs.Object.{Object};
-ghost use Rattle.tool_output.specs.Reports.{Reports, shown};
+ghost use Rattle.tool_output.specs.Reports.{Reports, shown_report};
 ghost use Rattle.tool_output.specs.Steps.{LeavesOutputs};
 ghost use Rattle.nm_tool.specs.Letters.{HasHeaders};
 ghost use Rattle.nm_tool.specs.Rows.{row_text};
@@ -13,12 +13,12 @@ use crate::options::NmOptions;
 use crate::rows::SymbolRow;
 use elf_outside::Sink;
 use elf_types::{Class, Sym};
-use object_output::prelude::SymPlace;
+use tool_objects::prelude::SymPlace;
 use tool_output::{FileName, Outputs, Stop};
 
 /// What the rows of a table show besides its symbols.
 #[derive(Clone, Copy)]
-pub struct Form<'a> {
+pub struct ListingForm<'a> {
     /// The options.
     pub options: &'a NmOptions,
     /// The file, or the member of an archive.
@@ -27,7 +27,7 @@ pub struct Form<'a> {
 
 /// Shows the row of a symbol whose letter is known.
 pub fn show_lettered<O: Sink, E: Sink>(
-    form: Form<'_>,
+    form: ListingForm<'_>,
     class: Class,
     undefined: bool,
     symbol: Sym,
@@ -36,7 +36,8 @@ pub fn show_lettered<O: Sink, E: Sink>(
     outputs: &mut Outputs<'_, O, E>,
 ) -> Result<bool, Stop>
     ensures reports { Reports O.Sink E.Sink result outputs.old outputs.new
-        (shown (row_text form.entry.options.now class form.entry.file.now undefined symbol letter
+        (shown_report (row_text form.entry.options.now class form.entry.file.now undefined symbol
+        letter
         name.now)) }
     ensures leaves { LeavesOutputs O.Sink E.Sink ⊥ result outputs.old outputs.new }
 {
@@ -54,7 +55,7 @@ pub fn show_lettered<O: Sink, E: Sink>(
 /// Shows the row of a symbol whose place is known, of an object that has these headers.
 pub fn show_symbol<H: ObjectHeaders, O: Sink, E: Sink>(
     headers: &H,
-    form: Form<'_>,
+    form: ListingForm<'_>,
     symbol: Sym,
     place: Option<SymPlace>,
     name: &[u8],
@@ -62,7 +63,8 @@ pub fn show_symbol<H: ObjectHeaders, O: Sink, E: Sink>(
 ) -> Result<bool, Stop>
     ensures reports { (o : Object) → HasHeaders o (H.class headers.now) (H.headers headers.now)
         → Reports O.Sink E.Sink result outputs.old outputs.new
-        (shown (placed_row form.entry.options.now form.entry.file.now o symbol place name.now)) }
+        (shown_report (placed_row form.entry.options.now form.entry.file.now o symbol place
+        name.now)) }
     ensures leaves { LeavesOutputs O.Sink E.Sink ⊥ result outputs.old outputs.new }
 {
     let class = headers.class();

@@ -1,26 +1,26 @@
-//! The rows of an image whose front tells where its symbols and their names stand: two ranges of
-//! its bytes are read, and no descriptor is begun.
+//! The rows of an image whose front tells where its symbols and their names are: two ranges of its
+//! bytes are read, and no descriptor is begun.
 
 ghost use Rattle.std.specs.Prelude.{◌≡◌, ◌+◌, ◌≤◌, ◌^◌, length, take, drop, IfSome};
 ghost use Rattle.elf_types.specs.declared.records.Kind.TheVariants as kinds;
 ghost use Rattle.elf_object.specs.Open.{begun};
 ghost use Rattle.tool_output.specs.Sources.{ReportsOn};
-ghost use Rattle.bytes_at_hand.specs.Items.{AreWhole};
-ghost use Rattle.front_symbols.specs.Tables.{IsPlain};
-ghost use Rattle.nm_tool.specs.Tables.{AreOfFront, AreFirst};
+ghost use Rattle.tool_objects.specs.AtHand.Items.{AreWhole};
+ghost use Rattle.nm_front.specs.Tables.{IsPlain};
+ghost use Rattle.nm_tool.specs.Tables.{AreOfFront, IsFirstSymbolTable};
 ghost use Rattle.nm_tool.specs.Tool.{rows_report};
 
 use crate::at_hand::show_at_hand;
-use crate::form::Form;
+use crate::form::ListingForm;
 use crate::kept::kept_at_hand;
-use crate::symbols::TableBytes;
-use bytes_at_hand::{ItemBytes, up_to_last_nul};
+use crate::symbols::SymbolTableBytes;
 use elf_ident::Front;
 use elf_outside::reads::read_range;
 use elf_outside::{Sink, Source};
-use front_symbols::{PlainTable, symbol_count};
-use object_output::stop_for;
+use nm_front::{PlainTable, symbol_count};
 use std::alloc::Global;
+use tool_objects::at_hand::{ItemBytes, up_to_last_nul};
+use tool_objects::stop_for;
 use tool_output::{Outputs, Stop};
 
 /// Shows the rows of the symbols of a plain table, whose bytes were read. Where none is kept, the
@@ -31,11 +31,11 @@ fn show_read<S: Source, O: Sink, E: Sink>(
     front: &Front,
     table: PlainTable,
     symbols: ItemBytes<'_>,
-    form: Form<'_>,
+    form: ListingForm<'_>,
     outputs: &mut Outputs<'_, O, E>,
 ) -> Result<bool, Stop>
     requires plain { IsPlain front.now (S.size src.old) table }
-    requires first { AreFirst front.now table }
+    requires first { IsFirstSymbolTable front.now table }
     requires whole { AreWhole kinds.Sym symbols }
     requires form { AreOfFront front.now symbols }
     requires held { IfSome (S.holds src.old) (λ image.
@@ -57,13 +57,19 @@ fn show_read<S: Source, O: Sink, E: Sink>(
     match read_range(alloc, src, table.names.offset, table.names.size) {
         Ok(names) => {
             let strings = up_to_last_nul(names.as_slice());
-            show_at_hand(front, TableBytes { symbols, strings }, list, form, outputs)
+            show_at_hand(
+                front,
+                SymbolTableBytes { symbols, strings },
+                list,
+                form,
+                outputs,
+            )
         }
         Err(e) => Err(stop_for(e)),
     }
 }
 
-/// Shows the rows of the symbols of a plain table of the image that a source holds. It asks for the
+/// Shows the rows of the symbols of a plain table of the image that a source holds. It reads the
 /// bytes of the symbols, and where a row is kept for those of their names. It stops by `Read` where
 /// a read of the source failed, by `Write` where a put failed, and by `Memory`.
 pub fn show_plain<S: Source, O: Sink, E: Sink>(
@@ -71,11 +77,11 @@ pub fn show_plain<S: Source, O: Sink, E: Sink>(
     src: &mut S,
     front: &Front,
     table: PlainTable,
-    form: Form<'_>,
+    form: ListingForm<'_>,
     outputs: &mut Outputs<'_, O, E>,
 ) -> Result<bool, Stop>
     requires plain { IsPlain front.now (S.size src.old) table }
-    requires first { AreFirst front.now table }
+    requires first { IsFirstSymbolTable front.now table }
     ensures reports { ReportsOn S.Source O.Sink E.Sink
         (λ image. rows_report form.entry.options.now form.entry.file.now (begun front.now image)
         table.section)

@@ -8,10 +8,10 @@ ghost use Rattle.elf_types.specs.declared.records.Shdr.{Shdr as Header};
 use elf_ident::Front;
 use elf_outside::Source;
 use elf_types::{Class, ScnId, Shdr};
-use object_output::prelude::Elf;
+use tool_objects::prelude::Elf;
 
-/// What tells the class of an object and the headers of its sections: a descriptor, or the front of
-/// an image that no descriptor is over.
+/// What tells the class of an object and the headers of its sections: a descriptor, or the headers
+/// of an image that no descriptor is over.
 pub trait ObjectHeaders {
     // The class.
     ghost class: { Self → TheClass };

@@ -1,5 +1,5 @@
 //! The symbols that are wanted whatever their names. They are told from the bytes of their table,
-//! where these are at hand and it has no extended indexes, and else by calls on the descriptor.
+//! where these are in memory and it has no extended indexes, and else by calls on the descriptor.
 
 ghost use Rattle.std.specs.Prelude.{◌≡◌, ◌-◌, ◌++◌, ◌∷◌, ◌<◌, ◌≤◌, ◌^◌, ℕ, [], None, Some, slice_get, OnOk, IfOk, IfErr};
 ghost use Rattle.std.specs.Option.{option_copied};
@@ -7,21 +7,21 @@ ghost use Rattle.elf_types.specs.declared.errors.ElfError.TheVariants.{Memory};
 ghost use Rattle.elf_types.specs.declared.records.Kind.TheVariants as kinds;
 ghost use Rattle.elf_object.specs.Object.{Object};
 ghost use Rattle.elf_object.specs.SymbolSections.{shndx_table};
-ghost use Rattle.object_output.specs.Steps.{Learns};
-ghost use Rattle.bytes_at_hand.specs.Items.{AreWhole};
+ghost use Rattle.tool_objects.specs.Steps.{Learns};
+ghost use Rattle.tool_objects.specs.AtHand.Items.{AreWhole};
 ghost use Rattle.nm_tool.specs.Kept.{kept_symbol};
 ghost use Rattle.nm_tool.specs.Kept as kept;
-ghost use Rattle.nm_tool.specs.Listed.{name_or_none, symbols as stated_symbols};
-ghost use Rattle.nm_tool.specs.Tables.{AreTables, ArePlain};
+ghost use Rattle.nm_tool.specs.Listed.{name_or_none, symbols_in_table as stated_symbols};
+ghost use Rattle.nm_tool.specs.Tables.{AreTables, ArePlainSymbols};
 
 use crate::listed::{is_plain_wanted, wanted_at};
 use crate::options::NmOptions;
 use crate::symbols::{Tables, symbol_bytes};
-use bytes_at_hand::{ItemBytes, item_of, load};
 use elf_outside::Source;
 use elf_types::{ElfError, List, Sym};
-use object_output::prelude::Elf;
 use std::alloc::Global;
+use tool_objects::at_hand::{ItemBytes, item_of, load};
+use tool_objects::prelude::Elf;
 use tool_output::Stop;
 
 /// A symbol that is wanted whatever its name.
@@ -31,7 +31,7 @@ pub struct Kept {
     pub key: u64,
     /// Its index.
     pub index: u32,
-    /// Where its name stands in the strings, `st_name`.
+    /// Where its name is in the strings, `st_name`.
     pub name: u32,
 }
 
@@ -94,7 +94,7 @@ fn kept_by_calls<S: Source>(
     Ok(list)
 }
 
-/// Appends a symbol by its index. It refuses `Memory` alone.
+/// Appends a symbol by its index. It fails with `Memory` alone.
 #[inline(always)]
 fn push_one(list: &mut List<Kept>, x: Sym, i: u64) -> Result<(), ElfError>
     requires { i < 2 ^ 32 }
@@ -108,8 +108,8 @@ fn push_one(list: &mut List<Kept>, x: Sym, i: u64) -> Result<(), ElfError>
     })
 }
 
-/// Appends symbol `i` of a table without extended indexes, where it is wanted. It refuses `Memory`
-/// alone.
+/// Appends symbol `i` of a table without extended indexes, where it is wanted. It fails with
+/// `Memory` alone.
 #[inline(always)]
 fn push_wanted(list: &mut List<Kept>, options: &NmOptions, x: Sym, i: u64) -> Result<(), ElfError>
     requires { i < 2 ^ 32 }
@@ -124,8 +124,8 @@ fn push_wanted(list: &mut List<Kept>, options: &NmOptions, x: Sym, i: u64) -> Re
     Ok(())
 }
 
-/// Appends symbol `i` of those that bytes hold, where it is there and wanted. It refuses `Memory`
-/// alone.
+/// Appends symbol `i` of those that bytes hold, where it is there and wanted. It fails with
+/// `Memory` alone.
 #[inline(always)]
 fn push_at(
     list: &mut List<Kept>,
@@ -135,7 +135,7 @@ fn push_at(
 ) -> Result<(), ElfError>
     requires whole { AreWhole kinds.Sym symbols }
     requires small { i < 2 ^ 32 }
-    ensures ok { OnOk result ((o : Object) (s : ℕ) → ArePlain o s symbols.entry
+    ensures ok { OnOk result ((o : Object) (s : ℕ) → ArePlainSymbols o s symbols.entry
         → list.new ≡ kept.with_kept options.now o s list.old i) }
     ensures err { IfErr result (λ e. e ≡ Memory) }
 {
@@ -146,7 +146,7 @@ fn push_at(
 }
 
 /// The symbols that are wanted whatever their names, of so many that bytes hold, of a table without
-/// extended indexes. It refuses `Memory` alone.
+/// extended indexes. It fails with `Memory` alone.
 fn kept_in(
     alloc: Global,
     symbols: ItemBytes<'_>,
@@ -155,7 +155,7 @@ fn kept_in(
 ) -> Result<List<Kept>, ElfError>
     requires whole { AreWhole kinds.Sym symbols }
     requires few { count ≤ 2 ^ 32 }
-    ensures ok { IfOk result (λ l. (o : Object) (s : ℕ) → ArePlain o s symbols.entry
+    ensures ok { IfOk result (λ l. (o : Object) (s : ℕ) → ArePlainSymbols o s symbols.entry
         → l ≡ kept.kept_of options.now o s (count - 1)) }
     ensures err { IfErr result (λ e. e ≡ Memory) }
 {
@@ -166,7 +166,8 @@ fn kept_in(
     Ok(list)
 }
 
-/// The same; it stops where there is no memory.
+/// The symbols that are wanted whatever their names, as `kept_in` tells them; it stops where there
+/// is no memory.
 pub fn kept_at_hand(
     alloc: Global,
     symbols: ItemBytes<'_>,
@@ -175,7 +176,7 @@ pub fn kept_at_hand(
 ) -> Result<List<Kept>, Stop>
     requires whole { AreWhole kinds.Sym symbols }
     requires few { count ≤ 2 ^ 32 }
-    ensures ok { IfOk result (λ l. (o : Object) (s : ℕ) → ArePlain o s symbols.entry
+    ensures ok { IfOk result (λ l. (o : Object) (s : ℕ) → ArePlainSymbols o s symbols.entry
         → l ≡ kept.kept_of options.now o s (count - 1)) }
     ensures err { IfErr result (λ stop. stop ≡ Stop.Memory) }
 {

@@ -1,4 +1,4 @@
-//! A law of the order of the rows: the contract of a function that does nothing.
+//! A theorem on the order of the rows: the contract of a function that does nothing.
 
 ghost use Rattle.nm_tool.specs.Order.{OrderLaw};
 

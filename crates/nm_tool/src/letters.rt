@@ -10,7 +10,7 @@ use elf_types::constants::{
     STB_GNU_UNIQUE, STB_WEAK, STT_GNU_IFUNC, STT_OBJECT,
 };
 use elf_types::{Shdr, Sym, has_bind, has_flag, has_type, is_local};
-use object_output::prelude::SymPlace;
+use tool_objects::prelude::SymPlace;
 
 /// Whether a symbol whose place this is is undefined.
 pub fn is_undefined(place: Option<SymPlace>) -> bool

@@ -1,4 +1,10 @@
-//! nm: the symbols of an object as lines of text (POSIX nm).
+//! The tool nm: its options, which symbols are listed and in what order, and their rows (POSIX nm).
+//!
+//! - `options`: the record of the options, which elfkit_words fills from the command line.
+//! - `listed`: which symbols are listed; `order`: in what order.
+//! - `rows`: a symbol as a row, in each of the forms.
+//! - `tool`: nm of an object, and of the objects of an archive.
+//! - `laws`: theorems on the order of the rows; no code.
 #![tactic(auto)]
 
 mod at_hand;

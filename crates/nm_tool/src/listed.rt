@@ -3,27 +3,27 @@
 ghost use Rattle.std.specs.Prelude.{◌≡◌, ◌-◌, ◌&&◌, ℕ, None, IfOk, IfErr};
 ghost use Rattle.elf_object.specs.Object.{Object};
 ghost use Rattle.elf_object.specs.SymbolSections.{shndx_table};
-ghost use Rattle.object_output.specs.Steps.{Learns};
-ghost use Rattle.nm_tool.specs.Listed.{is_kept, is_wanted, listed_name};
-ghost use Rattle.nm_tool.specs.Pools.{if_wanted, wanted_at, with_name, with_symbol, pool_of};
+ghost use Rattle.tool_objects.specs.Steps.{Learns};
+ghost use Rattle.nm_tool.specs.Listed.{is_listable_symbol, is_wanted, shown_symbol_name};
+ghost use Rattle.nm_tool.specs.Pools.{if_wanted, wanted_at, pool_with_name, with_symbol, pool_of};
 ghost use Rattle.nm_tool.specs.Tables.{AreTables};
 
 use crate::letters::is_undefined;
 use crate::options::NmOptions;
 use crate::pools::Pool;
-use crate::symbols::{Tables, place_at, plain_place, symbol_at};
+use crate::symbols::{Tables, plain_place, symbol_at, symbol_place_at};
 use elf_outside::Source;
 use elf_types::constants::{STT_FILE, STT_SECTION};
 use elf_types::{Sym, has_type, is_local};
-use object_output::prelude::Elf;
-use object_output::string_at;
 use std::alloc::Global;
+use tool_objects::prelude::Elf;
+use tool_objects::string_at;
 use tool_output::Stop;
 
 /// Whether a symbol is neither a section nor a file, and with `-g` not local.
-#[tactic(auto, unfolding(crate::specs::Listed::is_kept))]
+#[tactic(auto, unfolding(crate::specs::Listed::is_listable_symbol))]
 fn is_kept(options: &NmOptions, x: &Sym) -> bool
-    ensures { result ≡ is_kept options.now x.now }
+    ensures { result ≡ is_listable_symbol options.now x.now }
 {
     if has_type(x, STT_SECTION) || has_type(x, STT_FILE) {
         return false;
@@ -47,7 +47,7 @@ fn is_wanted<S: Source>(
     if !options.undefined {
         return Ok(true);
     }
-    match place_at(elf, t, i, x) {
+    match symbol_place_at(elf, t, i, x) {
         Ok(place) => Ok(is_undefined(place)),
         Err(stop) => Err(stop),
     }
@@ -68,7 +68,7 @@ fn is_wanted_by(options: &NmOptions, x: &Sym) -> bool
 #[inline(always)]
 pub fn is_plain_wanted(options: &NmOptions, x: &Sym) -> bool
     ensures { (o : Object) (s i : ℕ) → None ≡ shndx_table o s
-        → result ≡ (is_kept options.now x.now && is_wanted options.now o s i x.now) }
+        → result ≡ (is_listable_symbol options.now x.now && is_wanted options.now o s i x.now) }
 {
     if is_kept(options, x) {
         return is_wanted_by(options, x);
@@ -119,7 +119,7 @@ pub fn wanted_at<S: Source>(
 
 /// A pool with one more symbol, unless its name is empty; it stops where there is no memory.
 fn with_name(pool: Pool, value: u64, i: u64, name: &[u8]) -> Result<Pool, Stop>
-    ensures ok { IfOk result (λ p. p ≡ with_name pool value i name.now) }
+    ensures ok { IfOk result (λ p. p ≡ pool_with_name pool value i name.now) }
     ensures err { IfErr result (λ stop. stop ≡ Stop.Memory) }
 {
     match pool.with(value, i, name) {
@@ -129,7 +129,7 @@ fn with_name(pool: Pool, value: u64, i: u64, name: &[u8]) -> Result<Pool, Stop>
 }
 
 /// A pool with symbol `i` under its name as it is shown.
-#[tactic(auto, unfolding(crate::specs::Listed::listed_name, elf_object::specs::Strings::symbol_name))]
+#[tactic(auto, unfolding(crate::specs::Listed::shown_symbol_name, elf_object::specs::Strings::symbol_name))]
 fn with_named<S: Source>(
     elf: &mut Elf<S>,
     t: Tables,
@@ -138,7 +138,8 @@ fn with_named<S: Source>(
     pool: Pool,
 ) -> Result<Pool, Stop>
     requires { AreTables elf.old.o t }
-    ensures { Learns S.Source (λ o. with_name pool x.value i (listed_name o t.symbols.0 x))
+    ensures { Learns S.Source (λ o. pool_with_name pool x.value i
+        (shown_symbol_name o t.symbols.0 x))
         result elf.old elf.new }
 {
     match string_at(elf, t.names, u64::from(x.name)) {

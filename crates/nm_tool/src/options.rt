@@ -1,11 +1,11 @@
-//! What the letters of nm ask for.
+//! What the options of nm ask for.
 
 use tool_text::Radix;
 
 /// The options of nm.
 #[derive(Clone, Copy, PartialEq, Eq)]
 pub struct NmOptions {
-    /// `-A`: the file's name stands before each row.
+    /// `-A`: the file's name is before each row.
     pub name_each: bool,
     /// `-g`: only symbols whose binding is not LOCAL.
     pub globals: bool,

@@ -2,15 +2,15 @@
 
 ghost use Rattle.std.specs.Prelude.{◌≡◌, ◌<◌, All, map, slice_index_or};
 ghost use Rattle.elf_types.specs.Lists.{AreBytes};
-ghost use Rattle.nm_tool.specs.Order.{in_order};
+ghost use Rattle.nm_tool.specs.Order.{entries_in_order};
 ghost use Rattle.nm_tool.specs.Keys.{prefix, as_entry, KeyIs};
 
 use elf_types::bytes_are_ranged;
 
 /// A row as it is sorted: by its key, then by its name, then by its index.
 #[derive(Clone, Copy, PartialEq, Eq, PartialOrd, Ord)]
-pub struct Row<'a> {
-    /// The value, where rows stand by value, and else the first sixteen bytes of the name: a
+pub struct SymbolSortRow<'a> {
+    /// The value, where rows are sorted by value, and else the first sixteen bytes of the name: a
     /// number that decides most comparisons.
     pub key: u128,
     /// The name, as it is shown.
@@ -45,10 +45,10 @@ fn byte_at(name: &[u8], place: usize) -> u8
 }
 
 /// The rows in their order.
-pub fn sorted<'a>(mut rows: Vec<Row<'a>>, by_value: bool) -> Vec<Row<'a>>
+pub fn sorted<'a>(mut rows: Vec<SymbolSortRow<'a>>, by_value: bool) -> Vec<SymbolSortRow<'a>>
     requires { All (KeyIs by_value) rows.items }
     ensures { map (as_entry by_value) result.items
-        ≡ in_order (map (as_entry by_value) rows.entry.items) }
+        ≡ entries_in_order (map (as_entry by_value) rows.entry.items) }
 {
     rows.sort_unstable();
     rows

@@ -1,40 +1,41 @@
-//! The rows of symbols whose order is known: each name is read where it stands, and none is copied.
+//! The rows of symbols whose order is known: each name is read where it is, and none is copied.
 
 ghost use Rattle.std.specs.Prelude.{◌≡◌, IfSome, IsTrue};
 ghost use Rattle.elf_object.specs.Strings as strings;
-ghost use Rattle.tool_output.specs.Reports.{shown, reports_of};
-ghost use Rattle.object_output.specs.Steps.{ReportsElf};
-ghost use Rattle.bytes_at_hand.specs.Strings.{EndsAt};
+ghost use Rattle.tool_output.specs.Reports.{shown_report, reports_of};
+ghost use Rattle.tool_objects.specs.Steps.{ReportsElf};
+ghost use Rattle.tool_objects.specs.AtHand.Strings.{EndsAt};
 ghost use Rattle.nm_tool.specs.Tables.{AreTables};
 ghost use Rattle.nm_tool.specs.Listed.{name_or_none};
 ghost use Rattle.nm_tool.specs.Tool.{placed_row};
 ghost use Rattle.nm_tool.specs.Kept.{index_report, kept_report, shown_row};
 
-use crate::form::{Form, show_lettered, show_symbol};
+use crate::form::{ListingForm, show_lettered, show_symbol};
 use crate::headers::ObjectHeaders;
 use crate::kept::{Kept, name_or_none};
 use crate::letters::{is_undefined, symbol_letter};
-use crate::symbols::{Tables, place_at, symbol_at};
-use bytes_at_hand::is_past;
+use crate::symbols::{Tables, symbol_at, symbol_place_at};
 use elf_outside::{Sink, Source};
 use elf_types::{ScnId, Sym};
-use object_output::prelude::{Elf, SymPlace};
-use object_output::string_at;
+use tool_objects::at_hand::is_past;
+use tool_objects::prelude::{Elf, SymPlace};
+use tool_objects::string_at;
 use tool_output::{Outputs, Stop};
 
-/// Shows the row of a symbol whose place is known, and whose name stands in a section, whose
-/// strings end there where that is known.
+/// Shows the row of a symbol whose place is known, and whose name is in a section, whose strings
+/// end there where that is known.
 fn show_named<S: Source, O: Sink, E: Sink>(
     elf: &mut Elf<S>,
     names: ScnId,
     end: Option<u64>,
-    form: Form<'_>,
+    form: ListingForm<'_>,
     symbol: Sym,
     place: Option<SymPlace>,
     outputs: &mut Outputs<'_, O, E>,
 ) -> Result<bool, Stop>
     requires { IsTrue elf.old.told → IfSome end (EndsAt elf.old.o names.0) }
-    ensures { ReportsElf S.Source O.Sink E.Sink (λ o. shown (placed_row form.entry.options.now
+    ensures { ReportsElf S.Source O.Sink E.Sink
+        (λ o. shown_report (placed_row form.entry.options.now
         form.entry.file.now o symbol place
         (name_or_none (strings.readable (strings.string_answer o names.0 symbol.name)))))
         result elf.old elf.new outputs.old outputs.new }
@@ -60,18 +61,18 @@ fn show_looked<S: Source, O: Sink, E: Sink>(
     elf: &mut Elf<S>,
     t: Tables,
     end: Option<u64>,
-    form: Form<'_>,
+    form: ListingForm<'_>,
     i: u64,
     symbol: Sym,
     outputs: &mut Outputs<'_, O, E>,
 ) -> Result<bool, Stop>
     requires tables { AreTables elf.old.o t }
     requires end { IsTrue elf.old.told → IfSome end (EndsAt elf.old.o t.names.0) }
-    ensures { ReportsElf S.Source O.Sink E.Sink (λ o. shown (shown_row form.entry.options.now
+    ensures { ReportsElf S.Source O.Sink E.Sink (λ o. shown_report (shown_row form.entry.options.now
         form.entry.file.now o t.symbols.0 i symbol))
         result elf.old elf.new outputs.old outputs.new }
 {
-    match place_at(elf, t, i, symbol) {
+    match symbol_place_at(elf, t, i, symbol) {
         Ok(place) => show_named(elf, t.names, end, form, symbol, place, outputs),
         Err(stop) => Err(stop),
     }
@@ -82,7 +83,7 @@ fn show_index<S: Source, O: Sink, E: Sink>(
     elf: &mut Elf<S>,
     t: Tables,
     end: Option<u64>,
-    form: Form<'_>,
+    form: ListingForm<'_>,
     i: u64,
     outputs: &mut Outputs<'_, O, E>,
 ) -> Result<bool, Stop>
@@ -105,7 +106,7 @@ fn show_one<S: Source, O: Sink, E: Sink>(
     elf: &mut Elf<S>,
     t: Tables,
     end: Option<u64>,
-    form: Form<'_>,
+    form: ListingForm<'_>,
     k: Kept,
     outputs: &mut Outputs<'_, O, E>,
 ) -> Result<bool, Stop>
@@ -123,7 +124,7 @@ pub fn show_order<S: Source, O: Sink, E: Sink>(
     elf: &mut Elf<S>,
     t: Tables,
     end: Option<u64>,
-    form: Form<'_>,
+    form: ListingForm<'_>,
     order: &[Kept],
     outputs: &mut Outputs<'_, O, E>,
 ) -> Result<bool, Stop>

@@ -1,12 +1,12 @@
 //! The symbols that are listed with copies of their names, held until they are sorted: where the
-//! bytes of the names are not at hand, as where they were edited.
+//! bytes of the names are not in memory, as where they were edited.
 
 ghost use Rattle.std.specs.Prelude.{◌≡◌, if◌then◌else◌, [], IfOk, IfErr, All, map};
 ghost use Rattle.elf_types.specs.declared.errors.ElfError.TheVariants.{Memory};
 ghost use Rattle.nm_tool.specs.Keys.{as_entry, KeyIs};
-ghost use Rattle.nm_tool.specs.Pools.{spot_entries, with_name};
+ghost use Rattle.nm_tool.specs.Pools.{spot_entries, pool_with_name};
 
-use crate::order::{Row, prefix};
+use crate::order::{SymbolSortRow, prefix};
 use elf_types::{ElfError, List, Octets};
 use std::alloc::Global;
 
@@ -41,10 +41,10 @@ impl Pool {
         }
     }
 
-    /// The pool with one more symbol, unless its name is empty. It refuses `Memory` alone.
-    #[tactic(auto, unfolding(crate::specs::Pools::with_name))]
+    /// The pool with one more symbol, unless its name is empty. It fails with `Memory` alone.
+    #[tactic(auto, unfolding(crate::specs::Pools::pool_with_name))]
     pub fn with(mut self, value: u64, index: u64, name: &[u8]) -> Result<Pool, ElfError>
-        ensures ok { IfOk result (λ p. p ≡ with_name self value index name.now) }
+        ensures ok { IfOk result (λ p. p ≡ pool_with_name self value index name.now) }
         ensures err { IfErr result (λ e. e ≡ Memory) }
     {
         if name.is_empty() {
@@ -62,7 +62,7 @@ impl Pool {
 
 /// The row of a symbol that has this name.
 #[tactic(auto, unfolding(crate::specs::Keys::as_entry))]
-pub fn row_of<'a>(by_value: bool, spot: Spot, name: &'a [u8]) -> Row<'a>
+pub fn row_of<'a>(by_value: bool, spot: Spot, name: &'a [u8]) -> SymbolSortRow<'a>
     ensures entry { as_entry by_value result ≡ record {
       value = if by_value then spot.value else 0;
       name = name.now;
@@ -74,17 +74,21 @@ pub fn row_of<'a>(by_value: bool, spot: Spot, name: &'a [u8]) -> Row<'a>
     let index = spot.index;
     if by_value {
         let key = u128::from(spot.value);
-        return Row { key, name, index };
+        return SymbolSortRow { key, name, index };
     }
-    Row {
+    SymbolSortRow {
         key: first,
         name,
         index,
     }
 }
 
-/// The rows of the symbols of a pool, in its order. It refuses `Memory` alone.
-pub fn rows_of<'a>(alloc: Global, pool: &'a Pool, by_value: bool) -> Result<Vec<Row<'a>>, ElfError>
+/// The rows of the symbols of a pool, in its order. It fails with `Memory` alone.
+pub fn rows_of<'a>(
+    alloc: Global,
+    pool: &'a Pool,
+    by_value: bool,
+) -> Result<Vec<SymbolSortRow<'a>>, ElfError>
     ensures rows { IfOk result (λ rows.
         map (as_entry by_value) rows.items ≡ spot_entries by_value pool.now.names pool.now.spots) }
     ensures keys { IfOk result (λ rows. All (KeyIs by_value) rows.items) }

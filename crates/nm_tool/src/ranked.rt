@@ -1,7 +1,7 @@
-//! Kept symbols in the order of their rows, by names that stand in bytes that are at hand: they are
-//! compared where they stand, and none is copied. By value each symbol has its value as its key. By
-//! name it has eight bytes of its name, those behind what all names share; the symbols of one key
-//! are put in order in the same way, by the bytes behind what their names share, and few of them by
+//! Kept symbols in the order of their rows, by names that are in bytes that are in memory: they are
+//! compared where they are, and none is copied. By value each symbol has its value as its key. By
+//! name it has eight bytes of its name, those after what all names share; the symbols of one key
+//! are put in order in the same way, by the bytes after what their names share, and few of them by
 //! comparing the names.
 
 ghost use Rattle.std.specs.Prelude.{◌≡◌, ◌+◌, ◌<◌, ◌≤◌, ◌^◌, ◌%◌, ◌==◌, ◌||◌, ℕ, List, All, true, false, drop, filter, get_or, length, map, nat_lt, slice_index_or, take, IfSome, IsTrue};
@@ -12,24 +12,24 @@ ghost use Rattle.std.specs.List.Sorted.{IsNonDecreasingBy};
 ghost use Rattle.std.specs.Cmp.Lexicographic.{slice_cmp};
 ghost use Rattle.elf_types.specs.Lists.{AreBytes};
 ghost use Rattle.nm_tool.specs.declared.kept.Kept.{Kept as TheKept};
-ghost use Rattle.nm_tool.specs.Order.{in_order};
-ghost use Rattle.nm_tool.specs.Kept.{order_of, shown_in, shown_name, ranked_entry, kept_entries};
-ghost use Rattle.nm_tool.specs.Ranked.{number_from, SharesFront, kept_cmp, names_cmp, is_named, keyed, AreKeyed};
+ghost use Rattle.nm_tool.specs.Order.{entries_in_order};
+ghost use Rattle.nm_tool.specs.Kept.{order_of, shown_name_in, linked_shown_name, ranked_entry, kept_entries};
+ghost use Rattle.nm_tool.specs.Ranked.{number_from, SharesFront, kept_cmp, names_cmp, has_nonempty_name, keyed, AreKeyed};
 ghost use Rattle.nm_tool.specs.Tables.{AreTables};
 
 use crate::kept::{Kept, name_or_none};
 use crate::symbols::Tables;
-use bytes_at_hand::{string_bytes, string_from};
 use elf_outside::Source;
 use elf_types::{List, bytes_are_ranged};
-use object_output::prelude::Elf;
 use std::cmp::Ordering;
+use tool_objects::at_hand::{string_bytes, table_string_from};
+use tool_objects::prelude::Elf;
 
 /// The name at a place of strings, as it is shown.
 pub fn name_at(strings: &[u8], place: u32) -> &[u8]
-    ensures { result.now ≡ shown_in strings.now place }
+    ensures { result.now ≡ shown_name_in strings.now place }
 {
-    name_or_none(string_from(strings, place))
+    name_or_none(table_string_from(strings, place))
 }
 
 /// The byte at a place, or 1 where there is none.
@@ -44,7 +44,7 @@ fn byte_or_one(strings: &[u8], place: usize) -> u8
 
 /// Whether the name of a symbol is not empty: it does not begin with a NUL.
 fn is_named(strings: &[u8], k: &Kept) -> bool
-    ensures { result ≡ is_named (shown_in strings.now) k.now }
+    ensures { result ≡ has_nonempty_name (shown_name_in strings.now) k.now }
 {
     byte_or_one(strings, k.name as usize) != 0
 }
@@ -123,9 +123,9 @@ fn shared_within(first: &[u8], name: &[u8], count: usize) -> usize
 /// As many bytes as are looked for that all names share.
 const MOST_SHARED: usize = 4096;
 
-/// How many bytes of a list stand before the names of symbols too, in each of them.
+/// How many bytes of a list are before the names of symbols too, in each of them.
 fn shared_with(strings: &[u8], rows: &[Kept], first: &[u8]) -> usize
-    ensures shares { All (λ k. SharesFront result first.now (shown_in strings.now k.name))
+    ensures shares { All (λ k. SharesFront result first.now (shown_name_in strings.now k.name))
         rows.now }
     ensures within { result ≤ length first.now }
 {
@@ -142,7 +142,7 @@ fn shared_with(strings: &[u8], rows: &[Kept], first: &[u8]) -> usize
 /// How many bytes the names of symbols share, from the first byte on.
 fn shared_front(strings: &[u8], rows: &[Kept]) -> usize
     ensures shares { (first : List ℕ)
-        × All (λ k. SharesFront result first (shown_in strings.now k.name)) rows.now }
+        × All (λ k. SharesFront result first (shown_name_in strings.now k.name)) rows.now }
     ensures small { result < 2 ^ 63 }
 {
     match rows.first() {
@@ -154,17 +154,18 @@ fn shared_front(strings: &[u8], rows: &[Kept]) -> usize
 /// Gives each symbol eight bytes of its name as its key, from a place on.
 fn set_keys(strings: &[u8], rows: &mut [Kept], place: usize)
     requires { place < 2 ^ 63 }
-    ensures { rows.new ≡ map (keyed (shown_in strings.now) place) rows.old }
+    ensures { rows.new ≡ map (keyed (shown_name_in strings.now) place) rows.old }
 {
     for k in rows.iter_mut() {
         k.key = key_from(name_at(strings, k.name), place);
     }
 }
 
-/// How two names stand by their bytes, as they are shown. That of one place is looked at by none.
+/// How two names compare by their bytes, as they are shown. That of one place is looked at by none.
 #[tactic(auto, using(crate::proofs::Ranking::same_shown))]
 fn compare_shown(strings: &[u8], a: u32, b: u32) -> Ordering
-    ensures { result ≡ slice_cmp nat_cmp (shown_in strings.now a) (shown_in strings.now b) }
+    ensures { result ≡ slice_cmp nat_cmp (shown_name_in strings.now a)
+        (shown_name_in strings.now b) }
 {
     if a == b {
         return Ordering::Equal;
@@ -172,11 +173,11 @@ fn compare_shown(strings: &[u8], a: u32, b: u32) -> Ordering
     name_at(strings, a).cmp(name_at(strings, b))
 }
 
-/// How two symbols stand by their names, and else by their indexes.
+/// How two symbols compare by their names, and else by their indexes.
 #[tactic(auto, unfolding(crate::specs::Ranked::names_cmp))]
 #[inline(never)]
 fn compare_names(strings: &[u8], a: &Kept, b: &Kept) -> Ordering
-    ensures { result ≡ names_cmp (shown_in strings.now) a.now b.now }
+    ensures { result ≡ names_cmp (shown_name_in strings.now) a.now b.now }
 {
     match compare_shown(strings, a.name, b.name) {
         Ordering::Equal => a.index.cmp(&b.index),
@@ -185,11 +186,11 @@ fn compare_names(strings: &[u8], a: &Kept, b: &Kept) -> Ordering
     }
 }
 
-/// How two symbols stand by their keys, and else by their names and their indexes.
+/// How two symbols compare by their keys, and else by their names and their indexes.
 #[tactic(auto, unfolding(crate::specs::Ranked::kept_cmp))]
 #[inline(always)]
 fn compare(strings: &[u8], a: &Kept, b: &Kept) -> Ordering
-    ensures { result ≡ kept_cmp (shown_in strings.now) a.now b.now }
+    ensures { result ≡ kept_cmp (shown_name_in strings.now) a.now b.now }
 {
     match a.key.cmp(&b.key) {
         Ordering::Equal => compare_names(strings, a, b),
@@ -200,25 +201,25 @@ fn compare(strings: &[u8], a: &Kept, b: &Kept) -> Ordering
 
 /// Puts symbols in the order of their rows by value.
 fn sort_by_values(strings: &[u8], rows: &mut [Kept])
-    ensures { map (ranked_entry true (shown_in strings.now)) rows.new
-        ≡ in_order (map (ranked_entry true (shown_in strings.now)) rows.old) }
+    ensures { map (ranked_entry true (shown_name_in strings.now)) rows.new
+        ≡ entries_in_order (map (ranked_entry true (shown_name_in strings.now)) rows.old) }
 {
     rows.sort_unstable_by(|a, b| compare(strings, a, b));
 }
 
 /// Puts symbols in the order of their rows by name: their names are compared.
 fn sort_by_names(strings: &[u8], rows: &mut [Kept])
-    ensures { map (ranked_entry false (shown_in strings.now)) rows.new
-        ≡ in_order (map (ranked_entry false (shown_in strings.now)) rows.old) }
+    ensures { map (ranked_entry false (shown_name_in strings.now)) rows.new
+        ≡ entries_in_order (map (ranked_entry false (shown_name_in strings.now)) rows.old) }
 {
     rows.sort_unstable_by(|a, b| compare_names(strings, a, b));
 }
 
-/// The same, where there are two at least.
+/// Sorts symbols by their names as `sort_by_names` does, where there are two at least.
 #[inline(always)]
 fn sort_few(strings: &[u8], rows: &mut [Kept])
-    ensures { map (ranked_entry false (shown_in strings.now)) rows.new
-        ≡ in_order (map (ranked_entry false (shown_in strings.now)) rows.old) }
+    ensures { map (ranked_entry false (shown_name_in strings.now)) rows.new
+        ≡ entries_in_order (map (ranked_entry false (shown_name_in strings.now)) rows.old) }
 {
     if rows.len() < 2 {
         return;
@@ -229,9 +230,9 @@ fn sort_few(strings: &[u8], rows: &mut [Kept])
 /// Gives symbols keys, eight bytes of their names from the first on that they do not share, and
 /// puts them in the order of these.
 fn sort_by_keys(strings: &[u8], rows: &mut [Kept])
-    ensures moved { in_order (map (ranked_entry false (shown_in strings.now)) rows.new)
-        ≡ in_order (map (ranked_entry false (shown_in strings.now)) rows.old) }
-    ensures keyed { AreKeyed (shown_in strings.now) rows.new }
+    ensures moved { entries_in_order (map (ranked_entry false (shown_name_in strings.now)) rows.new)
+        ≡ entries_in_order (map (ranked_entry false (shown_name_in strings.now)) rows.old) }
+    ensures keyed { AreKeyed (shown_name_in strings.now) rows.new }
     ensures rises { IsNonDecreasingBy (λ k. k.key) rows.new }
 {
     let place = shared_front(strings, rows);
@@ -239,7 +240,7 @@ fn sort_by_keys(strings: &[u8], rows: &mut [Kept])
     rows.sort_unstable();
 }
 
-/// Where the symbols of a key end that stand from a place on.
+/// Where the symbols of a key end that are from a place on.
 #[inline(always)]
 fn run_end(rows: &[Kept], from: usize, key: u64) -> usize
     requires { from ≤ length rows.now }
@@ -273,14 +274,14 @@ fn are_compared(count: usize, key: u64) -> bool
 /// are compared.
 const LEVELS: u32 = 16;
 
-/// Whether the names of symbols stand at one place.
+/// Whether the names of symbols are at one place.
 fn are_at(rows: &[Kept], place: u32) -> bool
     ensures { result ≡ list_all (λ k. k.name == place) rows.now }
 {
     rows.iter().all(|k| k.name == place)
 }
 
-/// Whether all names stand at one place: then none of them needs to be looked at.
+/// Whether all names are at one place: then none of them needs to be looked at.
 fn stand_together(rows: &[Kept]) -> bool {
     match rows.first() {
         Some(k) => are_at(rows, k.name),
@@ -292,8 +293,8 @@ fn stand_together(rows: &[Kept]) -> bool {
 /// at most so many levels deep.
 fn sort_named(strings: &[u8], rows: &mut [Kept], levels: u32)
     requires { AreBytes strings.now }
-    ensures { map (ranked_entry false (shown_in strings.now)) rows.new
-        ≡ in_order (map (ranked_entry false (shown_in strings.now)) rows.old) }
+    ensures { map (ranked_entry false (shown_name_in strings.now)) rows.new
+        ≡ entries_in_order (map (ranked_entry false (shown_name_in strings.now)) rows.old) }
 {
     if levels == 0 {
         sort_by_names(strings, rows);
@@ -320,8 +321,8 @@ fn sort_named(strings: &[u8], rows: &mut [Kept], levels: u32)
 
 /// Puts symbols in the order of their rows.
 fn sort(strings: &[u8], rows: &mut [Kept], by_value: bool)
-    ensures { map (ranked_entry by_value (shown_in strings.now)) rows.new
-        ≡ in_order (map (ranked_entry by_value (shown_in strings.now)) rows.old) }
+    ensures { map (ranked_entry by_value (shown_name_in strings.now)) rows.new
+        ≡ entries_in_order (map (ranked_entry by_value (shown_name_in strings.now)) rows.old) }
 {
     bytes_are_ranged(strings);
     if by_value {
@@ -333,8 +334,8 @@ fn sort(strings: &[u8], rows: &mut [Kept], by_value: bool)
 
 /// Kept symbols that have a name which is not empty, in the order of their rows.
 pub fn ranked(strings: &[u8], list: List<Kept>, by_value: bool) -> List<Kept>
-    ensures { map (ranked_entry by_value (shown_in strings.now)) result
-        ≡ in_order (kept_entries by_value (shown_in strings.now) list) }
+    ensures { map (ranked_entry by_value (shown_name_in strings.now)) result
+        ≡ entries_in_order (kept_entries by_value (shown_name_in strings.now) list) }
 {
     let mut rows = list.into_vec();
     rows.retain(|k| is_named(strings, k));
@@ -344,7 +345,7 @@ pub fn ranked(strings: &[u8], list: List<Kept>, by_value: bool) -> List<Kept>
 }
 
 /// Kept symbols that have a name which is not empty, in the order of their rows, or None where the
-/// bytes of their names are not at hand. It takes no memory.
+/// bytes of their names are not in memory. It takes no memory.
 pub fn order_at_hand<S: Source>(
     elf: &Elf<S>,
     t: Tables,
@@ -353,7 +354,7 @@ pub fn order_at_hand<S: Source>(
 ) -> Option<List<Kept>>
     requires { AreTables elf.now.o t }
     ensures { IsTrue elf.now.told → IfSome result (λ l. map (λ k. k.index) l
-        ≡ order_of by_value (shown_name elf.now.o t.symbols.0) list) }
+        ≡ order_of by_value (linked_shown_name elf.now.o t.symbols.0) list) }
 {
     match string_bytes(elf, t.names) {
         Some(strings) => Some(ranked(strings, list, by_value)),

@@ -2,12 +2,12 @@
 
 ghost use Rattle.std.specs.Prelude.{◌≡◌, ◌++◌, ◌∷◌, ◌≤◌, [], codes, OnOk, IfErr};
 ghost use Rattle.elf_types.specs.Writers.{WantsMemory};
-ghost use Rattle.number_columns.specs.Columns.{number, spaces};
+ghost use Rattle.tool_output.specs.Columns.Columns.{radix_digits, spaces};
 ghost use Rattle.nm_tool.specs.Rows.{file_column, width_of, value_column, value_and_size, plain_row, portable_row, row_by, row_text};
 
 use crate::options::NmOptions;
 use elf_types::{Class, ElfError, Octets, Sym, put_bytes, put_text};
-use number_columns::{put_number, put_zero_filled_before};
+use tool_output::columns::{put_number, put_zero_filled_before};
 use tool_output::{FileName, Line};
 use tool_text::Radix;
 
@@ -71,7 +71,7 @@ fn width_of(class: Class) -> usize
 }
 
 /// Appends as many blanks as a value has places at least, and a letter between two spaces.
-#[tactic(auto, unfolding(number_columns::specs::Columns::spaces))]
+#[tactic(auto, unfolding(tool_output::specs::Columns::Columns::spaces))]
 fn put_undefined(page: &mut Octets, class: Class, letter: u8) -> Result<(), ElfError>
     ensures ok { OnOk result (page.new ≡ page.old
         ++ (spaces (width_of class) ++ codes " " ++ (letter ∷ []) ++ codes " ")) }
@@ -110,7 +110,7 @@ fn put_value_and_letter(
 /// Appends a space and a number.
 #[tactic(auto, using(elf_types::proofs::Writers::kept))]
 fn put_spaced(page: &mut Octets, radix: Radix, n: u64) -> Result<(), ElfError>
-    ensures ok { OnOk result (page.new ≡ page.old ++ (codes " " ++ number radix n)) }
+    ensures ok { OnOk result (page.new ≡ page.old ++ (codes " " ++ radix_digits radix n)) }
     ensures err { IfErr result (WantsMemory page.old page.new) }
 {
     put_text(page, " ")?;

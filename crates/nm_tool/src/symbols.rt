@@ -5,18 +5,18 @@ ghost use Rattle.std.specs.Prelude.{◌≡◌, ◌<◌, ℕ, length, slice_get, 
 ghost use Rattle.elf_types.specs.declared.records.Sym.{Sym as TheSym};
 ghost use Rattle.elf_object.specs.Object.{Object, section_at};
 ghost use Rattle.elf_object.specs.SymbolSections.{shndx_table};
-ghost use Rattle.object_output.specs.gelf_view.Calls.{IsTable};
-ghost use Rattle.object_output.specs.Steps.{Learns};
-ghost use Rattle.object_output.specs.Symbols.{symbol_place};
-ghost use Rattle.nm_tool.specs.Listed.{symbols as stated_symbols};
-ghost use Rattle.nm_tool.specs.Tables.{AreTables, HoldsSymbols, HoldsTable};
+ghost use Rattle.tool_objects.specs.gelf_view.Calls.{IsShndxTable};
+ghost use Rattle.tool_objects.specs.Steps.{Learns};
+ghost use Rattle.tool_objects.specs.Symbols.{told_symbol_place};
+ghost use Rattle.nm_tool.specs.Listed.{symbols_in_table as stated_symbols};
+ghost use Rattle.nm_tool.specs.Tables.{AreTables, HoldsSymbols, HoldsSymbolTable};
 
-use bytes_at_hand::{ItemBytes, items_at_hand, string_bytes};
 use elf_outside::Source;
 use elf_types::constants::{SHN_LORESERVE, SHN_XINDEX};
 use elf_types::{DataId, ScnId, Sym};
-use object_output::prelude::{Elf, SymPlace, shndx_table};
-use object_output::{section_header, symbol_place};
+use tool_objects::at_hand::{ItemBytes, items_at_hand, string_bytes};
+use tool_objects::prelude::{Elf, SymPlace, shndx_table};
+use tool_objects::{section_header, symbol_place_or_stop};
 use tool_output::Stop;
 
 /// The tables of the symbols of a section.
@@ -32,10 +32,10 @@ pub struct Tables {
 
 /// The bytes of the symbols of a table that has no extended indexes, and of their names.
 #[derive(Clone, Copy)]
-pub struct TableBytes<'a> {
+pub struct SymbolTableBytes<'a> {
     /// The symbols.
     pub symbols: ItemBytes<'a>,
-    /// The strings in which their names stand.
+    /// The strings in which their names are.
     pub strings: &'a [u8],
 }
 
@@ -44,7 +44,7 @@ pub fn tables_of<S: Source>(elf: &Elf<S>, s: ScnId) -> Tables
     requires { s.0 < length elf.now.o.sections }
     ensures symbols { result.symbols ≡ s }
     ensures names { result.names.0 ≡ (section_at elf.now.o s.0).header.link }
-    ensures indexes { IsTable elf.now.o s.0 result.indexes }
+    ensures indexes { IsShndxTable elf.now.o s.0 result.indexes }
 {
     Tables {
         symbols: s,
@@ -69,16 +69,16 @@ pub fn symbol_at<S: Source>(elf: &mut Elf<S>, t: Tables, i: u64) -> Result<Optio
 
 /// The place of symbol `i`, or None where its extended index can not be told. It stops as
 /// `symbol_at` does.
-pub fn place_at<S: Source>(
+pub fn symbol_place_at<S: Source>(
     elf: &mut Elf<S>,
     t: Tables,
     i: u64,
     x: Sym,
 ) -> Result<Option<SymPlace>, Stop>
     requires { AreTables elf.old.o t }
-    ensures { Learns S.Source (λ o. symbol_place o t.symbols.0 i x) result elf.old elf.new }
+    ensures { Learns S.Source (λ o. told_symbol_place o t.symbols.0 i x) result elf.old elf.new }
 {
-    symbol_place(elf, t.symbols, i, x, t.indexes)
+    symbol_place_or_stop(elf, t.symbols, i, x, t.indexes)
 }
 
 /// The section of a symbol by its index, in a table without extended indexes: one that says that it
@@ -88,7 +88,7 @@ pub fn place_at<S: Source>(
 #[inline(always)]
 pub fn plain_place(shndx: u16) -> Option<SymPlace>
     ensures { (o : Object) (s i : ℕ) (x : TheSym) → None ≡ shndx_table o s → x.shndx ≡ shndx
-        → symbol_place o s i x ≡ result }
+        → told_symbol_place o s i x ≡ result }
 {
     let index = u32::from(shndx);
     if index < SHN_LORESERVE {
@@ -100,7 +100,7 @@ pub fn plain_place(shndx: u16) -> Option<SymPlace>
     Some(SymPlace::Special(shndx))
 }
 
-/// The bytes of the symbols of a table, where they are at hand and the table has no extended
+/// The bytes of the symbols of a table, where they are in memory and the table has no extended
 /// indexes. Nothing is read.
 pub fn symbol_bytes<S: Source>(elf: &Elf<S>, t: Tables) -> Option<ItemBytes<'_>>
     ensures { IfSome result (HoldsSymbols elf.now t) }
@@ -111,11 +111,11 @@ pub fn symbol_bytes<S: Source>(elf: &Elf<S>, t: Tables) -> Option<ItemBytes<'_>>
     }
 }
 
-/// The same bytes and those of the names, where these are at hand too. Nothing is read.
-pub fn table_bytes<S: Source>(elf: &Elf<S>, t: Tables) -> Option<TableBytes<'_>>
-    ensures { IfSome result (HoldsTable elf.now t) }
+/// The bytes of the symbols of a table and of their names, where both are loaded. Nothing is read.
+pub fn table_bytes<S: Source>(elf: &Elf<S>, t: Tables) -> Option<SymbolTableBytes<'_>>
+    ensures { IfSome result (HoldsSymbolTable elf.now t) }
 {
     let symbols = symbol_bytes(elf, t)?;
     let strings = string_bytes(elf, t.names)?;
-    Some(TableBytes { symbols, strings })
+    Some(SymbolTableBytes { symbols, strings })
 }

@@ -12,48 +12,48 @@ ghost use Rattle.tool_output.specs.Names.{file_name};
 ghost use Rattle.tool_output.specs.Reports.{Reports, noted};
 ghost use Rattle.tool_output.specs.Sources.{ReportsOn};
 ghost use Rattle.tool_output.specs.Steps.{LeavesOutputs};
-ghost use Rattle.object_output.specs.Images.{image_report};
-ghost use Rattle.object_output.specs.Looks.{looks_over};
-ghost use Rattle.object_output.specs.Steps.{ReportsElf, homes_total};
-ghost use Rattle.bytes_at_hand.specs.Strings.{EndsAt};
-ghost use Rattle.object_output.specs.Shows.{ShowsElf};
+ghost use Rattle.tool_objects.specs.Images.{image_report};
+ghost use Rattle.tool_objects.specs.Looks.{looks_over};
+ghost use Rattle.tool_objects.specs.Steps.{ReportsElf, homes_total};
+ghost use Rattle.tool_objects.specs.AtHand.Strings.{EndsAt};
+ghost use Rattle.tool_objects.specs.Shows.{ShowsElf};
 ghost use Rattle.nm_tool.specs.Tables.{AreTables};
-ghost use Rattle.nm_tool.specs.Listed.{is_table, symbol_table, symbols as stated_symbols};
+ghost use Rattle.nm_tool.specs.Listed.{is_table, symbol_table, symbols_in_table as stated_symbols};
 ghost use Rattle.nm_tool.specs.Tool.{rows_report, table_report, nm_report};
 ghost use Rattle.nm_tool.specs.Kept.{kept_of as stated_kept};
 
 use crate::at_hand::show_at_hand;
 use crate::copied::show_copied;
-use crate::form::Form;
+use crate::form::ListingForm;
 use crate::front::show_plain;
 use crate::kept::{Kept, kept_of};
 use crate::options::NmOptions;
 use crate::ordered::show_order;
 use crate::ranked::order_at_hand;
 use crate::symbols::{Tables, table_bytes, tables_of};
-use bytes_at_hand::{load, strings_end};
 use elf_ident::{Front, read_front};
 use elf_outside::{Sink, Source};
 use elf_types::constants::SHT_SYMTAB;
 use elf_types::{DataId, List, ScnId, Sym, is_compressed};
-use front_symbols::{FrontSymbols, front_symbols};
-use object_output::prelude::{Elf, item_count};
-use object_output::{ObjectTool, refuse, section_header, show_object};
+use nm_front::{FrontSymbols, front_symbols};
 use std::alloc::Global;
+use tool_objects::at_hand::{load, strings_end};
+use tool_objects::prelude::{Elf, item_count};
+use tool_objects::{ObjectTool, refuse, section_header, show_object};
 use tool_output::{FileName, Message, Outputs, Stop};
 
 /// As many symbols as have indexes of 32 bits.
 const MOST_KEPT: u64 = 1 << 32;
 
 /// Shows the rows of the kept symbols of a table by calls on the descriptor, in the order of their
-/// names where these stand.
+/// names where these are.
 fn show_in_order<S: Source, O: Sink, E: Sink>(
     elf: &mut Elf<S>,
     t: Tables,
     end: Option<u64>,
     list: List<Kept>,
     count: u64,
-    form: Form<'_>,
+    form: ListingForm<'_>,
     outputs: &mut Outputs<'_, O, E>,
 ) -> Result<bool, Stop>
     requires tables { AreTables elf.old.o t }
@@ -78,7 +78,7 @@ fn show_by_calls<S: Source, O: Sink, E: Sink>(
     t: Tables,
     list: List<Kept>,
     count: u64,
-    form: Form<'_>,
+    form: ListingForm<'_>,
     outputs: &mut Outputs<'_, O, E>,
 ) -> Result<bool, Stop>
     requires tables { AreTables elf.old.o t }
@@ -96,13 +96,13 @@ fn show_by_calls<S: Source, O: Sink, E: Sink>(
 }
 
 /// Shows the rows of the kept symbols of a table whose strings were read, from bytes alone where
-/// these are at hand.
+/// these are in memory.
 fn show_loaded<S: Source, O: Sink, E: Sink>(
     elf: &mut Elf<S>,
     t: Tables,
     list: List<Kept>,
     count: u64,
-    form: Form<'_>,
+    form: ListingForm<'_>,
     outputs: &mut Outputs<'_, O, E>,
 ) -> Result<bool, Stop>
     requires tables { AreTables elf.old.o t }
@@ -125,7 +125,7 @@ fn show_kept<S: Source, O: Sink, E: Sink>(
     t: Tables,
     list: List<Kept>,
     count: u64,
-    form: Form<'_>,
+    form: ListingForm<'_>,
     outputs: &mut Outputs<'_, O, E>,
 ) -> Result<bool, Stop>
     requires tables { AreTables elf.old.o t }
@@ -150,7 +150,7 @@ fn show_listed<S: Source, O: Sink, E: Sink>(
     elf: &mut Elf<S>,
     t: Tables,
     count: u64,
-    form: Form<'_>,
+    form: ListingForm<'_>,
     outputs: &mut Outputs<'_, O, E>,
 ) -> Result<bool, Stop>
     requires tables { AreTables elf.old.o t }
@@ -173,7 +173,7 @@ fn show_told<S: Source, O: Sink, E: Sink>(
     elf: &mut Elf<S>,
     s: ScnId,
     count: u64,
-    form: Form<'_>,
+    form: ListingForm<'_>,
     outputs: &mut Outputs<'_, O, E>,
 ) -> Result<bool, Stop>
     requires section { s.0 < length elf.old.o.sections }
@@ -187,11 +187,11 @@ fn show_told<S: Source, O: Sink, E: Sink>(
     show_listed(elf, t, count, form, outputs)
 }
 
-/// Shows the symbols of a section that is there, or refuses the object where they can not be told.
+/// Shows the symbols of a section that is there, or rejects the object where they can not be told.
 fn show_table<S: Source, O: Sink, E: Sink>(
     elf: &mut Elf<S>,
     s: ScnId,
-    form: Form<'_>,
+    form: ListingForm<'_>,
     outputs: &mut Outputs<'_, O, E>,
 ) -> Result<bool, Stop>
     requires { s.0 < length elf.old.o.sections }
@@ -237,9 +237,9 @@ fn symbol_table<S: Source>(elf: &Elf<S>) -> Option<ScnId>
     None
 }
 
-/// Says that an object has no symbols, which refuses nothing.
+/// Says that an object has no symbols, which rejects nothing.
 fn note_none<O: Sink, E: Sink>(
-    form: Form<'_>,
+    form: ListingForm<'_>,
     outputs: &mut Outputs<'_, O, E>,
 ) -> Result<bool, Stop>
     ensures reports { Reports O.Sink E.Sink result outputs.old outputs.new
@@ -253,10 +253,10 @@ fn note_none<O: Sink, E: Sink>(
     })
 }
 
-/// Shows the symbols of an object, or says that it has none, which refuses nothing.
+/// Shows the symbols of an object, or says that it has none, which rejects nothing.
 fn show_symbols<S: Source, O: Sink, E: Sink>(
     elf: &mut Elf<S>,
-    form: Form<'_>,
+    form: ListingForm<'_>,
     outputs: &mut Outputs<'_, O, E>,
 ) -> Result<bool, Stop>
     ensures { ReportsElf S.Source O.Sink E.Sink
@@ -275,7 +275,7 @@ fn show_begun<S: Source, O: Sink, E: Sink>(
     alloc: Global,
     src: S,
     front: Front,
-    form: Form<'_>,
+    form: ListingForm<'_>,
     outputs: &mut Outputs<'_, O, E>,
 ) -> (S, Result<bool, Stop>)
     requires fitting { IsFittingFront front }
@@ -302,12 +302,12 @@ fn show_begun<S: Source, O: Sink, E: Sink>(
 
 /// Shows the symbols of the image that a source holds and whose front was read, and hands the
 /// source back. A descriptor is begun only where the front does not tell where they and their names
-/// stand.
+/// are.
 fn show_front<S: Source, O: Sink, E: Sink>(
     alloc: Global,
     mut src: S,
     front: Front,
-    form: Form<'_>,
+    form: ListingForm<'_>,
     outputs: &mut Outputs<'_, O, E>,
 ) -> (S, Result<bool, Stop>)
     requires fitting { IsFittingFront front }
@@ -364,7 +364,7 @@ impl NmTool<'_> {
         ensures asked { OnOk result.1 (IfSome (S.holds src) (λ image.
             S.taken result.0 ≤ S.taken src + homes_total (begun front image))) }
     {
-        let form = Form {
+        let form = ListingForm {
             options: self.options,
             file: name,
         };
@@ -389,14 +389,14 @@ impl ObjectTool for NmTool<'_> {
         name: &FileName<'_>,
         outputs: &mut Outputs<'_, O, E>,
     ) -> Result<bool, Stop> {
-        let form = Form {
+        let form = ListingForm {
             options: self.options,
             file: name,
         };
         show_symbols(elf, form, outputs)
     }
 
-    /// The same report as of a descriptor over the source, which is begun only where it is needed.
+    /// The report of `show`, of a source: a descriptor is begun only where it is needed.
     fn show_source<S: Source, O: Sink, E: Sink>(
         &self,
         alloc: Global,
@@ -415,9 +415,9 @@ impl ObjectTool for NmTool<'_> {
 }
 
 /// Shows the symbols of the first section of type `SHT_SYMTAB` whose data is not compressed, as the
-/// command nm does, on two outputs. Messages, and rows with `-A`, name the object by `name`. The
-/// answer tells whether something was refused. It stops by `Read` where a read of the source
-/// failed, by `Write` where a put failed, and by `Memory`.
+/// command nm does, on two outputs. Messages, and rows with `-A`, name the object by `name`. It
+/// returns whether something was rejected. It stops by `Read` where a read of the source failed, by
+/// `Write` where a put failed, and by `Memory`.
 pub fn nm<S: Source, O: Sink, E: Sink>(
     alloc: Global,
     elf: &mut Elf<S>,

@@ -10,39 +10,39 @@ use Rattle.elf_outside.specs.declared.sinks.Sink.{Ghosts as SinkGhosts}
 use Rattle.elf_object.specs.Words.{Wants, Answers, IsLike, AlikeBytes}
 use Rattle.elf_object.specs.Object.{Object}
 use Rattle.elf_object.specs.Answers.{count_at, lend_refusal}
-use Rattle.object_output.proofs.gelf_view.PieceBytes.{bytes_count}
-use Rattle.object_output.specs.elf_descriptor.State.{State}
-use Rattle.object_output.specs.gelf_view.Calls.{first_place, first_entry_answer, bytes_answer}
-use Rattle.object_output.specs.gelf_view.Chains.{Chain, ended, broken, leading}
+use Rattle.tool_objects.proofs.gelf_view.PieceBytes.{bytes_count}
+use Rattle.tool_objects.specs.elf_descriptor.State.{State}
+use Rattle.tool_objects.specs.gelf_view.Calls.{first_version_place, first_entry_answer, bytes_answer}
+use Rattle.tool_objects.specs.gelf_view.Chains.{Chain, ended, broken, leading}
 use Rattle.tool_output.specs.declared.stops.Stop.{Stop}
 use Rattle.tool_output.specs.declared.outputs.Outputs.{Outputs}
 use Rattle.tool_output.specs.Names.{Name}
-use Rattle.tool_output.specs.Messages.{in_section}
-use Rattle.tool_output.specs.Reports.{Report, Reports, no_report, shown, joined, all_joined, reports_of}
+use Rattle.tool_output.specs.Messages.{section_message}
+use Rattle.tool_output.specs.Reports.{Report, Reports, no_report, shown_report, joined_reports, all_reports_joined, reports_of}
 use Rattle.tool_output.specs.Stops.{stop_of}
 use Rattle.tool_output.proofs.StepLemmas.{keeps_then}
-use Rattle.tool_output.proofs.ReportLemmas.{joined_assoc, none_joined}
+use Rattle.tool_output.proofs.ReportLemmas.{joined_assoc, no_report_joined}
 use Rattle.tool_output.proofs.UnderWayLemmas.{line_shown, ends_with}
-use Rattle.object_output.specs.Steps.{ReportsElf, ElfUnderWay}
-use Rattle.object_output.proofs.ElfSteps.{elf_left_then, still_told}
-use Rattle.object_output.proofs.SourceSteps.{left_after}
-use Rattle.readelf_rows.specs.Data.{refused}
+use Rattle.tool_objects.specs.Steps.{ReportsElf, ElfUnderWay}
+use Rattle.tool_objects.proofs.ElfSteps.{elf_left_then, still_told}
+use Rattle.tool_objects.proofs.SourceSteps.{left_after}
+use Rattle.readelf_rows.specs.Data.{readelf_refusal}
 use Rattle.readelf_chains.specs.Chains.{bad_report, chain_report, section_bytes}
 
 -- ---- What is left of a chain
 
 module _ {A : Type 0} (name : Name) (s : ℕ) (of : A → Report) where
-  pub chain_leading : (x : A) (rest chain : Chain A) → chain ≡ leading x rest → chain_report name s of chain ≡ joined (of x) (chain_report name s of rest)
-  unfolding chain_report reports_of all_joined
+  pub chain_leading : (x : A) (rest chain : Chain A) → chain ≡ leading x rest → chain_report name s of chain ≡ joined_reports (of x) (chain_report name s of rest)
+  unfolding chain_report reports_of all_reports_joined
   chain_leading x rest chain is = ap (chain_report name s of) is ∙ joined_assoc (of x) (reports_of of rest.found) (bad_report name s rest.bad)
 
   pub chain_ended : (chain : Chain A) → chain ≡ ended → chain_report name s of chain ≡ no_report
-  unfolding chain_report reports_of all_joined
-  chain_ended chain is = ap (chain_report name s of) is ∙ none_joined no_report
+  unfolding chain_report reports_of all_reports_joined
+  chain_ended chain is = ap (chain_report name s of) is ∙ no_report_joined no_report
 
-  pub chain_broken : (e : ElfError) (chain : Chain A) → chain ≡ broken e → chain_report name s of chain ≡ refused name (in_section s (error_text e))
-  unfolding chain_report reports_of all_joined
-  chain_broken e chain is = ap (chain_report name s of) is ∙ none_joined (bad_report name s (Some e))
+  pub chain_broken : (e : ElfError) (chain : Chain A) → chain ≡ broken e → chain_report name s of chain ≡ readelf_refusal name (section_message s (error_text e))
+  unfolding chain_report reports_of all_reports_joined
+  chain_broken e chain is = ap (chain_report name s of) is ∙ no_report_joined (bad_report name s (Some e))
 
 -- ---- The bytes of a section
 
@@ -50,11 +50,11 @@ module _ (o : Object) (s : ℕ) where
   pub count_of_bytes : lend_refusal o kinds.Bytes s 0 ≡ None → length (section_bytes o s) ≡ count_at o s 0
   count_of_bytes passed = bytes_count o s 0 passed
 
-  pub first_there : (first : Option ℕ) → first_entry_answer o s 0 ≡ Ok first → (lend_refusal o kinds.Bytes s 0 ≡ None) × (first ≡ first_place (length (section_bytes o s)))
+  pub first_there : (first : Option ℕ) → first_entry_answer o s 0 ≡ Ok first → (lend_refusal o kinds.Bytes s 0 ≡ None) × (first ≡ first_version_place (length (section_bytes o s)))
   unfolding first_entry_answer
   first_there first is = by_refusal (lend_refusal o kinds.Bytes s 0) (section_bytes o s) is
     where
-      by_refusal : (r : Option ElfError) (l : List ℕ) → (answered r l >>= λ bytes. Ok (first_place (length bytes))) ≡ Ok first → (r ≡ None) × (first ≡ first_place (length l))
+      by_refusal : (r : Option ElfError) (l : List ℕ) → (answered r l >>= λ bytes. Ok (first_version_place (length bytes))) ≡ Ok first → (r ≡ None) × (first ≡ first_version_place (length l))
       by_refusal None l is = (refl, cc)
       by_refusal (Some e) l is = cc
 
@@ -62,7 +62,7 @@ module _ (o : Object) (s : ℕ) where
   unfolding first_entry_answer
   first_refused e is = by_refusal (lend_refusal o kinds.Bytes s 0) (section_bytes o s) is
     where
-      by_refusal : (r : Option ElfError) (l : List ℕ) → (answered r l >>= λ bytes. Ok (first_place (length bytes))) ≡ Err e → r ≡ Some e
+      by_refusal : (r : Option ElfError) (l : List ℕ) → (answered r l >>= λ bytes. Ok (first_version_place (length bytes))) ≡ Err e → r ≡ Some e
       by_refusal None l is = cc
       by_refusal (Some d) l is = let same : d ≡ e = cc in ap Some same
 
@@ -102,11 +102,11 @@ module _ {S O E : Type 0} {s : SourceGhosts S} {o : SinkGhosts O} {e : SinkGhost
 
   -- the next of what is left is a line, which refuses nothing
   pub elf_line_shown : {c : State S} {v : Outputs O E} {y : Bool} (text : Object → List ℕ) (left : Object → Report)
-      → (IsTrue b.told → rest b.o ≡ joined (shown (text b.o)) (left b.o)) → ReportsElf s o e (λ m. shown (text m)) (Ok y) b c u v
+      → (IsTrue b.told → rest b.o ≡ joined_reports (shown_report (text b.o)) (left b.o)) → ReportsElf s o e (λ m. shown_report (text m)) (Ok y) b c u v
       → ElfUnderWay s o e false a c t v whole left
   elf_line_shown {c} {v} {y} text left is k = record {
-    report = λ told. line_shown (h.report told) (text a.o) (left a.o) (at_start (λ (m : Object). rest m ≡ joined (shown (text m)) (left m)) is told)
-        (of_next (Ok y) (λ m. shown (text m)) k told);
+    report = λ told. line_shown (h.report told) (text a.o) (left a.o) (at_start (λ (m : Object). rest m ≡ joined_reports (shown_report (text m)) (left m)) is told)
+        (of_next (Ok y) (λ m. shown_report (text m)) k told);
     elf = elf_left_then s a b c h.elf k.elf;
     keeps = keeps_then o e t u v h.keeps k.leaves.keeps;
   }

@@ -4,20 +4,20 @@ use Rattle.std.specs.Prelude.{if◌then◌else◌, IsTrue}
 use Rattle.elf_outside.specs.declared.sources.Source.{Ghosts as SourceGhosts}
 use Rattle.elf_outside.specs.declared.sinks.Sink.{Ghosts as SinkGhosts}
 use Rattle.elf_object.specs.Object.{Object}
-use Rattle.object_output.specs.elf_descriptor.State.{State}
+use Rattle.tool_objects.specs.elf_descriptor.State.{State}
 use Rattle.tool_output.specs.declared.stops.Stop.{Stop}
 use Rattle.tool_output.specs.declared.outputs.Outputs.{Outputs}
-use Rattle.object_output.specs.Steps.{LeavesElf, ReportsElf, ElfUnderWay}
-use Rattle.object_output.proofs.ElfSteps.{elf_goes_on, elf_stops_at, elf_after}
+use Rattle.tool_objects.specs.Steps.{LeavesElf, ReportsElf, ElfUnderWay}
+use Rattle.tool_objects.proofs.ElfSteps.{elf_goes_on, elf_stops_at, elf_after}
 use Rattle.readelf_chains.proofs.ChainLemmas.{at_start, elf_ends_with}
 use Rattle.elf_types.specs.declared.errors.ElfError.{ElfError}
 use Rattle.elf_types.specs.Text.{error_text}
-use Rattle.object_output.specs.gelf_view.Chains.{Chain, ended, broken, leading, entry_then, next_place}
+use Rattle.tool_objects.specs.gelf_view.Chains.{Chain, ended, broken, leading, entry_then, next_place}
 use Rattle.tool_output.specs.Names.{Name}
-use Rattle.tool_output.specs.Messages.{in_section}
-use Rattle.tool_output.specs.Reports.{Report, no_report, joined}
-use Rattle.tool_output.proofs.ReportLemmas.{joined_none}
-use Rattle.readelf_rows.specs.Data.{refused}
+use Rattle.tool_output.specs.Messages.{section_message}
+use Rattle.tool_output.specs.Reports.{Report, no_report, joined_reports}
+use Rattle.tool_output.proofs.ReportLemmas.{joined_no_report}
+use Rattle.readelf_rows.specs.Data.{readelf_refusal}
 use Rattle.readelf_chains.specs.Entries.{up_to_refusal, entries_report}
 
 module _ {A : Type 0} (name : Name) (s : ℕ) (of : (ℕ × A) → Report) where
@@ -25,26 +25,26 @@ module _ {A : Type 0} (name : Name) (s : ℕ) (of : (ℕ × A) → Report) where
   after stops rest = if stops then no_report else rest
 
   pub entry_first : (x : ℕ × A) (rest chain : Chain (ℕ × A)) → chain ≡ leading x rest
-      → entries_report name s of chain ≡ joined (of x) (after (of x).refused (entries_report name s of rest))
+      → entries_report name s of chain ≡ joined_reports (of x) (after (of x).refused (entries_report name s of rest))
   unfolding entries_report up_to_refusal
   entry_first x rest chain is = ap (entries_report name s of) is
 
   -- an entry whose names go bad is the last
   pub entry_stops : (x : ℕ × A) (rest chain : Chain (ℕ × A)) → chain ≡ leading x rest → true ≡ (of x).refused → entries_report name s of chain ≡ of x
   entry_stops x rest chain is stops =
-      entry_first x rest chain is ∙ ap (λ (t : Bool). joined (of x) (after t (entries_report name s of rest))) (sym stops) ∙ joined_none (of x)
+      entry_first x rest chain is ∙ ap (λ (t : Bool). joined_reports (of x) (after t (entries_report name s of rest))) (sym stops) ∙ joined_no_report (of x)
 
   -- and behind any other the next one comes
   pub entry_passes : (x : ℕ × A) (rest chain : Chain (ℕ × A)) → chain ≡ leading x rest → false ≡ (of x).refused
-      → entries_report name s of chain ≡ joined (of x) (entries_report name s of rest)
+      → entries_report name s of chain ≡ joined_reports (of x) (entries_report name s of rest)
   entry_passes x rest chain is passes =
-      entry_first x rest chain is ∙ ap (λ (t : Bool). joined (of x) (after t (entries_report name s of rest))) (sym passes)
+      entry_first x rest chain is ∙ ap (λ (t : Bool). joined_reports (of x) (after t (entries_report name s of rest))) (sym passes)
 
   pub entries_ended : (chain : Chain (ℕ × A)) → chain ≡ ended → entries_report name s of chain ≡ no_report
   unfolding entries_report up_to_refusal
   entries_ended chain is = ap (entries_report name s of) is
 
-  pub entries_broken : (e : ElfError) (chain : Chain (ℕ × A)) → chain ≡ broken e → entries_report name s of chain ≡ refused name (in_section s (error_text e))
+  pub entries_broken : (e : ElfError) (chain : Chain (ℕ × A)) → chain ≡ broken e → entries_report name s of chain ≡ readelf_refusal name (section_message s (error_text e))
   unfolding entries_report up_to_refusal
   entries_broken e chain is = ap (entries_report name s of) is
 
@@ -59,14 +59,14 @@ module _ {A : Type 0} (name : Name) (s : ℕ) (of : (ℕ × A) → Report) where
     pub then_last : false ≡ (of (at, x)).refused → None ≡ next_place at n → entries_report name s of chain ≡ of (at, x)
     then_last passes last =
         entry_passes (at, x) (behind from (next_place at n)) chain is passes
-        ∙ ap (joined (of (at, x))) (entries_ended (behind from (next_place at n)) (ap (behind from) (sym last)))
-        ∙ joined_none (of (at, x))
+        ∙ ap (joined_reports (of (at, x))) (entries_ended (behind from (next_place at n)) (ap (behind from) (sym last)))
+        ∙ joined_no_report (of (at, x))
 
     pub then_next : (place : ℕ) → false ≡ (of (at, x)).refused → Some place ≡ next_place at n
-        → entries_report name s of chain ≡ joined (of (at, x)) (entries_report name s of (from place))
+        → entries_report name s of chain ≡ joined_reports (of (at, x)) (entries_report name s of (from place))
     then_next place passes next =
         entry_passes (at, x) (behind from (next_place at n)) chain is passes
-        ∙ ap (λ (p : Option ℕ). joined (of (at, x)) (entries_report name s of (behind from p))) (sym next)
+        ∙ ap (λ (p : Option ℕ). joined_reports (of (at, x)) (entries_report name s of (behind from p))) (sym next)
 
 -- ---- Steps over the entries
 
@@ -83,7 +83,7 @@ module _ {S O E A : Type 0} {s : SourceGhosts S} {o : SinkGhosts O} {e : SinkGho
   pub entry_stopped : {d : State S} {v : Outputs O E} {stop : Stop} → ReportsElf s o e (λ m. of m (at, x)) (Err stop) c d u v → ReportsElf s o e whole (Err stop) a d t v
   entry_stopped {d} {v} {stop} k =
       elf_stops_at h (λ m. of m (at, x)) (λ m. after name sec (of m) (of m (at, x)).refused (entries_report name sec (of m) (behind name sec (of m) (from m) (next_place at n))))
-      (at_start h (λ (m : Object). entries_report name sec (of m) (from m at) ≡ joined (of m (at, x)) (after name sec (of m) (of m (at, x)).refused (entries_report name sec (of m) (behind name sec (of m) (from m) (next_place at n)))))
+      (at_start h (λ (m : Object). entries_report name sec (of m) (from m at) ≡ joined_reports (of m (at, x)) (after name sec (of m) (of m (at, x)).refused (entries_report name sec (of m) (behind name sec (of m) (from m) (next_place at n)))))
       (λ told. entry_first name sec (of b.o) (at, x) (behind name sec (of b.o) (from b.o) (next_place at n)) (from b.o at) (chain told)))
       (begun (Err stop) (Err stop) refl k)
 
@@ -106,6 +106,6 @@ module _ {S O E A : Type 0} {s : SourceGhosts S} {o : SinkGhosts O} {e : SinkGho
     entry_goes place is next =
         let made = begun r (Ok false) is k in
         elf_goes_on h (λ m. of m (at, x)) (λ m. entries_report name sec (of m) (from m place))
-        (at_start h (λ (m : Object). entries_report name sec (of m) (from m at) ≡ joined (of m (at, x)) (entries_report name sec (of m) (from m place)))
+        (at_start h (λ (m : Object). entries_report name sec (of m) (from m at) ≡ joined_reports (of m (at, x)) (entries_report name sec (of m) (from m place)))
         (λ told. then_next name sec (of b.o) at n x (from b.o) (from b.o at) (chain told) place (made.reports told).value_is next))
         made refl

@@ -7,7 +7,7 @@ use Rattle.std.proofs.lemmas.Bool.{cases_lt}
 use Rattle.std.proofs.lemmas.Fmt.{hex_one_digit, hex_two_digits}
 use Rattle.std.proofs.lemmas.List.FromFn.{get_or-map-range_with_len}
 use Rattle.elf_types.specs.Text.{hex}
-use Rattle.number_columns.specs.HexPairs.{hex_digits, hex_pair}
+use Rattle.tool_output.specs.Columns.HexPairs.{hex_digits, hex_pair}
 use Rattle.readelf_chains.specs.Notes.{hex_byte}
 
 -- the digits stand in the order of their values

@@ -4,15 +4,15 @@ use Rattle.std.specs.Prelude.{take_while, if◌then◌else◌}
 use Rattle.std.proofs.lemmas.List.Sums.{take_while-cons}
 use Rattle.elf_object.specs.Object.{Object}
 use Rattle.elf_object.specs.Strings.{has_nul}
-use Rattle.object_output.specs.gelf_view.Records.{string_front}
-use Rattle.object_output.specs.gelf_view.declared.notes.NoteAt.{NoteAt}
-use Rattle.object_output.specs.gelf_view.Chains.{notes, ended, broken, leading}
+use Rattle.tool_objects.specs.gelf_view.Records.{string_front}
+use Rattle.tool_objects.specs.gelf_view.declared.notes.NoteAt.{NoteAt}
+use Rattle.tool_objects.specs.gelf_view.Chains.{notes, ended, broken, leading}
 use Rattle.elf_types.specs.declared.errors.ElfError.{ElfError}
 use Rattle.elf_types.specs.Text.{error_text}
 use Rattle.tool_output.specs.Names.{Name}
-use Rattle.tool_output.specs.Messages.{in_section}
-use Rattle.readelf_rows.specs.Data.{refused}
-use Rattle.tool_output.specs.Reports.{no_report, shown, joined}
+use Rattle.tool_output.specs.Messages.{section_message}
+use Rattle.readelf_rows.specs.Data.{readelf_refusal}
+use Rattle.tool_output.specs.Reports.{no_report, shown_report, joined_reports}
 use Rattle.readelf_chains.specs.Chains.{section_bytes}
 use Rattle.readelf_chains.specs.Notes.{part_of, owner_of, note_line, note_text, notes_from}
 use Rattle.readelf_chains.proofs.ChainLemmas.{chain_leading, chain_ended, chain_broken}
@@ -50,17 +50,17 @@ module _ (name : List ℕ) where
 
 module _ (name : Name) (o : Object) (s at : ℕ) where
   pub note_left : (note : NoteAt) → notes o s 0 at ≡ leading note (notes o s 0 note.next)
-      → notes_from name o s at ≡ joined (shown (note_text (section_bytes o s) note)) (notes_from name o s note.next)
+      → notes_from name o s at ≡ joined_reports (shown_report (note_text (section_bytes o s) note)) (notes_from name o s note.next)
   unfolding notes_from
-  note_left note is = chain_leading name s (λ note. shown (note_text (section_bytes o s) note)) note (notes o s 0 note.next) (notes o s 0 at) is
+  note_left note is = chain_leading name s (λ note. shown_report (note_text (section_bytes o s) note)) note (notes o s 0 note.next) (notes o s 0 at) is
 
   pub no_note_left : notes o s 0 at ≡ ended → notes_from name o s at ≡ no_report
   unfolding notes_from
-  no_note_left is = chain_ended name s (λ note. shown (note_text (section_bytes o s) note)) (notes o s 0 at) is
+  no_note_left is = chain_ended name s (λ note. shown_report (note_text (section_bytes o s) note)) (notes o s 0 at) is
 
-  pub note_broken : (e : ElfError) → notes o s 0 at ≡ broken e → notes_from name o s at ≡ refused name (in_section s (error_text e))
+  pub note_broken : (e : ElfError) → notes o s 0 at ≡ broken e → notes_from name o s at ≡ readelf_refusal name (section_message s (error_text e))
   unfolding notes_from
-  note_broken e is = chain_broken name s (λ note. shown (note_text (section_bytes o s) note)) e (notes o s 0 at) is
+  note_broken e is = chain_broken name s (λ note. shown_report (note_text (section_bytes o s) note)) e (notes o s 0 at) is
 
 -- the line of a note by the parts of its bytes
 pub note_text_is : (bytes l : List ℕ) (note : NoteAt) (part owner desc : List ℕ) → l ≡ bytes → part ≡ part_of l note.name_at note.namesz → owner ≡ owner_of part

@@ -8,23 +8,24 @@ use Rattle.elf_types.specs.Text.{error_text}
 use Rattle.elf_object.specs.Object.{Object}
 use Rattle.elf_object.specs.Answers.{bytes_of, items_at, lend_refusal}
 use Rattle.elf_object.specs.Strings.{section_name}
-use Rattle.object_output.specs.gelf_view.Calls.{first_place}
-use Rattle.object_output.specs.gelf_view.Chains.{Chain}
+use Rattle.tool_objects.specs.gelf_view.Calls.{first_version_place}
+use Rattle.tool_objects.specs.gelf_view.Chains.{Chain}
 use Rattle.tool_output.specs.Names.{Name}
-use Rattle.tool_output.specs.Messages.{in_section}
-use Rattle.tool_output.specs.Reports.{Report, no_report, shown, joined, reports_of}
-use Rattle.readelf_rows.specs.Data.{refused, if_told, data_title}
+use Rattle.tool_output.specs.Messages.{section_message}
+use Rattle.tool_output.specs.Reports.{Report, no_report, shown_report, joined_reports, reports_of}
+use Rattle.readelf_rows.specs.Data.{readelf_refusal, if_told, data_title}
 
 -- ---- The records
 
 -- the message of what is found bad in a section
 abbrev pub bad_report : Name → ℕ → Option ElfError → Report
 bad_report name s None = no_report
-bad_report name s (Some e) = refused name (in_section s (error_text e))
+bad_report name s (Some e) = readelf_refusal name (section_message s (error_text e))
 
 -- what is said of each record of a chain, and then that message
 unfoldable pub chain_report : {A : Type 0} → Name → ℕ → (A → Report) → Chain A → Report
-chain_report name s of chain = joined (reports_of of chain.found) (bad_report name s chain.bad)
+chain_report name s of chain =
+    joined_reports (reports_of of chain.found) (bad_report name s chain.bad)
 
 -- ---- The section
 
@@ -37,7 +38,7 @@ section_bytes o s = bytes_of (items_at o s 0)
 pub record HasRecords (o : Object) (s : ℕ) (first : Option ℕ) : Type 0 where
   pub section : s < length o.sections
   pub passed : lend_refusal o kinds.Bytes s 0 ≡ None
-  pub place : first ≡ first_place (length (section_bytes o s))
+  pub place : first ≡ first_version_place (length (section_bytes o s))
 
 -- `TITLE S NAME` on a line
 unfoldable pub chain_title : List ℕ → ℕ → Option (List ℕ) → List ℕ
@@ -45,7 +46,8 @@ chain_title title s name = data_title title s name ++ codes "\n"
 
 -- the title, and what is said of the records
 unfoldable pub chain_lines : List ℕ → Object → ℕ → Report → Report
-chain_lines title o s records = joined (shown (chain_title title s (section_name o s))) records
+chain_lines title o s records =
+    joined_reports (shown_report (chain_title title s (section_name o s))) records
 
 -- those of a section whose bytes can be told, or the message that says why they can not
 unfoldable pub bytes_report : List ℕ → Name → Object → ℕ → Report → Report

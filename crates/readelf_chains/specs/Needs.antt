@@ -1,12 +1,12 @@
 -- The lines of the version needs (the part `V`), a format of GNU.
 use Rattle.std.specs.Prelude.{◌++◌, ℕ, List, Option, codes}
 use Rattle.elf_object.specs.Object.{Object}
-use Rattle.object_output.specs.gelf_view.declared.versions.Verneed.{Verneed}
-use Rattle.object_output.specs.gelf_view.declared.versions.Vernaux.{Vernaux}
-use Rattle.object_output.specs.gelf_view.Chains.{verneeds, vernauxs, first_aux}
+use Rattle.tool_objects.specs.gelf_view.declared.versions.Verneed.{Verneed}
+use Rattle.tool_objects.specs.gelf_view.declared.versions.Vernaux.{Vernaux}
+use Rattle.tool_objects.specs.gelf_view.Chains.{verneeds, vernauxs, first_aux}
 use Rattle.tool_output.specs.Names.{Name}
 use Rattle.tool_output.specs.Reports.{Report}
-use Rattle.object_output.specs.Sections.{bracketed}
+use Rattle.tool_objects.specs.Sections.{bracketed}
 use Rattle.readelf_rows.specs.Fields.{hex_column, decimal_column}
 use Rattle.readelf_rows.specs.Links.{linked_string}
 use Rattle.readelf_chains.specs.Chains.{bytes_report}

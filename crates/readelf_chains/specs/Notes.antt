@@ -3,10 +3,10 @@ use Rattle.std.specs.Prelude.{◌++◌, ◌==◌, ℕ, List, [], ◌∷◌, take
 use Rattle.elf_types.specs.declared.constants.TheConstants.{SHT_NOTE}
 use Rattle.elf_types.specs.Text.{hex}
 use Rattle.elf_object.specs.Object.{Object}
-use Rattle.object_output.specs.gelf_view.declared.notes.NoteAt.{NoteAt}
-use Rattle.object_output.specs.gelf_view.Chains.{notes}
+use Rattle.tool_objects.specs.gelf_view.declared.notes.NoteAt.{NoteAt}
+use Rattle.tool_objects.specs.gelf_view.Chains.{notes}
 use Rattle.tool_output.specs.Names.{Name}
-use Rattle.tool_output.specs.Reports.{Report, shown}
+use Rattle.tool_output.specs.Reports.{Report, shown_report}
 use Rattle.readelf_rows.specs.Fields.{decimal_column}
 use Rattle.readelf_rows.specs.Data.{each_plain}
 use Rattle.readelf_chains.specs.Chains.{chain_report, section_bytes, bytes_report}
@@ -54,7 +54,7 @@ note_text bytes note =
 -- those from a place on
 unfoldable pub notes_from : Name → Object → ℕ → ℕ → Report
 notes_from name o s at =
-    chain_report name s (λ note. shown (note_text (section_bytes o s) note)) (notes o s 0 at)
+    chain_report name s (λ note. shown_report (note_text (section_bytes o s) note)) (notes o s 0 at)
 
 unfoldable pub notes_title : List ℕ
 notes_title = codes "Notes of section "

@@ -6,36 +6,36 @@ ghost use Rattle.elf_types.specs.Text.{error_text};
 ghost use Rattle.elf_object.specs.Object.{Object};
 ghost use Rattle.elf_object.specs.Strings as strings;
 ghost use Rattle.tool_output.specs.Names.{Name};
-ghost use Rattle.tool_output.specs.Messages.{in_section};
-ghost use Rattle.tool_output.specs.Reports.{Report, Reports, shown};
+ghost use Rattle.tool_output.specs.Messages.{section_message};
+ghost use Rattle.tool_output.specs.Reports.{Report, Reports, shown_report};
 ghost use Rattle.tool_output.specs.Steps.{LeavesOutputs};
 ghost use Rattle.tool_output.specs.Stops.{stop_of};
-ghost use Rattle.object_output.specs.Steps.{ReportsElf};
-ghost use Rattle.readelf_rows.specs.Data.{refused};
+ghost use Rattle.tool_objects.specs.Steps.{ReportsElf};
+ghost use Rattle.readelf_rows.specs.Data.{readelf_refusal};
 ghost use Rattle.readelf_chains.specs.Chains.{HasRecords, chain_title, chain_lines, bytes_report};
 
 use elf_outside::{Sink, Source};
 use elf_types::{DataId, ElfError, Octets, ScnId, put_text};
-use object_output::prelude::{Elf, first_entry};
-use object_output::section_name;
 use readelf_rows::put_data_title;
+use tool_objects::prelude::{Elf, first_entry};
+use tool_objects::section_name_or_stop;
 use tool_output::{FileName, InSection, Line, Message, Outputs, Stop};
 
 /// The records of a section whose bytes can be told.
 ///
-/// - `title` is what stands before the section's number in its title.
+/// - `title` is what is before the section's number in its title.
 /// - `report` is what is said of them, by the file's name, the object and the section.
 pub trait Records {
     ghost title: { List ℕ };
 
     ghost report: { Name → Object → ℕ → Report };
 
-    /// What stands before the section's number in its title.
+    /// What is before the section's number in its title.
     fn title() -> &'static str
         ensures { result.now ≡ title };
 
-    /// Gives the report on the records of a section that is there, of which the first stands at
-    /// that place; an empty section has none.
+    /// Gives the report on the records of a section that is there, of which the first is at that
+    /// place; an empty section has none.
     fn show<S: Source, O: Sink, E: Sink>(
         name: &FileName<'_>,
         elf: &mut Elf<S>,
@@ -51,7 +51,7 @@ pub trait Records {
 /// The title of a section.
 #[derive(Clone, Copy)]
 struct ChainTitle<'a> {
-    /// What stands before its number.
+    /// What is before its number.
     title: &'static str,
     /// The section.
     section: ScnId,
@@ -78,10 +78,10 @@ fn show_title<S: Source, O: Sink, E: Sink>(
 ) -> Result<bool, Stop>
     requires { s.0 < length elf.old.o.sections }
     ensures { ReportsElf S.Source O.Sink E.Sink
-        (λ o. shown (chain_title title.now s.0 (strings.section_name o s.0)))
+        (λ o. shown_report (chain_title title.now s.0 (strings.section_name o s.0)))
         result elf.old elf.new outputs.old outputs.new }
 {
-    match section_name(elf, s) {
+    match section_name_or_stop(elf, s) {
         Ok(name) => outputs.show(&ChainTitle {
             title,
             section: s,
@@ -91,7 +91,7 @@ fn show_title<S: Source, O: Sink, E: Sink>(
     }
 }
 
-/// Refuses the object for what an error says of the records of a section, or stops where the error
+/// Rejects the object for what an error says of the records of a section, or stops where the error
 /// is no refusal: then nothing is written.
 pub fn refuse_records<O: Sink, E: Sink>(
     name: &FileName<'_>,
@@ -100,7 +100,7 @@ pub fn refuse_records<O: Sink, E: Sink>(
     outputs: &mut Outputs<'_, O, E>,
 ) -> Result<bool, Stop>
     ensures reports { IfNone (stop_of e) (Reports O.Sink E.Sink result outputs.old outputs.new
-        (refused name.now (in_section s.0 (error_text e)))) }
+        (readelf_refusal name.now (section_message s.0 (error_text e)))) }
     ensures stops { IfSome (stop_of e)
         (λ stop. (result ≡ Err stop) × (outputs.new ≡ outputs.old)) }
     ensures leaves { IfNone (stop_of e)
@@ -133,7 +133,7 @@ fn show_lines<R: Records, S: Source, O: Sink, E: Sink>(
     R::show(name, elf, s, first, outputs)
 }
 
-/// Shows the records of a section that is there, behind its title, or refuses the object for that
+/// Shows the records of a section that is there, after its title, or rejects the object for that
 /// section where its bytes can not be told.
 pub fn show_records<R: Records, S: Source, O: Sink, E: Sink>(
     name: &FileName<'_>,

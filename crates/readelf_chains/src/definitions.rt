@@ -1,16 +1,16 @@
 //! The lines of the version definitions.
 
 ghost use Rattle.std.specs.Prelude.{◌<◌, length};
-ghost use Rattle.object_output.specs.Steps.{ReportsElf};
+ghost use Rattle.tool_objects.specs.Steps.{ReportsElf};
 ghost use Rattle.readelf_chains.specs.Definitions.{verdef_line, verdaux_line, verdef_report, definitions_title, definitions_records, definitions_of_section};
 
 use crate::chains::{Records, show_records};
-use crate::entries::{Aux, Entry, show_entries, show_names};
+use crate::entries::{Aux, ShownEntry, show_entries, show_names};
 use elf_outside::{Sink, Source};
 use elf_types::{ElfError, Octets, ScnId, put_text};
-use object_output::Bracketed;
-use object_output::prelude::{Elf, Verdaux, Verdef};
 use readelf_rows::{links_of, put_decimal_column, put_hex_column};
+use tool_objects::Bracketed;
+use tool_objects::prelude::{Elf, Verdaux, Verdef};
 use tool_output::{FileName, Line, Outputs, Stop};
 
 /// The line of a definition.
@@ -50,7 +50,7 @@ impl Aux for Verdaux {
     }
 }
 
-impl Entry for Verdef {
+impl ShownEntry for Verdef {
     ghost report = { verdef_report };
 
     fn show<S: Source, O: Sink, E: Sink>(
@@ -94,7 +94,7 @@ impl Records for Definitions {
 }
 
 /// Shows the version definitions of a section that is there: the section, and for each definition a
-/// line, with one for each of its names. What goes bad has a message behind the lines before it.
+/// line, with one for each of its names. What goes bad has a message after the lines before it.
 #[tactic(auto, unfolding(crate::specs::Definitions::definitions_of_section))]
 pub fn show_definitions<S: Source, O: Sink, E: Sink>(
     name: &FileName<'_>,

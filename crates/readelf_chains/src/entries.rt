@@ -6,8 +6,8 @@ ghost use Rattle.elf_types.specs.Writers.{WantsMemory};
 ghost use Rattle.elf_object.specs.Object.{Object, section_at};
 ghost use Rattle.elf_object.specs.Strings as strings;
 ghost use Rattle.tool_output.specs.Names.{Name};
-ghost use Rattle.tool_output.specs.Reports.{Report, shown};
-ghost use Rattle.object_output.specs.Steps.{ReportsElf};
+ghost use Rattle.tool_output.specs.Reports.{Report, shown_report};
+ghost use Rattle.tool_objects.specs.Steps.{ReportsElf};
 ghost use Rattle.readelf_rows.specs.Links.{linked_string};
 ghost use Rattle.readelf_chains.specs.Chains.{chain_report};
 ghost use Rattle.readelf_chains.specs.Entries.{entries_by, entries_report};
@@ -15,8 +15,8 @@ ghost use Rattle.readelf_chains.specs.Entries.{entries_by, entries_report};
 use crate::chains::refuse_records;
 use elf_outside::{Sink, Source};
 use elf_types::{DataId, ElfError, Octets, ScnId};
-use object_output::prelude::{AuxPlace, Elf, VersionEntry, VersionName};
-use object_output::string_at;
+use tool_objects::prelude::{AuxPlace, Elf, VersionEntry, VersionName};
+use tool_objects::string_at;
 use tool_output::{FileName, Line, Outputs, Stop};
 
 /// A name in the list of an entry, as it is shown.
@@ -41,7 +41,7 @@ pub trait Aux: VersionName {
 /// An entry of a version section, as it is shown.
 ///
 /// - `report` is what is said of one, with its place.
-pub trait Entry: VersionEntry {
+pub trait ShownEntry: VersionEntry {
     ghost report: { Name → Object → ℕ → (ℕ × Self) → Report };
 
     /// Gives the report on the entry that was found at a place of a section that is there.
@@ -76,14 +76,14 @@ impl<A: Aux> Line for AuxLine<'_, A> {
     }
 }
 
-/// Shows the line of a name whose string stands in a section.
+/// Shows the line of a name whose string is in a section.
 fn show_name<A: Aux, S: Source, O: Sink, E: Sink>(
     elf: &mut Elf<S>,
     linked: ScnId,
     aux: A,
     outputs: &mut Outputs<'_, O, E>,
 ) -> Result<bool, Stop>
-    ensures { ReportsElf S.Source O.Sink E.Sink (λ o. shown
+    ensures { ReportsElf S.Source O.Sink E.Sink (λ o. shown_report
         (A.line aux (strings.readable (strings.string_answer o linked.0 (A.string aux)))))
         result elf.old elf.new outputs.old outputs.new }
 {
@@ -93,7 +93,7 @@ fn show_name<A: Aux, S: Source, O: Sink, E: Sink>(
     }
 }
 
-/// Shows a line for each name of an entry of a section, whose strings stand in the linked one.
+/// Shows a line for each name of an entry of a section, whose strings are in the linked one.
 pub fn show_names<A: Aux, S: Source, O: Sink, E: Sink>(
     name: &FileName<'_>,
     elf: &mut Elf<S>,
@@ -104,7 +104,7 @@ pub fn show_names<A: Aux, S: Source, O: Sink, E: Sink>(
 ) -> Result<bool, Stop>
     requires { linked.0 ≡ (section_at elf.old.o s.0).header.link }
     ensures { ReportsElf S.Source O.Sink E.Sink (λ o. chain_report name.now s.0
-        (λ x. shown (A.line x (linked_string o s.0 (A.string x)))) (A.names o s.0 0 first))
+        (λ x. shown_report (A.line x (linked_string o s.0 (A.string x)))) (A.names o s.0 0 first))
         result elf.old elf.new outputs.old outputs.new }
 {
     let d = DataId {
@@ -124,7 +124,7 @@ pub fn show_names<A: Aux, S: Source, O: Sink, E: Sink>(
 }
 
 /// Gives the report on each entry of a section from a place on, up to the one whose names go bad.
-fn show_from<R: Entry, S: Source, O: Sink, E: Sink>(
+fn show_from<R: ShownEntry, S: Source, O: Sink, E: Sink>(
     name: &FileName<'_>,
     elf: &mut Elf<S>,
     s: ScnId,
@@ -158,8 +158,8 @@ fn show_from<R: Entry, S: Source, O: Sink, E: Sink>(
     }
 }
 
-/// Gives the report on the entries of a section, of which the first stands at that place.
-pub fn show_entries<R: Entry, S: Source, O: Sink, E: Sink>(
+/// Gives the report on the entries of a section, of which the first is at that place.
+pub fn show_entries<R: ShownEntry, S: Source, O: Sink, E: Sink>(
     name: &FileName<'_>,
     elf: &mut Elf<S>,
     s: ScnId,

@@ -1,5 +1,5 @@
-//! readelf's parts of sections whose bytes hold records in a chain: the lines of notes, and of
-//! version definitions and needs.
+//! The parts of readelf on chains of records: the lines of notes, and of version definitions and
+//! needs.
 #![tactic(auto)]
 
 pub mod chains;

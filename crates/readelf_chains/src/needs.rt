@@ -4,17 +4,17 @@ ghost use Rattle.std.specs.Prelude.{◌≡◌, ◌++◌, ◌<◌, length, OnOk, 
 ghost use Rattle.std.specs.Option.{option_copied};
 ghost use Rattle.elf_types.specs.Writers.{WantsMemory};
 ghost use Rattle.elf_object.specs.Strings as strings;
-ghost use Rattle.tool_output.specs.Reports.{shown};
-ghost use Rattle.object_output.specs.Steps.{ReportsElf};
+ghost use Rattle.tool_output.specs.Reports.{shown_report};
+ghost use Rattle.tool_objects.specs.Steps.{ReportsElf};
 ghost use Rattle.readelf_chains.specs.Needs.{verneed_line, vernaux_numbers, vernaux_line, verneed_report, needs_title, needs_records, needs_of_section};
 
 use crate::chains::{Records, show_records};
-use crate::entries::{Aux, Entry, show_entries, show_names};
+use crate::entries::{Aux, ShownEntry, show_entries, show_names};
 use elf_outside::{Sink, Source};
 use elf_types::{ElfError, Octets, ScnId, put_text};
-use object_output::prelude::{Elf, Vernaux, Verneed};
-use object_output::{Bracketed, string_at};
 use readelf_rows::{links_of, put_decimal_column, put_hex_column};
+use tool_objects::prelude::{Elf, Vernaux, Verneed};
+use tool_objects::{Bracketed, string_at};
 use tool_output::{FileName, Line, Outputs, Stop};
 
 /// The line of a file of which versions are needed.
@@ -36,7 +36,7 @@ impl Line for VerneedLine<'_> {
     }
 }
 
-/// Shows the line of a file whose name stands in a section.
+/// Shows the line of a file whose name is in a section.
 fn show_file<S: Source, O: Sink, E: Sink>(
     elf: &mut Elf<S>,
     names: ScnId,
@@ -44,7 +44,7 @@ fn show_file<S: Source, O: Sink, E: Sink>(
     outputs: &mut Outputs<'_, O, E>,
 ) -> Result<bool, Stop>
     ensures { ReportsElf S.Source O.Sink E.Sink
-        (λ o. shown (verneed_line (strings.readable (strings.string_answer o names.0 file))))
+        (λ o. shown_report (verneed_line (strings.readable (strings.string_answer o names.0 file))))
         result elf.old elf.new outputs.old outputs.new }
 {
     match string_at(elf, names, u64::from(file)) {
@@ -82,7 +82,7 @@ impl Aux for Vernaux {
     }
 }
 
-impl Entry for Verneed {
+impl ShownEntry for Verneed {
     ghost report = { verneed_report };
 
     fn show<S: Source, O: Sink, E: Sink>(
@@ -126,7 +126,7 @@ impl Records for Needs {
 }
 
 /// Shows the version needs of a section that is there: the section, and for each file a line, with
-/// one for each version of it. What goes bad has a message behind the lines before it.
+/// one for each version of it. What goes bad has a message after the lines before it.
 #[tactic(auto, unfolding(crate::specs::Needs::needs_of_section))]
 pub fn show_needs<S: Source, O: Sink, E: Sink>(
     name: &FileName<'_>,

@@ -4,9 +4,9 @@ ghost use Rattle.std.specs.Prelude.{◌≡◌, ◌++◌, ◌+◌, ◌≤◌, len
 ghost use Rattle.elf_types.specs.Writers.{WantsMemory};
 ghost use Rattle.elf_types.specs.declared.records.Kind.TheVariants as kinds;
 ghost use Rattle.elf_object.specs.Answers.{lend_refusal, count_at};
-ghost use Rattle.tool_output.specs.Reports.{shown};
-ghost use Rattle.object_output.specs.Steps.{ReportsElf, ReportsOver};
-ghost use Rattle.object_output.specs.gelf_view.Notes.{IsNoteWithin};
+ghost use Rattle.tool_output.specs.Reports.{shown_report};
+ghost use Rattle.tool_objects.specs.Steps.{ReportsElf, ReportsOver};
+ghost use Rattle.tool_objects.specs.gelf_view.Notes.{IsNoteWithin};
 ghost use Rattle.readelf_chains.specs.Chains.{section_bytes};
 ghost use Rattle.readelf_chains.specs.Notes.{part_of, owner_of, hex_byte, desc_text, owner_text, note_line, note_text, notes_from, notes_title, notes_of_section, holds_notes, notes_report};
 
@@ -14,10 +14,10 @@ use crate::chains::{Records, refuse_records, show_records};
 use elf_outside::{Sink, Source};
 use elf_types::constants::SHT_NOTE;
 use elf_types::{DataId, ElfError, Octets, ScnId, put_bytes, put_text};
-use number_columns::put_hex_pairs;
-use object_output::prelude::{Elf, NoteAt, bytes, note, string_in};
-use object_output::stop_for;
 use readelf_rows::{SectionPart, each_plain, put_decimal_column};
+use tool_objects::prelude::{Elf, NoteAt, bytes, note, string_in};
+use tool_objects::stop_for;
+use tool_output::columns::put_hex_pairs;
 use tool_output::{FileName, Line, Outputs, Stop};
 
 /// Appends bytes in hexadecimal digits.
@@ -106,7 +106,7 @@ fn show_note<S: Source, O: Sink, E: Sink>(
     requires passed { lend_refusal elf.old.o kinds.Bytes s.0 0 ≡ None }
     requires within { IsNoteWithin (count_at elf.old.o s.0 0) at note }
     ensures { ReportsElf S.Source O.Sink E.Sink
-        (λ o. shown (note_text (section_bytes o s.0) note))
+        (λ o. shown_report (note_text (section_bytes o s.0) note))
         result elf.old elf.new outputs.old outputs.new }
 {
     let d = DataId {
@@ -202,7 +202,7 @@ impl SectionPart for Notes {
 }
 
 /// Shows the notes of each section of type `SHT_NOTE`, by number: the section, and a line for each
-/// note. A note that does not lie in the section has a message behind the lines of those before.
+/// note. A note that does not lie in the section has a message after the lines of those before.
 ///
 /// Source: gABI chapter 5, "Note Section".
 #[tactic(auto, unfolding(crate::specs::Notes::notes_report))]

@@ -6,7 +6,7 @@ use Rattle.elf_types.specs.declared.records.Order.{Order}
 use Rattle.elf_types.specs.declared.records.Order.TheVariants.{Least, Greatest}
 use Rattle.elf_types.specs.declared.records.Ehdr.{Ehdr}
 use Rattle.elf_types.specs.Names.{object_type_name_of, machine_name_of}
-use Rattle.tool_output.specs.Reports.{Report, shown}
+use Rattle.tool_output.specs.Reports.{Report, shown_report}
 use Rattle.readelf_rows.specs.Fields.{field_line, decimal_line, hex_line, name_line}
 
 -- the bits of the class
@@ -55,4 +55,4 @@ unfoldable pub header_lines : Ehdr → List ℕ
 header_lines h = header_title ++ ident_lines h ++ type_lines h ++ place_lines h ++ table_lines h
 
 unfoldable pub header_report : Ehdr → Report
-header_report h = shown (header_lines h)
+header_report h = shown_report (header_lines h)

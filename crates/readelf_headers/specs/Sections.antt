@@ -5,8 +5,8 @@ use Rattle.elf_types.specs.Names.{section_type_name_of}
 use Rattle.elf_object.specs.Object.{Object, section_at}
 use Rattle.elf_object.specs.Due.{all_sections}
 use Rattle.elf_object.specs.Strings.{section_name}
-use Rattle.tool_output.specs.Reports.{Report, shown, joined, reports_of}
-use Rattle.object_output.specs.Sections.{bracketed}
+use Rattle.tool_output.specs.Reports.{Report, shown_report, joined_reports, reports_of}
+use Rattle.tool_objects.specs.Sections.{bracketed}
 use Rattle.readelf_rows.specs.Fields.{name_or_hex, hex_column, decimal_column, row_start, counted_line}
 
 -- `  I NAME TYPE`
@@ -22,8 +22,8 @@ section_places h =
     ++ hex_column (codes "offset") h.offset
     ++ hex_column (codes "size") h.size
 
-unfoldable pub section_numbers : Shdr → List ℕ
-section_numbers h =
+unfoldable pub section_number_columns : Shdr → List ℕ
+section_number_columns h =
     decimal_column (codes "link") h.link
     ++ decimal_column (codes "info") h.info
     ++ decimal_column (codes "align") h.addralign
@@ -32,17 +32,17 @@ section_numbers h =
 -- the line of one section, by its number
 unfoldable pub section_line : ℕ → Option (List ℕ) → Shdr → List ℕ
 section_line i name h =
-    section_start i name h.stype ++ section_places h ++ section_numbers h ++ codes "\n"
+    section_start i name h.stype ++ section_places h ++ section_number_columns h ++ codes "\n"
 
 unfoldable pub sections_title : ℕ → List ℕ
 sections_title count = counted_line (codes "Section headers: ") count
 
 -- the line of a section of an object
-unfoldable pub section_row : Object → ℕ → Report
-section_row o s = shown (section_line s (section_name o s) (section_at o s).header)
+unfoldable pub shown_section_line : Object → ℕ → Report
+shown_section_line o s = shown_report (section_line s (section_name o s) (section_at o s).header)
 
 -- their number, and a line for each
 unfoldable pub sections_report : Object → Report
 sections_report o =
-    joined (shown (sections_title (length o.sections)))
-    (reports_of (section_row o) (all_sections o))
+    joined_reports (shown_report (sections_title (length o.sections)))
+    (reports_of (shown_section_line o) (all_sections o))

@@ -6,7 +6,7 @@ use Rattle.elf_types.specs.declared.constants.TheConstants.{PF_R, PF_W, PF_X}
 use Rattle.elf_types.specs.Names.{segment_type_name_of}
 use Rattle.elf_types.specs.Text.{hex}
 use Rattle.tool_output.specs.Lines.{numbered_lines}
-use Rattle.tool_output.specs.Reports.{Report, shown, joined}
+use Rattle.tool_output.specs.Reports.{Report, shown_report, joined_reports}
 use Rattle.readelf_rows.specs.Fields.{name_or_hex, hex_column}
 
 -- a letter where its bit is set, and `-` where it is not
@@ -43,12 +43,12 @@ segment_sizes p = hex_column (codes "filesz") p.filesz ++ hex_column (codes "mem
 unfoldable pub flags_column : ℕ → List ℕ
 flags_column flags = codes " flags " ++ flags_text flags
 
-unfoldable pub segment_end : Phdr → List ℕ
-segment_end p = flags_column p.flags ++ hex_column (codes "align") p.align ++ codes "\n"
+unfoldable pub segment_line_end : Phdr → List ℕ
+segment_line_end p = flags_column p.flags ++ hex_column (codes "align") p.align ++ codes "\n"
 
 -- the line of one program header, by its number
 unfoldable pub phdr_line : ℕ → Phdr → List ℕ
-phdr_line i p = segment_start i p ++ segment_places p ++ segment_sizes p ++ segment_end p
+phdr_line i p = segment_start i p ++ segment_places p ++ segment_sizes p ++ segment_line_end p
 
 unfoldable pub count_line : ℕ → List ℕ
 count_line count = codes "Program headers: " ++ decimal count ++ codes "\n"
@@ -56,4 +56,5 @@ count_line count = codes "Program headers: " ++ decimal count ++ codes "\n"
 -- their number, and a line for each
 unfoldable pub segments_report : List Phdr → Report
 segments_report phdrs =
-    joined (shown (count_line (length phdrs))) (shown (numbered_lines phdr_line 0 phdrs))
+    joined_reports (shown_report (count_line (length phdrs)))
+    (shown_report (numbered_lines phdr_line 0 phdrs))

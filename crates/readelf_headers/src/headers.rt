@@ -117,7 +117,7 @@ impl Line for HeaderLines<'_> {
     }
 }
 
-/// Shows the header. Nothing is refused.
+/// Shows the header. Nothing is rejected.
 #[tactic(auto, unfolding(crate::specs::Header::header_report))]
 pub fn show_header<O: Sink, E: Sink>(
     header: &Ehdr,

@@ -1,4 +1,4 @@
-//! readelf's parts of the headers: the lines of the ELF header, of the program headers and of the
+//! The parts of readelf on headers: the lines of the ELF header, of the program headers and of the
 //! section headers.
 #![tactic(auto)]
 

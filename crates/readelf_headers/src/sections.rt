@@ -3,16 +3,16 @@
 ghost use Rattle.std.specs.Prelude.{◌≡◌, ◌++◌, OnOk, IfErr};
 ghost use Rattle.std.specs.Option.{option_copied};
 ghost use Rattle.elf_types.specs.Writers.{WantsMemory};
-ghost use Rattle.object_output.specs.Steps.{ReportsOver};
-ghost use Rattle.readelf_headers.specs.Sections.{section_start, section_places, section_numbers, section_line, sections_title, section_row, sections_report};
+ghost use Rattle.tool_objects.specs.Steps.{ReportsOver};
+ghost use Rattle.readelf_headers.specs.Sections.{section_start, section_places, section_number_columns, section_line, sections_title, shown_section_line, sections_report};
 
 use elf_outside::{Sink, Source};
 use elf_types::{ElfError, Octets, ScnId, Shdr, put_text, section_type_name};
-use object_output::prelude::Elf;
-use object_output::{Bracketed, SectionTool, each_section, section_header, section_name};
 use readelf_rows::{
     put_counted_line, put_decimal_column, put_hex_column, put_name_or_hex, put_row_start,
 };
+use tool_objects::prelude::Elf;
+use tool_objects::{Bracketed, SectionTool, each_section, section_header, section_name_or_stop};
 use tool_output::{Line, Outputs, Stop};
 
 /// Appends `  I NAME TYPE`.
@@ -42,9 +42,9 @@ fn put_places(page: &mut Octets, h: &Shdr) -> Result<(), ElfError>
 }
 
 /// Appends the links, the alignment and the size of an entry.
-#[tactic(auto, using(elf_types::proofs::Writers::kept), unfolding(crate::specs::Sections::section_numbers))]
+#[tactic(auto, using(elf_types::proofs::Writers::kept), unfolding(crate::specs::Sections::section_number_columns))]
 fn put_numbers(page: &mut Octets, h: &Shdr) -> Result<(), ElfError>
-    ensures ok { OnOk result (page.new ≡ page.old ++ section_numbers h.now) }
+    ensures ok { OnOk result (page.new ≡ page.old ++ section_number_columns h.now) }
     ensures err { IfErr result (WantsMemory page.old page.new) }
 {
     put_decimal_column(page, "link", u64::from(h.link))?;
@@ -98,7 +98,7 @@ impl Line for SectionsTitle {
 struct SectionRows;
 
 impl SectionTool for SectionRows {
-    ghost report = { λ _. section_row };
+    ghost report = { λ _. shown_section_line };
 
     fn show<S: Source, O: Sink, E: Sink>(
         &self,
@@ -107,7 +107,7 @@ impl SectionTool for SectionRows {
         outputs: &mut Outputs<'_, O, E>,
     ) -> Result<bool, Stop> {
         let header = section_header(elf, s);
-        match section_name(elf, s) {
+        match section_name_or_stop(elf, s) {
             Ok(name) => outputs.show(&SectionLine {
                 index: s.0,
                 name,
@@ -119,7 +119,7 @@ impl SectionTool for SectionRows {
 }
 
 /// Shows the section headers: their number, and a line for each. The names are read once, with the
-/// section that holds them. Nothing is refused.
+/// section that holds them. Nothing is rejected.
 pub fn show_sections<S: Source, O: Sink, E: Sink>(
     elf: &mut Elf<S>,
     outputs: &mut Outputs<'_, O, E>,

@@ -3,18 +3,18 @@
 ghost use Rattle.std.specs.Prelude.{◌≡◌, ◌++◌, OnOk, IfErr};
 ghost use Rattle.elf_types.specs.Writers.{WantsMemory};
 ghost use Rattle.tool_output.specs.Lines.{numbered_lines};
-ghost use Rattle.tool_output.specs.Reports.{Reports, shown};
+ghost use Rattle.tool_output.specs.Reports.{Reports, shown_report};
 ghost use Rattle.tool_output.specs.Steps.{LeavesOutputs};
-ghost use Rattle.readelf_headers.specs.Segments.{flag_letter, other_flags, flags_text, flags_column, segment_start, segment_places, segment_sizes, segment_end, phdr_line, count_line, segments_report};
+ghost use Rattle.readelf_headers.specs.Segments.{flag_letter, other_flags, flags_text, flags_column, segment_start, segment_places, segment_sizes, segment_line_end, phdr_line, count_line, segments_report};
 
 use elf_outside::{Sink, Source};
 use elf_types::constants::{PF_R, PF_W, PF_X};
 use elf_types::{
     ElfError, Octets, Phdr, put_bytes, put_decimal, put_hex, put_text, segment_type_name,
 };
-use object_output::phdr_at;
-use object_output::prelude::Elf;
 use readelf_rows::{put_hex_column, put_name_or_hex};
+use tool_objects::phdr_at;
+use tool_objects::prelude::Elf;
 use tool_output::{Line, Outputs, Stop};
 
 /// The letter of a flag's bit, or a dash where it is not set.
@@ -98,9 +98,9 @@ fn put_sizes(page: &mut Octets, p: &Phdr) -> Result<(), ElfError>
 }
 
 /// Appends the flags, the alignment and the newline.
-#[tactic(auto, using(elf_types::proofs::Writers::kept), unfolding(crate::specs::Segments::segment_end))]
+#[tactic(auto, using(elf_types::proofs::Writers::kept), unfolding(crate::specs::Segments::segment_line_end))]
 fn put_end(page: &mut Octets, p: &Phdr) -> Result<(), ElfError>
-    ensures ok { OnOk result (page.new ≡ page.old ++ segment_end p.now) }
+    ensures ok { OnOk result (page.new ≡ page.old ++ segment_line_end p.now) }
     ensures err { IfErr result (WantsMemory page.old page.new) }
 {
     put_flags_column(page, p.flags)?;
@@ -153,7 +153,7 @@ fn show_lines<S: Source, O: Sink, E: Sink>(
     outputs: &mut Outputs<'_, O, E>,
 ) -> Result<bool, Stop>
     ensures reports { Reports O.Sink E.Sink result outputs.old outputs.new
-        (shown (numbered_lines phdr_line 0 elf.now.o.phdrs)) }
+        (shown_report (numbered_lines phdr_line 0 elf.now.o.phdrs)) }
     ensures leaves { LeavesOutputs O.Sink E.Sink ⊥ result outputs.old outputs.new }
 {
     for i in 0..elf.phnum() {
@@ -163,7 +163,7 @@ fn show_lines<S: Source, O: Sink, E: Sink>(
     Ok(false)
 }
 
-/// Shows the program headers: their number, and a line for each. Nothing is refused.
+/// Shows the program headers: their number, and a line for each. Nothing is rejected.
 pub fn show_segments<S: Source, O: Sink, E: Sink>(
     elf: &Elf<S>,
     outputs: &mut Outputs<'_, O, E>,

@@ -5,25 +5,25 @@ use Rattle.elf_types.specs.declared.errors.ElfError.{ElfError}
 use Rattle.elf_types.specs.declared.errors.ElfError.TheVariants.{OutOfFile}
 use Rattle.elf_types.specs.Text.{error_text}
 use Rattle.elf_types.specs.Kinds.{is_compressed}
-use Rattle.object_output.specs.elf_object.Object.{Object, section_at}
-use Rattle.object_output.specs.tool_output.Names.{Name}
-use Rattle.object_output.specs.tool_output.Messages.{in_section}
-use Rattle.object_output.specs.tool_output.Reports.{Report, no_report}
-use Rattle.object_output.specs.Sections.{report_if}
-use Rattle.readelf_rows.specs.Data.{refused, if_plain, if_told, plain_report}
+use Rattle.tool_objects.specs.elf_object.Object.{Object, section_at}
+use Rattle.tool_objects.specs.tool_output.Names.{Name}
+use Rattle.tool_objects.specs.tool_output.Messages.{section_message}
+use Rattle.tool_objects.specs.tool_output.Reports.{Report, no_report}
+use Rattle.tool_objects.specs.Sections.{report_if}
+use Rattle.readelf_rows.specs.Data.{readelf_refusal, if_plain, if_told, plain_report}
 
 module _ (name : Name) (o : Object) (s : ℕ) (lines : Report) where
   abbrev by : Bool → Bool → Report
   by out compressed =
-      if out then refused name (error_text (OutOfFile s))
-      else (if compressed then refused name (in_section s (codes "compressed")) else lines)
+      if out then readelf_refusal name (error_text (OutOfFile s))
+      else (if compressed then readelf_refusal name (section_message s (codes "compressed")) else lines)
 
-  pub plain_out : (section_at o s).home.out ≡ true → if_plain name o s lines ≡ refused name (error_text (OutOfFile s))
+  pub plain_out : (section_at o s).home.out ≡ true → if_plain name o s lines ≡ readelf_refusal name (error_text (OutOfFile s))
   unfolding if_plain
   plain_out out = ap (λ (t : Bool). by t (is_compressed (section_at o s).header.flags)) out
 
   pub plain_compressed : (section_at o s).home.out ≡ false → is_compressed (section_at o s).header.flags ≡ true
-      → if_plain name o s lines ≡ refused name (in_section s (codes "compressed"))
+      → if_plain name o s lines ≡ readelf_refusal name (section_message s (codes "compressed"))
   unfolding if_plain
   plain_compressed out compressed = ap (λ (t : Bool). by t (is_compressed (section_at o s).header.flags)) out ∙ ap (by false) compressed
 
@@ -47,6 +47,6 @@ module _ (name : Name) (lines : Report) where
   unfolding if_told
   told_lines refusal is = ap (λ (r : Option ElfError). if_told name r lines) is
 
-  pub told_refused : (refusal : Option ElfError) (e : ElfError) → refusal ≡ Some e → if_told name refusal lines ≡ refused name (error_text e)
+  pub told_refused : (refusal : Option ElfError) (e : ElfError) → refusal ≡ Some e → if_told name refusal lines ≡ readelf_refusal name (error_text e)
   unfolding if_told
   told_refused refusal e is = ap (λ (r : Option ElfError). if_told name r lines) is

@@ -6,12 +6,12 @@ use Rattle.std.proofs.lemmas.List.{get_or_past}
 use Rattle.elf_types.specs.declared.errors.ElfError.{ElfError}
 use Rattle.elf_types.specs.declared.errors.ElfError.TheVariants.{NoSection}
 use Rattle.elf_types.specs.Answers.{refused_if}
-use Rattle.object_output.specs.elf_ident.Front.{zero_shdr}
-use Rattle.object_output.specs.elf_object.Object.{Object, Section, section_at, absent_section}
-use Rattle.object_output.specs.elf_object.Answers.{no_section}
-use Rattle.object_output.specs.elf_object.Calls.{shdr_answer}
-use Rattle.object_output.proofs.elf_object.AnswerLaws.{answered_refusal}
-use Rattle.object_output.specs.elf_object.Strings.{string_answer, readable}
+use Rattle.tool_objects.specs.elf_ident.Front.{zero_shdr}
+use Rattle.tool_objects.specs.elf_object.Object.{Object, Section, section_at, absent_section}
+use Rattle.tool_objects.specs.elf_object.Answers.{no_section}
+use Rattle.tool_objects.specs.elf_object.Calls.{shdr_answer}
+use Rattle.tool_objects.proofs.elf_object.AnswerLaws.{answered_refusal}
+use Rattle.tool_objects.specs.elf_object.Strings.{string_answer, readable}
 use Rattle.readelf_rows.specs.Links.{linked_string}
 
 pub linked_is : (o : Object) (s offset link : ℕ) → link ≡ (section_at o s).header.link → linked_string o s offset ≡ readable (string_answer o link offset)

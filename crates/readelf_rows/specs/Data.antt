@@ -5,31 +5,31 @@ use Rattle.elf_types.specs.declared.errors.ElfError.{ElfError}
 use Rattle.elf_types.specs.declared.errors.ElfError.TheVariants.{OutOfFile}
 use Rattle.elf_types.specs.Text.{error_text}
 use Rattle.elf_types.specs.Kinds.{is_compressed}
-use Rattle.object_output.specs.elf_object.Object.{Object, section_at}
-use Rattle.object_output.specs.elf_object.Due.{all_sections}
-use Rattle.object_output.specs.tool_output.Names.{Name}
-use Rattle.object_output.specs.tool_output.Messages.{in_section}
-use Rattle.object_output.specs.tool_output.Reports.{Report, refusal_report, reports_of}
-use Rattle.object_output.specs.Sections.{bracketed, report_if}
+use Rattle.tool_objects.specs.elf_object.Object.{Object, section_at}
+use Rattle.tool_objects.specs.elf_object.Due.{all_sections}
+use Rattle.tool_objects.specs.tool_output.Names.{Name}
+use Rattle.tool_objects.specs.tool_output.Messages.{section_message}
+use Rattle.tool_objects.specs.tool_output.Reports.{Report, refusal_report, reports_of}
+use Rattle.tool_objects.specs.Sections.{bracketed, report_if}
 
 -- ---- What stands in place of the lines
 
 -- a message on the object
-abbrev pub refused : Name → List ℕ → Report
-refused name text = refusal_report (codes "readelf") name text
+abbrev pub readelf_refusal : Name → List ℕ → Report
+readelf_refusal name text = refusal_report (codes "readelf") name text
 
 -- a section that is out of the file, or whose data is compressed, has a message
 unfoldable pub if_plain : Name → Object → ℕ → Report → Report
 if_plain name o s lines =
-    if (section_at o s).home.out then refused name (error_text (OutOfFile s))
+    if (section_at o s).home.out then readelf_refusal name (error_text (OutOfFile s))
     else (if is_compressed (section_at o s).header.flags
-    then refused name (in_section s (codes "compressed"))
+    then readelf_refusal name (section_message s (codes "compressed"))
     else lines)
 
 -- and so has one whose items can not be told
 unfoldable pub if_told : Name → Option ElfError → Report → Report
 if_told name None lines = lines
-if_told name (Some e) lines = refused name (error_text e)
+if_told name (Some e) lines = readelf_refusal name (error_text e)
 
 -- what is said of each section of some types, by number
 unfoldable pub plain_report : (ℕ → Bool) → Name → Object → (ℕ → Report) → ℕ → Report

@@ -1,12 +1,12 @@
 -- The sections that the rows of a table name (gABI chapter 4, "Sections", sh_link): the strings of
 -- symbols and of dynamic entries stand in the linked section, and the symbols of relocations too.
 use Rattle.std.specs.Prelude.{◌≡◌, ℕ, List, Option}
-use Rattle.object_output.specs.elf_object.Object.{Object, section_at}
-use Rattle.object_output.specs.elf_object.Strings.{string_answer, readable}
-use Rattle.readelf_rows.specs.declared.links.Links.{Links}
+use Rattle.tool_objects.specs.elf_object.Object.{Object, section_at}
+use Rattle.tool_objects.specs.elf_object.Strings.{string_answer, readable}
+use Rattle.readelf_rows.specs.declared.links.SectionLinks.{SectionLinks}
 
 -- those of a section are its link and the link of that one
-pub record AreLinks (o : Object) (s : ℕ) (links : Links) : Type 0 where
+pub record AreSectionLinks (o : Object) (s : ℕ) (links : SectionLinks) : Type 0 where
   pub linked : links.linked.0 ≡ (section_at o s).header.link
   pub strings : links.strings.0 ≡ (section_at o links.linked.0).header.link
 

@@ -4,17 +4,15 @@
 ghost use Rattle.std.specs.Prelude.{◌≡◌, ◌++◌, ◌==◌, ◌<◌, ℕ, Bool as TheBool, length, OnOk, IfErr};
 ghost use Rattle.std.specs.Option.{option_copied};
 ghost use Rattle.elf_types.specs.Writers.{WantsMemory};
-ghost use Rattle.object_output.specs.elf_object.Object.{Object, section_at};
-ghost use Rattle.object_output.specs.tool_output.Names.{Name};
-ghost use Rattle.object_output.specs.tool_output.Reports.{Report};
-ghost use Rattle.object_output.specs.Steps.{ReportsElf, ReportsOver};
+ghost use Rattle.tool_objects.specs.elf_object.Object.{Object, section_at};
+ghost use Rattle.tool_objects.specs.tool_output.Names.{Name};
+ghost use Rattle.tool_objects.specs.tool_output.Reports.{Report};
+ghost use Rattle.tool_objects.specs.Steps.{ReportsElf, ReportsOver};
 ghost use Rattle.readelf_rows.specs.Data.{if_plain, plain_report, each_plain, data_title};
 
 use elf_types::{ElfError, Octets, ScnId, is_compressed, put_decimal, put_text};
-use object_output::prelude::{
-    Elf, FileName, InSection, Line, Message, Outputs, Sink, Source, Stop,
-};
-use object_output::{Bracketed, SectionTool, each_section, is_out, section_header};
+use tool_objects::prelude::{Elf, FileName, InSection, Line, Message, Outputs, Sink, Source, Stop};
+use tool_objects::{Bracketed, SectionTool, each_section, is_out, section_header};
 
 /// What is said of the data of the sections of some types.
 ///
@@ -30,9 +28,9 @@ pub trait SectionPart {
     fn has(&self, stype: u32) -> bool
         ensures { result ≡ has stype };
 
-    /// Gives the report on a section that is there, and leaves the object. The answer tells whether
-    /// something was refused. It stops by `Read` only where a read of the source failed, by `Write`
-    /// only where a put failed.
+    /// Gives the report on a section that is there, and leaves the object. It returns whether
+    /// something was rejected. It stops by `Read` only where a read of the source failed, by
+    /// `Write` only where a put failed.
     fn show<S: Source, O: Sink, E: Sink>(
         &self,
         name: &FileName<'_>,
@@ -53,7 +51,7 @@ pub fn is_of_type<S: Source>(elf: &Elf<S>, s: ScnId, stype: u32) -> bool
     section_header(elf, s).stype == stype
 }
 
-/// Shows the data of a section that is there, or the message that stands in its place.
+/// Shows the data of a section that is there, or the message that is in its place.
 fn show_plain<P: SectionPart, S: Source, O: Sink, E: Sink>(
     part: &P,
     name: &FileName<'_>,

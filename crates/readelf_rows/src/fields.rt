@@ -1,5 +1,5 @@
-//! Lines of one field, the columns of rows, and numbers with names. Each call refuses `Memory`
-//! alone; what the page held then still stands, some bytes behind it. What rows are made of is
+//! Lines of one field, the columns of rows, and numbers with names. Each call fails with `Memory`
+//! alone; what the buffer held then stays, with some bytes after it. What rows are made of is
 //! compiled into each row, where the titles are constants.
 
 ghost use Rattle.std.specs.Prelude.{◌≡◌, ◌++◌, OnOk, IfErr};

@@ -8,7 +8,7 @@ use Rattle.elf_object.specs.Object.{Object, section_at}
 use Rattle.tool_output.specs.Names.{Name}
 use Rattle.tool_output.specs.Reports.{Report}
 use Rattle.readelf_tables.specs.Relocations.{rel_row, rela_row, rels_of_section, relas_of_section, relocations_of_section}
-use Rattle.readelf_blocks.specs.Blocks.{entry_row, rel_entry, rela_entry}
+use Rattle.readelf_tables.specs.Blocks.Blocks.{entry_row, rel_entry, rela_entry}
 
 -- ---- Rows by their entries
 

@@ -14,18 +14,18 @@ use Rattle.elf_object.specs.Answers.{items_at, syms_of}
 use Rattle.elf_object.specs.Calls.{word_answer}
 use Rattle.elf_object.specs.Strings.{string_answer, symbol_name, readable}
 use Rattle.elf_object.specs.SymbolSections.{shndx_table, extended_index, place_of_symbol}
-use Rattle.object_output.specs.elf_descriptor.State.{State}
-use Rattle.object_output.specs.gelf_view.declared.symbols.SymPlace.{SymPlace}
-use Rattle.object_output.specs.gelf_view.declared.symbols.SymPlace.TheVariants.{Special, Section}
+use Rattle.tool_objects.specs.elf_descriptor.State.{State}
+use Rattle.tool_objects.specs.gelf_view.declared.symbols.SymPlace.{SymPlace}
+use Rattle.tool_objects.specs.gelf_view.declared.symbols.SymPlace.TheVariants.{Special, Section}
 use Rattle.tool_output.specs.Lines.{numbered_lines}
-use Rattle.tool_output.specs.Reports.{shown}
-use Rattle.object_output.specs.Answers.{value_of}
-use Rattle.object_output.specs.Symbols.{symbol_place}
-use Rattle.readelf_rows.specs.declared.links.Table.{Table}
-use Rattle.readelf_blocks.proofs.BlockLemmas.{lines_same}
-use Rattle.readelf_symbols.specs.SymbolLines.{symbol_line}
-use Rattle.readelf_symbols.specs.SymbolBytes.{plain_place, bytes_row, symbols_in, AreSymbolBytes}
-use Rattle.readelf_symbols.specs.declared.symbol_bytes.SymbolBytes.{SymbolBytes}
+use Rattle.tool_output.specs.Reports.{shown_report}
+use Rattle.tool_objects.specs.Answers.{value_of}
+use Rattle.tool_objects.specs.Symbols.{told_symbol_place}
+use Rattle.readelf_rows.specs.declared.links.ItemTable.{ItemTable}
+use Rattle.readelf_tables.proofs.blocks.BlockLemmas.{lines_same}
+use Rattle.readelf_tables.specs.RowsOfSymbols.SymbolLines.{symbol_line}
+use Rattle.readelf_tables.specs.RowsOfSymbols.SymbolBytes.{plain_place, bytes_row, symbols_of_bytes, AreSymbolBytes}
+use Rattle.readelf_tables.specs.declared.rows_of_symbols.symbol_bytes.SymbolBytes.{SymbolBytes}
 use Rattle.readelf_tables.specs.Symbols.{symbol_row, SymbolsFit}
 
 -- the name is the string in the linked section
@@ -52,14 +52,14 @@ place_by n false true (Ok m) none = cc
 place_by n false true (Err e) none = refl
 place_by n false false index none = refl
 
-place_is : (o : Object) (s i : ℕ) (x : Sym) → None ≡ shndx_table o s → symbol_place o s i x ≡ plain_place x.shndx
-unfolding symbol_place place_of_symbol plain_place
+place_is : (o : Object) (s i : ℕ) (x : Sym) → None ≡ shndx_table o s → told_symbol_place o s i x ≡ plain_place x.shndx
+unfolding told_symbol_place place_of_symbol plain_place
 place_is o s i x none =
     place_by x.shndx (nat_lt x.shndx SHN_LORESERVE) (x.shndx == SHN_XINDEX) (extended_index o s i) (no_index o s i none)
 
 -- ---- A table whose bytes are at hand
 
-module _ {S : Type 0} (state : State S) (table : Table) (t : SymbolBytes) (fit : SymbolsFit state.o table.section.0 table.links)
+module _ {S : Type 0} (state : State S) (table : ItemTable) (t : SymbolBytes) (fit : SymbolsFit state.o table.section.0 table.links)
     (are : AreSymbolBytes state table t) (told : IsTrue state.told) where
   no_table : None ≡ shndx_table state.o table.section.0
   no_table = sym (ap (λ (indexes : Option ScnId). option_map (λ (x : ScnId). x.0) indexes) are.plain) ∙ fit.indexes
@@ -72,8 +72,8 @@ module _ {S : Type 0} (state : State S) (table : Table) (t : SymbolBytes) (fit :
       (symbol_name_is state.o table.section.0 x table.links.linked.0 x.name fit.named.linked refl ∙ are.names told x.name)
 
   -- its rows are told from the bytes
-  pub symbol_rows_are : shown (numbered_lines (symbol_row state.o table.section.0) 0 (syms_of (items_at state.o table.section.0 0)))
-      ≡ shown (numbered_lines (bytes_row t.strings.now) 0 (symbols_in t))
+  pub symbol_rows_are : shown_report (numbered_lines (symbol_row state.o table.section.0) 0 (syms_of (items_at state.o table.section.0 0)))
+      ≡ shown_report (numbered_lines (bytes_row t.strings.now) 0 (symbols_of_bytes t))
   symbol_rows_are =
-      ap shown (lines_same (symbol_row state.o table.section.0) (bytes_row t.strings.now) row_is_held 0 (syms_of (items_at state.o table.section.0 0))
+      ap shown_report (lines_same (symbol_row state.o table.section.0) (bytes_row t.strings.now) row_is_held 0 (syms_of (items_at state.o table.section.0 0))
       ∙ ap (numbered_lines (bytes_row t.strings.now) 0) (are.symbols.items told))

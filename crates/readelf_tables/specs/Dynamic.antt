@@ -10,11 +10,11 @@ use Rattle.elf_object.specs.Object.{Object}
 use Rattle.elf_object.specs.Answers.{items_at, dyns_of, lend_refusal}
 use Rattle.tool_output.specs.Names.{Name}
 use Rattle.tool_output.specs.Reports.{Report}
-use Rattle.object_output.specs.Sections.{bracketed}
+use Rattle.tool_objects.specs.Sections.{bracketed}
 use Rattle.readelf_rows.specs.Fields.{name_or_hex, row_start}
 use Rattle.readelf_rows.specs.Links.{linked_string}
 use Rattle.readelf_rows.specs.Data.{if_told, each_plain}
-use Rattle.readelf_tables.specs.Tables.{table_lines}
+use Rattle.readelf_tables.specs.Tables.{item_table_report}
 
 -- the tags whose value is the offset of a string: DT_NEEDED, DT_SONAME, DT_RPATH, DT_RUNPATH (gABI
 -- chapter 5, "Dynamic Section")
@@ -46,7 +46,7 @@ dynamic_title = codes "Dynamic section "
 unfoldable pub dynamic_of_section : Name → Object → ℕ → Report
 dynamic_of_section name o s =
     if_told name (lend_refusal o kinds.Dyn s 0)
-    (table_lines dynamic_title dyn_row o s (dyns_of (items_at o s 0)))
+    (item_table_report dynamic_title dyn_row o s (dyns_of (items_at o s 0)))
 
 abbrev pub holds_dynamic : ℕ → Bool
 holds_dynamic stype = stype == SHT_DYNAMIC

@@ -8,7 +8,7 @@ use Rattle.tool_output.specs.Reports.{Report}
 use Rattle.readelf_tables.specs.declared.indexes.TheConstants.{VERSYM_HIDDEN}
 use Rattle.readelf_rows.specs.Fields.{decimal_column, row_start}
 use Rattle.readelf_rows.specs.Data.{if_told}
-use Rattle.readelf_tables.specs.Tables.{table_lines}
+use Rattle.readelf_tables.specs.Tables.{item_table_report}
 
 -- ` hidden`, where the top bit is set
 unfoldable pub hidden_text : ℕ → List ℕ
@@ -28,4 +28,4 @@ indexes_title = codes "Version indexes of section "
 unfoldable pub indexes_of_section : Name → Object → ℕ → Report
 indexes_of_section name o s =
     if_told name (lend_refusal o kinds.Half s 0)
-    (table_lines indexes_title index_row o s (halves_of (items_at o s 0)))
+    (item_table_report indexes_title index_row o s (halves_of (items_at o s 0)))

@@ -4,3 +4,5 @@ pub mod Relocations
 pub mod Dynamic
 pub mod Indexes
 pub mod Constants
+pub mod Blocks
+pub mod RowsOfSymbols

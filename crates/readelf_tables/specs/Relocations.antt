@@ -9,8 +9,8 @@ use Rattle.elf_object.specs.Answers.{items_at, rels_of, relas_of, lend_refusal}
 use Rattle.tool_output.specs.Names.{Name}
 use Rattle.tool_output.specs.Reports.{Report}
 use Rattle.readelf_rows.specs.Data.{if_told, each_plain}
-use Rattle.readelf_blocks.specs.RelocationLines.{relocation_name, relocation_line, without_addend}
-use Rattle.readelf_tables.specs.Tables.{table_lines}
+use Rattle.readelf_tables.specs.Blocks.RelocationLines.{relocation_name, relocation_line, without_addend}
+use Rattle.readelf_tables.specs.Tables.{item_table_report}
 
 -- ---- The rows
 
@@ -29,12 +29,12 @@ relocations_title = codes "Relocations of section "
 unfoldable pub rels_of_section : Name → Object → ℕ → Report
 rels_of_section name o s =
     if_told name (lend_refusal o kinds.Rel s 0)
-    (table_lines relocations_title rel_row o s (rels_of (items_at o s 0)))
+    (item_table_report relocations_title rel_row o s (rels_of (items_at o s 0)))
 
 unfoldable pub relas_of_section : Name → Object → ℕ → Report
 relas_of_section name o s =
     if_told name (lend_refusal o kinds.Rela s 0)
-    (table_lines relocations_title rela_row o s (relas_of (items_at o s 0)))
+    (item_table_report relocations_title rela_row o s (relas_of (items_at o s 0)))
 
 -- of a section that is in the file, and whose data is not compressed
 unfoldable pub relocations_of_section : Name → Object → ℕ → Report

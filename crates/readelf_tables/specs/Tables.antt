@@ -7,10 +7,10 @@ use Rattle.elf_xlate.specs.declared.content.Items.{Items}
 use Rattle.elf_object.specs.Answers.{items_at, lend_refusal}
 use Rattle.elf_object.specs.Strings.{section_name}
 use Rattle.tool_output.specs.Lines.{numbered_lines}
-use Rattle.tool_output.specs.Reports.{Report, shown, joined}
+use Rattle.tool_output.specs.Reports.{Report, shown_report, joined_reports}
 use Rattle.readelf_rows.specs.Data.{data_title}
-use Rattle.readelf_rows.specs.declared.links.Links.{Links}
-use Rattle.readelf_rows.specs.declared.links.Table.{Table}
+use Rattle.readelf_rows.specs.declared.links.SectionLinks.{SectionLinks}
+use Rattle.readelf_rows.specs.declared.links.ItemTable.{ItemTable}
 
 -- ---- The lines
 
@@ -20,21 +20,22 @@ table_title title s name count =
     data_title title s name ++ codes ": " ++ decimal count ++ codes "\n"
 
 -- the line of an item by its index
-abbrev pub row_at : {A : Type 0} → (ℕ → A → List ℕ) → List A → ℕ → List ℕ
-row_at line items i = elim (slice_get items i) [ None ↦ [] | Some x ↦ line i x ]
+abbrev pub indexed_row : {A : Type 0} → (ℕ → A → List ℕ) → List A → ℕ → List ℕ
+indexed_row line items i = elim (slice_get items i) [ None ↦ [] | Some x ↦ line i x ]
 
 -- the title, and a line for each item
-unfoldable pub table_lines : {A : Type 0} → List ℕ → (Object → ℕ → ℕ → A → List ℕ) → Object → ℕ
+unfoldable pub item_table_report : {A : Type 0} → List ℕ → (Object → ℕ → ℕ → A → List ℕ)
+    → Object → ℕ
     → List A → Report
-table_lines title line o s items =
-    joined (shown (table_title title s (section_name o s) (length items)))
-    (shown (numbered_lines (line o s) 0 items))
+item_table_report title line o s items =
+    joined_reports (shown_report (table_title title s (section_name o s) (length items)))
+    (shown_report (numbered_lines (line o s) 0 items))
 
 -- ---- What the rows of a table need
 
 -- the section is there, its items can be told and are so many, and the links are as they need them
 pub record HasRows {A : Type 0} (kind : Kind) (list_of : Items → List A)
-    (fits : Object → ℕ → Links → Type 0) (o : Object) (table : Table) : Type 0 where
+    (fits : Object → ℕ → SectionLinks → Type 0) (o : Object) (table : ItemTable) : Type 0 where
   pub section : table.section.0 < length o.sections
   pub passed : lend_refusal o kind table.section.0 0 ≡ None
   pub count : table.count ≡ length (list_of (items_at o table.section.0 0))

@@ -4,20 +4,20 @@ ghost use Rattle.std.specs.Prelude.{◌≡◌, ◌++◌, OnOk, IfErr};
 ghost use Rattle.std.specs.Option.{option_copied};
 ghost use Rattle.elf_types.specs.Writers.{WantsMemory};
 ghost use Rattle.elf_object.specs.Strings as strings;
-ghost use Rattle.tool_output.specs.Reports.{shown};
-ghost use Rattle.object_output.specs.Steps.{ReportsElf, ReportsOver};
-ghost use Rattle.readelf_rows.specs.Links.{AreLinks};
+ghost use Rattle.tool_output.specs.Reports.{shown_report};
+ghost use Rattle.tool_objects.specs.Steps.{ReportsElf, ReportsOver};
+ghost use Rattle.readelf_rows.specs.Links.{AreSectionLinks};
 ghost use Rattle.readelf_tables.specs.Dynamic.{names_string, dyn_start, dyn_name_line, dyn_value_line, dyn_row, dynamic_title, dynamic_of_section, holds_dynamic, dynamic_report};
 
-use crate::tables::{Row, Rows, show_each, show_table};
+use crate::tables::{TableRow, TableRows, show_each, show_table};
 use elf_outside::{Sink, Source};
 use elf_types::constants::SHT_DYNAMIC;
 use elf_types::{Dyn, ElfError, Octets, ScnId, put_hex, put_text, tag_name};
-use object_output::prelude::Elf;
-use object_output::{Bracketed, string_at};
 use readelf_rows::{
-    Links, SectionPart, Table, each_plain, links_of, put_name_or_hex, put_row_start,
+    ItemTable, SectionLinks, SectionPart, each_plain, links_of, put_name_or_hex, put_row_start,
 };
+use tool_objects::prelude::Elf;
+use tool_objects::{Bracketed, string_at};
 use tool_output::{FileName, Line, Outputs, Stop};
 
 /// Whether the value of an entry is the offset of a string, by its tag: `DT_NEEDED`, `DT_SONAME`,
@@ -85,7 +85,7 @@ impl Line for ValueLine {
     }
 }
 
-/// Shows the line of an entry with its string, which stands in a section.
+/// Shows the line of an entry with its string, which is in a section.
 fn show_name<S: Source, O: Sink, E: Sink>(
     elf: &mut Elf<S>,
     names: ScnId,
@@ -93,7 +93,7 @@ fn show_name<S: Source, O: Sink, E: Sink>(
     entry: Dyn,
     outputs: &mut Outputs<'_, O, E>,
 ) -> Result<bool, Stop>
-    ensures { ReportsElf S.Source O.Sink E.Sink (λ o. shown (dyn_name_line index entry
+    ensures { ReportsElf S.Source O.Sink E.Sink (λ o. shown_report (dyn_name_line index entry
         (strings.readable (strings.string_answer o names.0 entry.val))))
         result elf.old elf.new outputs.old outputs.new }
 {
@@ -103,19 +103,19 @@ fn show_name<S: Source, O: Sink, E: Sink>(
     }
 }
 
-impl Row for Dyn {
+impl TableRow for Dyn {
     ghost title = { dynamic_title };
 
     ghost line = { dyn_row };
 
-    ghost fits = { AreLinks };
+    ghost fits = { AreSectionLinks };
 
     #[tactic(auto, unfolding(crate::specs::Dynamic::dynamic_title))]
     fn title() -> &'static str {
         "Dynamic section "
     }
 
-    fn links<S: Source>(elf: &Elf<S>, s: ScnId) -> Links {
+    fn links<S: Source>(elf: &Elf<S>, s: ScnId) -> SectionLinks {
         links_of(elf, s)
     }
 
@@ -124,7 +124,7 @@ impl Row for Dyn {
         elf: &mut Elf<S>,
         s: ScnId,
         i: u64,
-        links: Links,
+        links: SectionLinks,
         outputs: &mut Outputs<'_, O, E>,
     ) -> Result<bool, Stop> {
         if names_string(&self) {
@@ -137,10 +137,10 @@ impl Row for Dyn {
     }
 }
 
-impl Rows for Dyn {
+impl TableRows for Dyn {
     fn show_rows<S: Source, O: Sink, E: Sink>(
         elf: &mut Elf<S>,
-        table: Table,
+        table: ItemTable,
         outputs: &mut Outputs<'_, O, E>,
     ) -> Result<bool, Stop> {
         show_each::<Dyn, S, O, E>(elf, table, outputs)

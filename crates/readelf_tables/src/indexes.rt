@@ -4,15 +4,15 @@
 ghost use Rattle.std.specs.Prelude.{◌≡◌, ◌++◌, ◌<◌, length, true, OnOk, IfErr};
 ghost use Rattle.elf_types.specs.Writers.{WantsMemory};
 ghost use Rattle.elf_types.specs.Constants.{are_numbers};
-ghost use Rattle.object_output.specs.Steps.{ReportsElf};
+ghost use Rattle.tool_objects.specs.Steps.{ReportsElf};
 ghost use Rattle.readelf_tables.specs.Constants.{index_bits};
 ghost use Rattle.readelf_tables.specs.Indexes.{hidden_text, index_line, index_row, indexes_title, indexes_of_section};
 
-use crate::tables::{Row, Rows, show_each, show_table};
+use crate::tables::{TableRow, TableRows, show_each, show_table};
 use elf_outside::{Sink, Source};
 use elf_types::{ElfError, Octets, ScnId, put_text};
-use object_output::prelude::Elf;
-use readelf_rows::{Links, Table, links_of, put_decimal_column, put_row_start};
+use readelf_rows::{ItemTable, SectionLinks, links_of, put_decimal_column, put_row_start};
+use tool_objects::prelude::Elf;
 use tool_output::{FileName, Line, Outputs, Stop};
 
 /// The bit of a version index that hides the symbol; the bits below are the index.
@@ -51,7 +51,7 @@ impl Line for IndexLine {
     }
 }
 
-impl Row for u16 {
+impl TableRow for u16 {
     ghost title = { indexes_title };
 
     ghost line = { index_row };
@@ -63,7 +63,7 @@ impl Row for u16 {
         "Version indexes of section "
     }
 
-    fn links<S: Source>(elf: &Elf<S>, s: ScnId) -> Links {
+    fn links<S: Source>(elf: &Elf<S>, s: ScnId) -> SectionLinks {
         links_of(elf, s)
     }
 
@@ -72,7 +72,7 @@ impl Row for u16 {
         _elf: &mut Elf<S>,
         _s: ScnId,
         i: u64,
-        _links: Links,
+        _links: SectionLinks,
         outputs: &mut Outputs<'_, O, E>,
     ) -> Result<bool, Stop> {
         outputs.show(&IndexLine {
@@ -82,10 +82,10 @@ impl Row for u16 {
     }
 }
 
-impl Rows for u16 {
+impl TableRows for u16 {
     fn show_rows<S: Source, O: Sink, E: Sink>(
         elf: &mut Elf<S>,
-        table: Table,
+        table: ItemTable,
         outputs: &mut Outputs<'_, O, E>,
     ) -> Result<bool, Stop> {
         show_each::<u16, S, O, E>(elf, table, outputs)
@@ -108,8 +108,8 @@ pub fn show_indexes<S: Source, O: Sink, E: Sink>(
     show_table::<u16, S, O, E>(name, elf, s, outputs)
 }
 
-/// Each constant is the number that stands beside its name in the tables of specs/Constants. It is
-/// for the reader and for proofs, and does nothing.
-pub fn constants_are()
+/// Each constant is the number that is beside its name in the tables of specs/Constants. It is for
+/// the reader and for proofs, and does nothing.
+pub fn index_constants_are()
     ensures { are_numbers index_bits ≡ true }
 {}

@@ -5,28 +5,30 @@ ghost use Rattle.elf_object.specs.Object.{Object};
 ghost use Rattle.elf_object.specs.Answers.{items_at};
 ghost use Rattle.elf_object.specs.Strings as strings;
 ghost use Rattle.tool_output.specs.Lines.{numbered_lines};
-ghost use Rattle.tool_output.specs.Reports.{shown};
-ghost use Rattle.object_output.specs.Steps.{ReportsElf, ReportsOver, Learns};
-ghost use Rattle.readelf_rows.specs.Links.{AreLinks};
-ghost use Rattle.readelf_blocks.specs.RelocationLines.{symbol_in, name_by, relocation_name, relocation_line};
-ghost use Rattle.readelf_blocks.specs.Blocks.{entry_row};
+ghost use Rattle.tool_output.specs.Reports.{shown_report};
+ghost use Rattle.tool_objects.specs.Steps.{ReportsElf, ReportsOver, Learns};
+ghost use Rattle.readelf_rows.specs.Links.{AreSectionLinks};
+ghost use Rattle.readelf_tables.specs.Blocks.RelocationLines.{section_symbol, symbol_string, relocation_name, relocation_line};
+ghost use Rattle.readelf_tables.specs.Blocks.Blocks.{entry_row};
 ghost use Rattle.readelf_tables.specs.Tables.{HasRows};
 ghost use Rattle.readelf_tables.specs.Relocations.{rel_row, rela_row, relocations_title, rels_of_section, relas_of_section, relocations_of_section, holds_relocations, relocations_report};
 
-use crate::tables::{Row, Rows, show_each, show_table};
+use crate::blocks::{
+    Relocation, RelocationEntry, RelocationLine, load_table, show_blocks, table_at_hand,
+};
+use crate::tables::{TableRow, TableRows, show_each, show_table};
 use elf_outside::{Sink, Source};
 use elf_types::constants::{SHT_REL, SHT_RELA};
 use elf_types::{DataId, Rel, Rela, ScnId, Sym};
-use object_output::prelude::{Elf, sym};
-use object_output::string_at;
-use readelf_blocks::{Entry, Relocation, RelocationLine, load_table, show_blocks, table_at_hand};
-use readelf_rows::{Links, SectionPart, Table, each_plain, is_of_type, links_of};
+use readelf_rows::{ItemTable, SectionLinks, SectionPart, each_plain, is_of_type, links_of};
+use tool_objects::prelude::{Elf, sym};
+use tool_objects::string_at;
 use tool_output::{FileName, Outputs, Stop};
 
 /// Symbol `y` of a section, or None where that can not be told. It stops by `Read` where a read of
 /// the source failed, and by `Memory`.
 fn find_symbol<S: Source>(elf: &mut Elf<S>, table: ScnId, y: u32) -> Result<Option<Sym>, Stop>
-    ensures { Learns S.Source (λ o. symbol_in o table.0 y) result elf.old elf.new }
+    ensures { Learns S.Source (λ o. section_symbol o table.0 y) result elf.old elf.new }
 {
     let d = DataId {
         section: table.0,
@@ -35,15 +37,16 @@ fn find_symbol<S: Source>(elf: &mut Elf<S>, table: ScnId, y: u32) -> Result<Opti
     Stop::unless_refused(sym(elf, d, u64::from(y)))
 }
 
-/// Shows the line of a relocation by a symbol whose name stands in a section.
+/// Shows the line of a relocation by a symbol whose name is in a section.
 fn show_named<S: Source, O: Sink, E: Sink>(
     elf: &mut Elf<S>,
     names: ScnId,
-    entry: Entry,
+    entry: RelocationEntry,
     symbol: Sym,
     outputs: &mut Outputs<'_, O, E>,
 ) -> Result<bool, Stop>
-    ensures { ReportsElf S.Source O.Sink E.Sink (λ o. shown (relocation_line entry.index entry.rel
+    ensures { ReportsElf S.Source O.Sink E.Sink
+        (λ o. shown_report (relocation_line entry.index entry.rel
         entry.addend (strings.readable (strings.string_answer o names.0 symbol.name))))
         result elf.old elf.new outputs.old outputs.new }
 {
@@ -54,16 +57,17 @@ fn show_named<S: Source, O: Sink, E: Sink>(
 }
 
 /// Shows the line of a relocation by the symbol that was found, if one was.
-#[tactic(auto, unfolding(readelf_blocks::specs::RelocationLines::name_by))]
+#[tactic(auto, unfolding(crate::specs::Blocks::RelocationLines::symbol_string))]
 fn show_by<S: Source, O: Sink, E: Sink>(
     elf: &mut Elf<S>,
     names: ScnId,
-    entry: Entry,
+    entry: RelocationEntry,
     found: Option<Sym>,
     outputs: &mut Outputs<'_, O, E>,
 ) -> Result<bool, Stop>
-    ensures { ReportsElf S.Source O.Sink E.Sink (λ o. shown (relocation_line entry.index entry.rel
-        entry.addend (name_by o names.0 found)))
+    ensures { ReportsElf S.Source O.Sink E.Sink
+        (λ o. shown_report (relocation_line entry.index entry.rel
+        entry.addend (symbol_string o names.0 found)))
         result elf.old elf.new outputs.old outputs.new }
 {
     match found {
@@ -76,12 +80,13 @@ fn show_by<S: Source, O: Sink, E: Sink>(
 fn show_relocation<S: Source, O: Sink, E: Sink>(
     elf: &mut Elf<S>,
     s: ScnId,
-    links: Links,
-    entry: Entry,
+    links: SectionLinks,
+    entry: RelocationEntry,
     outputs: &mut Outputs<'_, O, E>,
 ) -> Result<bool, Stop>
-    requires { AreLinks elf.old.o s.0 links }
-    ensures { ReportsElf S.Source O.Sink E.Sink (λ o. shown (relocation_line entry.index entry.rel
+    requires { AreSectionLinks elf.old.o s.0 links }
+    ensures { ReportsElf S.Source O.Sink E.Sink
+        (λ o. shown_report (relocation_line entry.index entry.rel
         entry.addend (relocation_name o s.0 entry.rel.sym)))
         result elf.old elf.new outputs.old outputs.new }
 {
@@ -92,18 +97,18 @@ fn show_relocation<S: Source, O: Sink, E: Sink>(
 }
 
 /// Shows the rows of a table of relocations: what they name is read first, once a table, and then
-/// they are told from the bytes, where all are at hand.
-fn show_relocations_of<T: Row + Relocation, S: Source, O: Sink, E: Sink>(
+/// they are told from the bytes, where all are in memory.
+fn show_relocations_of<T: TableRow + Relocation, S: Source, O: Sink, E: Sink>(
     elf: &mut Elf<S>,
-    table: Table,
+    table: ItemTable,
     outputs: &mut Outputs<'_, O, E>,
 ) -> Result<bool, Stop>
     requires rows { HasRows T.kind T.list_of T.fits elf.old.o table }
-    requires links { AreLinks elf.old.o table.section.0 table.links }
+    requires links { AreSectionLinks elf.old.o table.section.0 table.links }
     requires lines { (o : Object) (s i : ℕ) (x : T)
         → T.line o s i x ≡ entry_row o s (T.entry_of i x) }
     ensures { let s = table.section.0 in ReportsElf S.Source O.Sink E.Sink
-        (λ o. shown (numbered_lines (T.line o s) 0 (T.list_of (items_at o s 0))))
+        (λ o. shown_report (numbered_lines (T.line o s) 0 (T.list_of (items_at o s 0))))
         result elf.old elf.new outputs.old outputs.new }
 {
     load_table(elf, table)?;
@@ -113,19 +118,19 @@ fn show_relocations_of<T: Row + Relocation, S: Source, O: Sink, E: Sink>(
     }
 }
 
-impl Row for Rel {
+impl TableRow for Rel {
     ghost title = { relocations_title };
 
     ghost line = { rel_row };
 
-    ghost fits = { AreLinks };
+    ghost fits = { AreSectionLinks };
 
     #[tactic(auto, unfolding(crate::specs::Relocations::relocations_title))]
     fn title() -> &'static str {
         "Relocations of section "
     }
 
-    fn links<S: Source>(elf: &Elf<S>, s: ScnId) -> Links {
+    fn links<S: Source>(elf: &Elf<S>, s: ScnId) -> SectionLinks {
         links_of(elf, s)
     }
 
@@ -135,10 +140,10 @@ impl Row for Rel {
         elf: &mut Elf<S>,
         s: ScnId,
         i: u64,
-        links: Links,
+        links: SectionLinks,
         outputs: &mut Outputs<'_, O, E>,
     ) -> Result<bool, Stop> {
-        let entry = Entry {
+        let entry = RelocationEntry {
             index: i,
             rel: self,
             addend: None,
@@ -147,29 +152,29 @@ impl Row for Rel {
     }
 }
 
-impl Rows for Rel {
+impl TableRows for Rel {
     fn show_rows<S: Source, O: Sink, E: Sink>(
         elf: &mut Elf<S>,
-        table: Table,
+        table: ItemTable,
         outputs: &mut Outputs<'_, O, E>,
     ) -> Result<bool, Stop> {
         show_relocations_of::<Rel, S, O, E>(elf, table, outputs)
     }
 }
 
-impl Row for Rela {
+impl TableRow for Rela {
     ghost title = { relocations_title };
 
     ghost line = { rela_row };
 
-    ghost fits = { AreLinks };
+    ghost fits = { AreSectionLinks };
 
     #[tactic(auto, unfolding(crate::specs::Relocations::relocations_title))]
     fn title() -> &'static str {
         "Relocations of section "
     }
 
-    fn links<S: Source>(elf: &Elf<S>, s: ScnId) -> Links {
+    fn links<S: Source>(elf: &Elf<S>, s: ScnId) -> SectionLinks {
         links_of(elf, s)
     }
 
@@ -179,7 +184,7 @@ impl Row for Rela {
         elf: &mut Elf<S>,
         s: ScnId,
         i: u64,
-        links: Links,
+        links: SectionLinks,
         outputs: &mut Outputs<'_, O, E>,
     ) -> Result<bool, Stop> {
         let rel = Rel {
@@ -187,7 +192,7 @@ impl Row for Rela {
             sym: self.sym,
             rtype: self.rtype,
         };
-        let entry = Entry {
+        let entry = RelocationEntry {
             index: i,
             rel,
             addend: Some(self.addend),
@@ -196,10 +201,10 @@ impl Row for Rela {
     }
 }
 
-impl Rows for Rela {
+impl TableRows for Rela {
     fn show_rows<S: Source, O: Sink, E: Sink>(
         elf: &mut Elf<S>,
-        table: Table,
+        table: ItemTable,
         outputs: &mut Outputs<'_, O, E>,
     ) -> Result<bool, Stop> {
         show_relocations_of::<Rela, S, O, E>(elf, table, outputs)

@@ -1,29 +1,29 @@
 //! The lines of the symbol tables. Where the strings of a table end is looked for before its rows:
-//! a name that begins behind that can not be read, and is not looked for. Where the bytes of a
-//! table and of its strings are at hand, its rows are told from these alone.
+//! a name that begins after that can not be read, and is not looked for. Where the bytes of a table
+//! and of its strings are in memory, its rows are told from these alone.
 
 ghost use Rattle.std.specs.Prelude.{◌<◌, None, IfOk, IfSome, IsTrue};
 ghost use Rattle.elf_types.specs.declared.records.Kind.TheVariants as kinds;
 ghost use Rattle.elf_object.specs.Answers.{items_at, syms_of};
 ghost use Rattle.elf_object.specs.Strings as strings;
 ghost use Rattle.tool_output.specs.Lines.{numbered_lines};
-ghost use Rattle.tool_output.specs.Reports.{Reports, shown};
+ghost use Rattle.tool_output.specs.Reports.{Reports, shown_report};
 ghost use Rattle.tool_output.specs.Steps.{LeavesOutputs};
-ghost use Rattle.object_output.specs.Steps.{ReadsElf, ReportsElf, ReportsOver};
-ghost use Rattle.bytes_at_hand.specs.Strings.{EndsAt};
-ghost use Rattle.readelf_symbols.specs.SymbolLines.{symbol_line};
-ghost use Rattle.readelf_tables.specs.Tables.{row_at, HasRows};
+ghost use Rattle.tool_objects.specs.Steps.{ReadsElf, ReportsElf, ReportsOver};
+ghost use Rattle.tool_objects.specs.AtHand.Strings.{EndsAt};
+ghost use Rattle.readelf_tables.specs.RowsOfSymbols.SymbolLines.{symbol_line};
+ghost use Rattle.readelf_tables.specs.Tables.{indexed_row, HasRows};
 ghost use Rattle.readelf_tables.specs.Symbols.{SymbolsFit, symbol_row, symbols_title, symbols_of_section, holds_symbols, symbols_report};
 
-use crate::tables::{Row, Rows, show_table};
-use bytes_at_hand::{is_past, load, strings_end};
+use crate::rows_of_symbols::{SymbolLine, show_symbol_bytes, symbols_at_hand};
+use crate::tables::{TableRow, TableRows, show_table};
 use elf_outside::{Sink, Source};
 use elf_types::constants::{SHT_DYNSYM, SHT_SYMTAB};
 use elf_types::{DataId, ScnId, Sym};
-use object_output::prelude::{Elf, SymPlace, shndx_table};
-use object_output::{item_there, string_at, symbol_place};
-use readelf_rows::{Links, SectionPart, Table, each_plain, links_of};
-use readelf_symbols::{SymbolLine, show_symbol_bytes, symbols_at_hand};
+use readelf_rows::{ItemTable, SectionLinks, SectionPart, each_plain, links_of};
+use tool_objects::at_hand::{is_past, load, strings_end};
+use tool_objects::prelude::{Elf, SymPlace, shndx_table};
+use tool_objects::{item_there, string_at, symbol_place_or_stop};
 use tool_output::{FileName, Outputs, Stop};
 
 /// Shows the line of a symbol whose name can not be read.
@@ -34,7 +34,7 @@ fn show_unnamed<O: Sink, E: Sink>(
     outputs: &mut Outputs<'_, O, E>,
 ) -> Result<bool, Stop>
     ensures reports { Reports O.Sink E.Sink result outputs.old outputs.new
-        (shown (symbol_line index symbol place None)) }
+        (shown_report (symbol_line index symbol place None)) }
     ensures leaves { LeavesOutputs O.Sink E.Sink ⊥ result outputs.old outputs.new }
 {
     outputs.show(&SymbolLine {
@@ -45,8 +45,8 @@ fn show_unnamed<O: Sink, E: Sink>(
     })
 }
 
-/// Shows the line of a symbol whose place is known, and whose name stands in a section, whose
-/// strings end there where that is known.
+/// Shows the line of a symbol whose place is known, and whose name is in a section, whose strings
+/// end there where that is known.
 fn show_symbol<S: Source, O: Sink, E: Sink>(
     elf: &mut Elf<S>,
     names: ScnId,
@@ -57,7 +57,7 @@ fn show_symbol<S: Source, O: Sink, E: Sink>(
     outputs: &mut Outputs<'_, O, E>,
 ) -> Result<bool, Stop>
     requires { IsTrue elf.old.told → IfSome end (EndsAt elf.old.o names.0) }
-    ensures { ReportsElf S.Source O.Sink E.Sink (λ o. shown (symbol_line index symbol place
+    ensures { ReportsElf S.Source O.Sink E.Sink (λ o. shown_report (symbol_line index symbol place
         (strings.readable (strings.string_answer o names.0 symbol.name))))
         result elf.old elf.new outputs.old outputs.new }
 {
@@ -80,7 +80,7 @@ fn show_symbol<S: Source, O: Sink, E: Sink>(
 fn show_row<S: Source, O: Sink, E: Sink>(
     elf: &mut Elf<S>,
     s: ScnId,
-    links: Links,
+    links: SectionLinks,
     end: Option<u64>,
     i: u64,
     symbol: Sym,
@@ -88,10 +88,10 @@ fn show_row<S: Source, O: Sink, E: Sink>(
 ) -> Result<bool, Stop>
     requires fits { SymbolsFit elf.old.o s.0 links }
     requires end { IsTrue elf.old.told → IfSome end (EndsAt elf.old.o links.linked.0) }
-    ensures { ReportsElf S.Source O.Sink E.Sink (λ o. shown (symbol_row o s.0 i symbol))
+    ensures { ReportsElf S.Source O.Sink E.Sink (λ o. shown_report (symbol_row o s.0 i symbol))
         result elf.old elf.new outputs.old outputs.new }
 {
-    match symbol_place(elf, s, i, symbol, links.indexes) {
+    match symbol_place_or_stop(elf, s, i, symbol, links.indexes) {
         Ok(place) => show_symbol(elf, links.linked, end, i, symbol, place, outputs),
         Err(stop) => Err(stop),
     }
@@ -100,7 +100,7 @@ fn show_row<S: Source, O: Sink, E: Sink>(
 /// Shows the row of symbol `i` of a table, where there is such a symbol.
 fn show_row_at<S: Source, O: Sink, E: Sink>(
     elf: &mut Elf<S>,
-    table: Table,
+    table: ItemTable,
     end: Option<u64>,
     i: u64,
     outputs: &mut Outputs<'_, O, E>,
@@ -109,7 +109,7 @@ fn show_row_at<S: Source, O: Sink, E: Sink>(
     requires end { IsTrue elf.old.told → IfSome end (EndsAt elf.old.o table.links.linked.0) }
     requires there { i < table.count }
     ensures { let s = table.section.0 in ReportsElf S.Source O.Sink E.Sink
-        (λ o. shown (row_at (symbol_row o s) (syms_of (items_at o s 0)) i))
+        (λ o. shown_report (indexed_row (symbol_row o s) (syms_of (items_at o s 0)) i))
         result elf.old elf.new outputs.old outputs.new }
 {
     let s = table.section;
@@ -126,14 +126,14 @@ fn show_row_at<S: Source, O: Sink, E: Sink>(
 /// Shows a row for each symbol of a table, one after the other.
 fn show_each_row<S: Source, O: Sink, E: Sink>(
     elf: &mut Elf<S>,
-    table: Table,
+    table: ItemTable,
     end: Option<u64>,
     outputs: &mut Outputs<'_, O, E>,
 ) -> Result<bool, Stop>
     requires rows { HasRows kinds.Sym syms_of SymbolsFit elf.old.o table }
     requires end { IsTrue elf.old.told → IfSome end (EndsAt elf.old.o table.links.linked.0) }
     ensures { let s = table.section.0 in ReportsElf S.Source O.Sink E.Sink
-        (λ o. shown (numbered_lines (symbol_row o s) 0 (syms_of (items_at o s 0))))
+        (λ o. shown_report (numbered_lines (symbol_row o s) 0 (syms_of (items_at o s 0))))
         result elf.old elf.new outputs.old outputs.new }
 {
     let mut refused = false;
@@ -144,17 +144,17 @@ fn show_each_row<S: Source, O: Sink, E: Sink>(
     Ok(refused)
 }
 
-/// Shows a row for each symbol of a table, from the bytes where these are at hand.
+/// Shows a row for each symbol of a table, from the bytes where these are in memory.
 fn show_each_symbol<S: Source, O: Sink, E: Sink>(
     elf: &mut Elf<S>,
-    table: Table,
+    table: ItemTable,
     end: Option<u64>,
     outputs: &mut Outputs<'_, O, E>,
 ) -> Result<bool, Stop>
     requires rows { HasRows kinds.Sym syms_of SymbolsFit elf.old.o table }
     requires end { IsTrue elf.old.told → IfSome end (EndsAt elf.old.o table.links.linked.0) }
     ensures { let s = table.section.0 in ReportsElf S.Source O.Sink E.Sink
-        (λ o. shown (numbered_lines (symbol_row o s) 0 (syms_of (items_at o s 0))))
+        (λ o. shown_report (numbered_lines (symbol_row o s) 0 (syms_of (items_at o s 0))))
         result elf.old elf.new outputs.old outputs.new }
 {
     match symbols_at_hand(elf, table) {
@@ -165,7 +165,7 @@ fn show_each_symbol<S: Source, O: Sink, E: Sink>(
 
 /// Reads the strings of the symbols of a table and the symbols, where there are any, and tells
 /// where the strings end, where that can be told.
-fn load_symbols<S: Source>(elf: &mut Elf<S>, table: Table) -> Result<Option<u64>, Stop>
+fn load_symbols<S: Source>(elf: &mut Elf<S>, table: ItemTable) -> Result<Option<u64>, Stop>
     ensures end { IsTrue elf.old.told → IfOk result
         (λ end. IfSome end (EndsAt elf.old.o table.links.linked.0)) }
     ensures reads { ReadsElf S.Source result elf.old elf.new }
@@ -178,7 +178,7 @@ fn load_symbols<S: Source>(elf: &mut Elf<S>, table: Table) -> Result<Option<u64>
     Ok(end)
 }
 
-impl Row for Sym {
+impl TableRow for Sym {
     ghost title = { symbols_title };
 
     ghost line = { symbol_row };
@@ -190,10 +190,10 @@ impl Row for Sym {
         "Symbols of section "
     }
 
-    fn links<S: Source>(elf: &Elf<S>, s: ScnId) -> Links {
+    fn links<S: Source>(elf: &Elf<S>, s: ScnId) -> SectionLinks {
         let links = links_of(elf, s);
         let indexes = shndx_table(elf, s);
-        Links {
+        SectionLinks {
             linked: links.linked,
             strings: links.strings,
             indexes,
@@ -205,17 +205,17 @@ impl Row for Sym {
         elf: &mut Elf<S>,
         s: ScnId,
         i: u64,
-        links: Links,
+        links: SectionLinks,
         outputs: &mut Outputs<'_, O, E>,
     ) -> Result<bool, Stop> {
         show_row(elf, s, links, None, i, self, outputs)
     }
 }
 
-impl Rows for Sym {
+impl TableRows for Sym {
     fn show_rows<S: Source, O: Sink, E: Sink>(
         elf: &mut Elf<S>,
-        table: Table,
+        table: ItemTable,
         outputs: &mut Outputs<'_, O, E>,
     ) -> Result<bool, Stop> {
         match load_symbols(elf, table) {

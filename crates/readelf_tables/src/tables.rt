@@ -9,37 +9,37 @@ ghost use Rattle.elf_object.specs.Object.{Object};
 ghost use Rattle.elf_object.specs.Answers.{items_at, lend_refusal};
 ghost use Rattle.elf_object.specs.Strings as strings;
 ghost use Rattle.tool_output.specs.Lines.{numbered_lines};
-ghost use Rattle.tool_output.specs.Reports.{shown};
-ghost use Rattle.object_output.specs.Steps.{ReportsElf};
-ghost use Rattle.readelf_rows.specs.declared.links.Links.{Links as TheLinks};
+ghost use Rattle.tool_output.specs.Reports.{shown_report};
+ghost use Rattle.tool_objects.specs.Steps.{ReportsElf};
+ghost use Rattle.readelf_rows.specs.declared.links.SectionLinks.{SectionLinks as TheLinks};
 ghost use Rattle.readelf_rows.specs.Data.{if_told};
-ghost use Rattle.readelf_tables.specs.Tables.{table_title, table_lines, row_at, HasRows};
+ghost use Rattle.readelf_tables.specs.Tables.{table_title, item_table_report, indexed_row, HasRows};
 
 use elf_outside::{Sink, Source};
 use elf_types::{DataId, ElfError, Octets, ScnId, put_decimal, put_text};
-use object_output::prelude::{Elf, Item, item_count};
-use object_output::{item_there, section_name};
-use readelf_rows::{Links, Table, put_data_title};
+use readelf_rows::{ItemTable, SectionLinks, put_data_title};
+use tool_objects::prelude::{Elf, Item, item_count};
+use tool_objects::{item_there, section_name_or_stop};
 use tool_output::{FileName, Line, Message, Outputs, Stop};
 
 /// An item that has a row in a table.
 ///
-/// - `title` is what stands before the section's number in its title.
+/// - `title` is what is before the section's number in its title.
 /// - `line` is the row of an item of a section, by the object, the section and the item's index.
 /// - `fits` says of the links of a section what its rows need.
-pub trait Row: Item {
+pub trait TableRow: Item {
     ghost title: { List ℕ };
 
     ghost line: { Object → ℕ → ℕ → Self → List ℕ };
 
     ghost fits: { Object → ℕ → TheLinks → Type 0 };
 
-    /// What stands before the section's number in its title.
+    /// What is before the section's number in its title.
     fn title() -> &'static str
         ensures { result.now ≡ title };
 
     /// The links of a section that is there, as its rows need them.
-    fn links<S: Source>(elf: &Elf<S>, s: ScnId) -> Links
+    fn links<S: Source>(elf: &Elf<S>, s: ScnId) -> SectionLinks
         requires { s.0 < length elf.now.o.sections }
         ensures { fits elf.now.o s.0 result };
 
@@ -49,33 +49,33 @@ pub trait Row: Item {
         elf: &mut Elf<S>,
         s: ScnId,
         i: u64,
-        links: Links,
+        links: SectionLinks,
         outputs: &mut Outputs<'_, O, E>,
     ) -> Result<bool, Stop>
         requires section { s.0 < length elf.old.o.sections }
         requires fits { fits elf.old.o s.0 links }
-        ensures { ReportsElf S.Source O.Sink E.Sink (λ o. shown (line o s.0 i self))
+        ensures { ReportsElf S.Source O.Sink E.Sink (λ o. shown_report (line o s.0 i self))
             result elf.old elf.new outputs.old outputs.new };
 }
 
 /// An item whose rows are shown table by table.
-pub trait Rows: Row {
+pub trait TableRows: TableRow {
     /// Shows a row for each item of a section.
     fn show_rows<S: Source, O: Sink, E: Sink>(
         elf: &mut Elf<S>,
-        table: Table,
+        table: ItemTable,
         outputs: &mut Outputs<'_, O, E>,
     ) -> Result<bool, Stop>
         requires { HasRows Self.kind Self.list_of Self.fits elf.old.o table }
         ensures { let s = table.section.0 in ReportsElf S.Source O.Sink E.Sink
-            (λ o. shown (numbered_lines (Self.line o s) 0 (Self.list_of (items_at o s 0))))
+            (λ o. shown_report (numbered_lines (Self.line o s) 0 (Self.list_of (items_at o s 0))))
             result elf.old elf.new outputs.old outputs.new };
 }
 
 /// The title of a table.
 #[derive(Clone, Copy)]
 struct TableTitle<'a> {
-    /// What stands before the section's number.
+    /// What is before the section's number.
     title: &'static str,
     /// The section.
     section: ScnId,
@@ -107,10 +107,10 @@ fn show_title<S: Source, O: Sink, E: Sink>(
 ) -> Result<bool, Stop>
     requires { s.0 < length elf.old.o.sections }
     ensures { ReportsElf S.Source O.Sink E.Sink
-        (λ o. shown (table_title title.now s.0 (strings.section_name o s.0) count))
+        (λ o. shown_report (table_title title.now s.0 (strings.section_name o s.0) count))
         result elf.old elf.new outputs.old outputs.new }
 {
-    match section_name(elf, s) {
+    match section_name_or_stop(elf, s) {
         Ok(name) => outputs.show(&TableTitle {
             title,
             section: s,
@@ -122,16 +122,17 @@ fn show_title<S: Source, O: Sink, E: Sink>(
 }
 
 /// Shows the row of an item that is there.
-fn show_row<T: Row, S: Source, O: Sink, E: Sink>(
+fn show_row<T: TableRow, S: Source, O: Sink, E: Sink>(
     elf: &mut Elf<S>,
-    table: Table,
+    table: ItemTable,
     i: u64,
     outputs: &mut Outputs<'_, O, E>,
 ) -> Result<bool, Stop>
     requires rows { HasRows T.kind T.list_of T.fits elf.old.o table }
     requires there { i < table.count }
     ensures { ReportsElf S.Source O.Sink E.Sink
-        (λ o. shown (row_at (T.line o table.section.0) (T.list_of (items_at o table.section.0 0)) i))
+        (λ o. shown_report (indexed_row (T.line o table.section.0)
+        (T.list_of (items_at o table.section.0 0)) i))
         result elf.old elf.new outputs.old outputs.new }
 {
     let s = table.section;
@@ -146,14 +147,14 @@ fn show_row<T: Row, S: Source, O: Sink, E: Sink>(
 }
 
 /// Shows a row for each item of a section, one after the other.
-pub fn show_each<T: Row, S: Source, O: Sink, E: Sink>(
+pub fn show_each<T: TableRow, S: Source, O: Sink, E: Sink>(
     elf: &mut Elf<S>,
-    table: Table,
+    table: ItemTable,
     outputs: &mut Outputs<'_, O, E>,
 ) -> Result<bool, Stop>
     requires { HasRows T.kind T.list_of T.fits elf.old.o table }
     ensures { let s = table.section.0 in ReportsElf S.Source O.Sink E.Sink
-        (λ o. shown (numbered_lines (T.line o s) 0 (T.list_of (items_at o s 0))))
+        (λ o. shown_report (numbered_lines (T.line o s) 0 (T.list_of (items_at o s 0))))
         result elf.old elf.new outputs.old outputs.new }
 {
     let mut refused = false;
@@ -165,14 +166,14 @@ pub fn show_each<T: Row, S: Source, O: Sink, E: Sink>(
 }
 
 /// Shows the title of a section, and a row for each of its items.
-fn show_table_lines<T: Rows, S: Source, O: Sink, E: Sink>(
+fn show_table_lines<T: TableRows, S: Source, O: Sink, E: Sink>(
     elf: &mut Elf<S>,
-    table: Table,
+    table: ItemTable,
     outputs: &mut Outputs<'_, O, E>,
 ) -> Result<bool, Stop>
     requires { HasRows T.kind T.list_of T.fits elf.old.o table }
     ensures { let s = table.section.0 in ReportsElf S.Source O.Sink E.Sink
-        (λ o. table_lines T.title T.line o s (T.list_of (items_at o s 0)))
+        (λ o. item_table_report T.title T.line o s (T.list_of (items_at o s 0)))
         result elf.old elf.new outputs.old outputs.new }
 {
     let titled = show_title(T::title(), elf, table.section, table.count, outputs)?;
@@ -180,10 +181,10 @@ fn show_table_lines<T: Rows, S: Source, O: Sink, E: Sink>(
     Ok(titled | rows)
 }
 
-/// Shows the table of a section that is there, or refuses the object for that section where its
+/// Shows the table of a section that is there, or rejects the object for that section where its
 /// items can not be told. A list of the items has as many as are counted. What the rows name is
 /// looked for once.
-pub fn show_table<T: Rows, S: Source, O: Sink, E: Sink>(
+pub fn show_table<T: TableRows, S: Source, O: Sink, E: Sink>(
     name: &FileName<'_>,
     elf: &mut Elf<S>,
     s: ScnId,
@@ -194,7 +195,7 @@ pub fn show_table<T: Rows, S: Source, O: Sink, E: Sink>(
         length (T.list_of items) ≡ items_count items }
     ensures { ReportsElf S.Source O.Sink E.Sink (λ o.
         if_told name.now (lend_refusal o T.kind s.0 0)
-        (table_lines T.title T.line o s.0 (T.list_of (items_at o s.0 0))))
+        (item_table_report T.title T.line o s.0 (T.list_of (items_at o s.0 0))))
         result elf.old elf.new outputs.old outputs.new }
 {
     let d = DataId {
@@ -204,7 +205,7 @@ pub fn show_table<T: Rows, S: Source, O: Sink, E: Sink>(
     match item_count::<S, T>(elf, d) {
         Ok(count) => {
             let links = T::links(elf, s);
-            let table = Table {
+            let table = ItemTable {
                 section: s,
                 count,
                 links,

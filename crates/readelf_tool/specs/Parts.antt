@@ -5,7 +5,7 @@ use Rattle.elf_object.specs.Object.{Object, header_of}
 use Rattle.readelf_tool.specs.declared.options.ReadelfParts.{ReadelfParts}
 use Rattle.tool_output.specs.Names.{Name}
 use Rattle.tool_output.specs.Reports.{Report, no_report, reports_of}
-use Rattle.object_output.specs.Looks.{Looks}
+use Rattle.tool_objects.specs.Looks.{SectionLooks}
 use Rattle.readelf_tool.specs.declared.parts.Letter.{Letter}
 use Rattle.readelf_tool.specs.declared.parts.Letter.TheVariants.{Header, Segments, Sections, Symbols, Relocations, Dynamic, Notes, Versions}
 use Rattle.readelf_headers.specs.Header.{header_report}
@@ -80,5 +80,5 @@ shows_sections parts = list_any (λ letter. goes_over parts letter) letters
 unfoldable pub passes_of : ReadelfParts → ℕ
 passes_of parts = count_by (goes_over parts) letters
 
-abbrev pub readelf_looks : ReadelfParts → Looks
+abbrev pub readelf_looks : ReadelfParts → SectionLooks
 readelf_looks parts = record { reads = shows_sections parts; passes = passes_of parts }

@@ -1,6 +1,6 @@
-//! The parts that the letters of readelf ask for.
+//! The parts that the options of readelf ask for.
 
-/// The parts that readelf shows, one letter each.
+/// The parts that readelf shows, one option each.
 #[derive(Clone, Copy, PartialEq, Eq)]
 pub struct ReadelfParts {
     /// `-h`: the ELF header.

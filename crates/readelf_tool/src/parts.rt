@@ -1,20 +1,20 @@
-//! What readelf shows of an object: the parts that are asked for by their letters, in their order.
+//! What readelf shows of an object: the parts that are asked for by options, in their order.
 
 ghost use Rattle.std.specs.Prelude.{◌≡◌, codes, false, if◌then◌else◌};
 ghost use Rattle.tool_output.specs.Names.{file_name};
-ghost use Rattle.object_output.specs.Steps.{ReportsOver};
-ghost use Rattle.object_output.specs.Shows.{ShowsOver};
+ghost use Rattle.tool_objects.specs.Steps.{ReportsOver};
+ghost use Rattle.tool_objects.specs.Shows.{ShowsOver};
 ghost use Rattle.readelf_tool.specs.Parts.{is_asked, reads_sections, letter_report, letter_part, readelf_report, shows_sections, goes_over, passes_of, readelf_looks};
 
 use crate::options::ReadelfParts;
 use crate::versions::show_versions;
 use elf_outside::{Sink, Source};
-use object_output::prelude::Elf;
-use object_output::{ObjectTool, show_object};
 use readelf_chains::show_notes;
 use readelf_headers::{show_header, show_sections, show_segments};
 use readelf_tables::{show_dynamic, show_relocations, show_symbols};
 use std::alloc::Global;
+use tool_objects::prelude::Elf;
+use tool_objects::{ObjectTool, show_object};
 use tool_output::{FileName, Outputs, Stop};
 
 /// A letter of readelf.
@@ -68,7 +68,7 @@ fn is_asked(parts: &ReadelfParts, letter: Letter) -> bool
 }
 
 /// Shows the part of a letter. That of the header and of the program headers reads nothing; each of
-/// the others goes over the sections once. The answer tells whether something was refused.
+/// the others goes over the sections once. It returns whether something was rejected.
 fn show_letter<S: Source, O: Sink, E: Sink>(
     letter: Letter,
     name: &FileName<'_>,
@@ -112,7 +112,7 @@ fn show_part<S: Source, O: Sink, E: Sink>(
 }
 
 /// Shows the parts of an object that are asked for, in the order of `LETTERS`. Where no part reads
-/// sections, nothing is read. The answer tells whether something was refused.
+/// sections, nothing is read. It returns whether something was rejected.
 pub fn show_parts<S: Source, O: Sink, E: Sink>(
     name: &FileName<'_>,
     elf: &mut Elf<S>,
@@ -160,8 +160,8 @@ impl ObjectTool for ReadelfTool<'_> {
 }
 
 /// Shows the parts of an object that are asked for, as the command readelf does, on two outputs.
-/// Messages name it by `name`. The answer tells whether something was refused. It stops by `Read`
-/// where a read of the source failed, by `Write` where a put failed, and by `Memory`.
+/// Messages name it by `name`. It returns whether something was rejected. It stops by `Read` where
+/// a read of the source failed, by `Write` where a put failed, and by `Memory`.
 pub fn readelf<S: Source, O: Sink, E: Sink>(
     alloc: Global,
     elf: &mut Elf<S>,

@@ -2,16 +2,16 @@
 //! definitions, and the needs.
 
 ghost use Rattle.std.specs.Prelude.{◌<◌};
-ghost use Rattle.object_output.specs.Steps.{ReportsOver};
+ghost use Rattle.tool_objects.specs.Steps.{ReportsOver};
 ghost use Rattle.readelf_tool.specs.Versions.{versions_of_section, holds_versions, versions_report};
 
 use elf_outside::{Sink, Source};
 use elf_types::ScnId;
 use elf_types::constants::{SHT_GNU_VERDEF, SHT_GNU_VERNEED, SHT_GNU_VERSYM};
-use object_output::prelude::Elf;
 use readelf_chains::{show_definitions, show_needs};
 use readelf_rows::{SectionPart, each_plain, is_of_type};
 use readelf_tables::show_indexes;
+use tool_objects::prelude::Elf;
 use tool_output::{FileName, Outputs, Stop};
 
 /// The part of the version sections.

@@ -17,19 +17,19 @@ use Rattle.elf_object.specs.Calls.{Call, data_answer, replace_refusal, unfit_ite
 use Rattle.elf_object.specs.Calls as calls
 use Rattle.elf_object.proofs.AnswerLaws.{answered_refusal}
 use Rattle.elf_object.proofs.RefusalLaws.{Refuses, test_refuses, first_refuses}
-use Rattle.object_writing.specs.elf_descriptor.State.{State}
-use Rattle.object_writing.specs.elf_descriptor.Edits.{stepped}
-use Rattle.object_writing.specs.elf_descriptor.Reads.{Looks}
-use Rattle.object_writing.specs.elf_descriptor.Rests.{GivesItems}
+use Rattle.tool_files.specs.elf_descriptor.State.{State}
+use Rattle.tool_files.specs.elf_descriptor.Edits.{stepped}
+use Rattle.tool_files.specs.elf_descriptor.Reads.{Looks}
+use Rattle.tool_files.specs.elf_descriptor.Rests.{GivesItems}
 use Rattle.elf_object.specs.Sections.{edited}
 use Rattle.hash_model.specs.BuiltHashes.{hash_refusal, gnu_order_answer}
 use Rattle.hash_model.specs.Listed.{listed_names}
 use Rattle.hash_model.specs.Reordered.{reordered, reorder_refusal}
-use Rattle.command_objects.specs.Rehashed.{shape_of, nbucket_of, with_gnu, with_sysv}
+use Rattle.rebuild_model.specs.Rehashed.{shape_of, nbucket_of, with_gnu, with_sysv}
 use Rattle.hash_build.specs.Rows.{IsOrder}
 use Rattle.hash_build.proofs.CallLaws.{lend_of, counted}
 use Rattle.hash_order.specs.Calls.{Reorders}
-use Rattle.rehash_tool.specs.Steps.{kept_shape, kept_nbucket, shaped_gnu, built_sysv, Gives, Turns, IsTurned}
+use Rattle.rehash_tool.specs.Steps.{kept_shape, kept_nbucket, shaped_gnu, built_sysv, Gives, TurnsObject, IsTurned}
 use Rattle.rehash_tool.proofs.StepLemmas.{refusal_given, ok_passed, keeps_none, keeps_reads, keeps_state}
 
 -- what is found in a section's items
@@ -87,7 +87,7 @@ module _ {S : Type 0} (g : Ghosts S) where
       (old new : State S)
       → Answers true w r (answered (reorder_refusal old.o s) (tt {0}))
       → Reorders g s order r old new
-      → Turns g (answered (reorder_refusal old.o s) (reordered old.o s order)) r old new
+      → TurnsObject g (answered (reorder_refusal old.o s) (reordered old.o s order)) r old new
   reorder_turns w s order r old new came done = record {
     keeps = record {
       told = done.told;
@@ -125,7 +125,7 @@ module _ {S : Type 0} (g : Ghosts S) where
   pub put_done : (n : ℕ) (l : Items) (old new : State S)
       → ◌≡◌ {A = Result (Unit {0}) (Items × ElfError)} (Ok tt) (handing_back l (put old.o n l))
       → new ≡ stepped (calls.replace n 0 l) old
-      → Turns {T = Unit {0}} g (edited (calls.replace n 0 l) old.o) (Ok tt) old new
+      → TurnsObject {T = Unit {0}} g (edited (calls.replace n 0 l) old.o) (Ok tt) old new
   put_done n l old new came is = record {
     keeps = keeps_state g (Ok tt) old old new (ap (λ (x : State S). x.told) is)
         (ap (λ (x : State S). x.source) is) (keeps_none g (Ok tt) old tt);
@@ -162,9 +162,9 @@ module _ {S : Type 0} (g : Ghosts S) where
   pub put_refused : (n : ℕ) (l back : Items) (e : ElfError) (old new : State S)
       → ◌≡◌ {A = Result (Unit {0}) (Items × ElfError)} (Err (back, e))
       (handing_back l (put old.o n l))
-      → new ≡ old → Turns {T = Unit {0}} g (edited (calls.replace n 0 l) old.o) (Err e) old new
+      → new ≡ old → TurnsObject {T = Unit {0}} g (edited (calls.replace n 0 l) old.o) (Err e) old new
   put_refused n l back e old new came is =
-      subst (λ (x : State S). Turns {T = Unit {0}} g (edited (calls.replace n 0 l) old.o) (Err e)
+      subst (λ (x : State S). TurnsObject {T = Unit {0}} g (edited (calls.replace n 0 l) old.o) (Err e)
       old x) (sym is) (record {
         keeps = keeps_none g (Err e) old (read_rose_refused (Unit {0}) e _ _
             (subst (λ (r : Option ElfError). Refuses r) refused (put_refuses old.o n l)));

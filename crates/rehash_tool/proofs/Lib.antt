@@ -1,5 +1,5 @@
-pub mod SectionLemmas
-pub mod StepLemmas
-pub mod CallLemmas
-pub mod RehashLemmas
-pub mod WriteLemmas
+mod SectionLemmas
+mod StepLemmas
+mod CallLemmas
+mod RehashLemmas
+mod WriteLemmas

@@ -12,11 +12,11 @@ use Rattle.elf_object.specs.Answers.{part_refusal}
 use Rattle.elf_object.specs.Steps.{with_layout, with_flags}
 use Rattle.elf_object.specs.Calls.{flag_refusal}
 use Rattle.elf_object.specs.Calls as calls
-use Rattle.object_writing.specs.elf_descriptor.State.{State}
-use Rattle.object_writing.specs.elf_descriptor.Edits.{flagged}
-use Rattle.command_objects.specs.Rehashed.{dynamic_symbols, gnu_section, sysv_section, laid_out, or_fault, RehashFault, rehashed, rehashed_at}
-use Rattle.command_objects.specs.Rehashed.RehashFault.{NoDynamicHash, Refused}
-use Rattle.rehash_tool.specs.Steps.{both_hashes, Turns}
+use Rattle.tool_files.specs.elf_descriptor.State.{State}
+use Rattle.tool_files.specs.elf_descriptor.Edits.{flagged}
+use Rattle.rebuild_model.specs.Rehashed.{dynamic_symbols, gnu_section, sysv_section, laid_out, or_fault, RehashFault, rehashed, rehashed_at}
+use Rattle.rebuild_model.specs.Rehashed.RehashFault.{NoDynamicHash, Refused}
+use Rattle.rehash_tool.specs.Steps.{both_hashes, TurnsObject}
 use Rattle.rehash_tool.proofs.StepLemmas.{keeps_state, keeps_ok}
 
 -- ---- The layout
@@ -44,8 +44,8 @@ layout_allowed o n e came =
 
 pub turns_laid_out : {S T : Type 0} (g : Ghosts S) (stated : Result Object ElfError) (x : T)
     (old mid new : State S) → new ≡ record mid { o = laid_out mid.o }
-    → Turns {T = T} g stated (Ok x) old mid
-    → Turns {T = Unit {0}} g (stated >>= λ q. Ok (laid_out q)) (Ok tt) old new
+    → TurnsObject {T = T} g stated (Ok x) old mid
+    → TurnsObject {T = Unit {0}} g (stated >>= λ q. Ok (laid_out q)) (Ok tt) old new
 turns_laid_out {S} g stated x old mid new is turns = record {
   keeps = keeps_state g (Ok tt) old mid new (ap (λ (y : State S). y.told) is)
       (ap (λ (y : State S). y.source) is) (keeps_ok g x tt old mid turns.keeps);

@@ -3,7 +3,7 @@ use Rattle.std.proofs.Common.{◌≡◌, ℕ, ◌<◌, Bool, true, false, cond, 
 use Rattle.std.specs.Prelude.{nat_lt, position}
 use Rattle.elf_types.specs.declared.records.Shdr.{Shdr}
 use Rattle.rehash_tool.specs.declared.sections.Sought.{Sought}
-use Rattle.rehash_tool.specs.Sections.{is_sought}
+use Rattle.rehash_tool.specs.Sections.{is_matching_section}
 use Rattle.std.proofs.lemmas.Bool.{cond-true, cond-false, lt-ltb, le-ltb}
 use Rattle.std.proofs.lemmas.List.Sums.{position_or_len_is}
 
@@ -28,6 +28,6 @@ module _ {A : Type 0} (test : A → Bool) (l : List A) (d : A) where
 
 -- what the header that is looked at says is what the present one says
 pub sought_is : (sought : Sought) (h present : Shdr) (said answer : Bool) → h ≡ present
-    → said ≡ is_sought sought h → said ≡ answer → is_sought sought present ≡ answer
+    → said ≡ is_matching_section sought h → said ≡ answer → is_matching_section sought present ≡ answer
 sought_is sought h present said answer same is came =
-    sym (is ∙ ap (λ (x : Shdr). is_sought sought x) same) ∙ came
+    sym (is ∙ ap (λ (x : Shdr). is_matching_section sought x) same) ∙ came

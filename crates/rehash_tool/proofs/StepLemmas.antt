@@ -9,9 +9,9 @@ use Rattle.elf_outside.specs.Asks.{ReadRose}
 use Rattle.elf_outside.proofs.AskLemmas.{read_rose_before, read_rose_on}
 use Rattle.elf_object.specs.Words.{Wants, Answers, AnswersRead, Refusals}
 use Rattle.elf_object.specs.Object.{Object}
-use Rattle.object_writing.specs.elf_descriptor.State.{State}
-use Rattle.object_writing.specs.elf_descriptor.Reads.{Reads}
-use Rattle.rehash_tool.specs.Steps.{Keeps, Gives, Turns, IsTurned}
+use Rattle.tool_files.specs.elf_descriptor.State.{State}
+use Rattle.tool_files.specs.elf_descriptor.Reads.{Reads}
+use Rattle.rehash_tool.specs.Steps.{KeepsSource, Gives, TurnsObject, IsTurned}
 
 -- ---- Answers
 
@@ -49,7 +49,7 @@ ok_passed (Some e) v is = cc
 
 module _ {S : Type 0} (g : Ghosts S) where
   pub keeps_none : {T : Type 0} (r : Result T ElfError) (state : State S)
-      → ReadRose r (g.faults state.source) (g.faults state.source) → Keeps g r state state
+      → ReadRose r (g.faults state.source) (g.faults state.source) → KeepsSource g r state state
   keeps_none r state read = record {
     told = refl;
     leaves = record { same_len = refl; same_bytes = refl; same_rest = refl };
@@ -58,7 +58,7 @@ module _ {S : Type 0} (g : Ghosts S) where
   }
 
   pub keeps_both : {T U : Type 0} (r : Result T ElfError) (q : Result U ElfError)
-      (old mid new : State S) → Keeps g r old mid → Keeps g q mid new → Keeps g q old new
+      (old mid new : State S) → KeepsSource g r old mid → KeepsSource g q mid new → KeepsSource g q old new
   keeps_both r q old mid new first second = record {
     told = second.told ∙ first.told;
     leaves = record {
@@ -75,7 +75,7 @@ module _ {S : Type 0} (g : Ghosts S) where
   pub keeps_reads : {T U : Type 0} (r : Result T ElfError) (q : Result U ElfError)
       (old new : State S) (a b : List ℕ) (n : ℕ)
       → ReadRose q (g.faults old.source) (g.faults new.source) → Reads g r old new a b n
-      → Keeps g q old new
+      → KeepsSource g q old new
   keeps_reads r q old new a b n read reads = record {
     told = reads.told;
     leaves = reads.source.leaves;
@@ -84,7 +84,7 @@ module _ {S : Type 0} (g : Ghosts S) where
   }
 
   pub keeps_end : {T U : Type 0} (e : ElfError) (old new : State S)
-      → Keeps {T = T} g (Err e) old new → Keeps {T = U} g (Err e) old new
+      → KeepsSource {T = T} g (Err e) old new → KeepsSource {T = U} g (Err e) old new
   keeps_end {T} {U} e old new keeps = record {
     told = keeps.told;
     leaves = keeps.leaves;
@@ -93,7 +93,7 @@ module _ {S : Type 0} (g : Ghosts S) where
   }
 
   pub keeps_ok : {T U : Type 0} (x : T) (y : U) (old new : State S)
-      → Keeps {T = T} g (Ok x) old new → Keeps {T = U} g (Ok y) old new
+      → KeepsSource {T = T} g (Ok x) old new → KeepsSource {T = U} g (Ok y) old new
   keeps_ok x y old new keeps = record {
     told = keeps.told;
     leaves = keeps.leaves;
@@ -103,7 +103,7 @@ module _ {S : Type 0} (g : Ghosts S) where
 
   -- a later state of the same source
   pub keeps_state : {T : Type 0} (r : Result T ElfError) (old new later : State S)
-      → later.told ≡ new.told → later.source ≡ new.source → Keeps g r old new → Keeps g r old later
+      → later.told ≡ new.told → later.source ≡ new.source → KeepsSource g r old new → KeepsSource g r old later
   keeps_state r old new later told source keeps = record {
     told = told ∙ keeps.told;
     leaves = record {
@@ -115,7 +115,7 @@ module _ {S : Type 0} (g : Ghosts S) where
     read = subst (λ (s : S). ReadRose r (g.faults old.source) (g.faults s)) (sym source) keeps.read;
   }
 
-  told_then : {T : Type 0} (r : Result T ElfError) (old mid : State S) → Keeps g r old mid
+  told_then : {T : Type 0} (r : Result T ElfError) (old mid : State S) → KeepsSource g r old mid
       → IsTrue old.told → IsTrue mid.told
   told_then r old mid keeps told = subst (λ (b : Bool). IsTrue b) (sym keeps.told) told
 
@@ -132,8 +132,8 @@ module _ {S : Type 0} (g : Ghosts S) where
   module _ {A T : Type 0} (see : T → A) (stated : Result A ElfError)
       (next : A → Result Object ElfError) where
     pub turns_then : {U : Type 0} (x : T) (q : Result U ElfError) (old mid new : State S)
-        → Gives g see stated (Ok x) old mid → Turns g (next (see x)) q mid new
-        → Turns g (stated >>= next) q old new
+        → Gives g see stated (Ok x) old mid → TurnsObject g (next (see x)) q mid new
+        → TurnsObject g (stated >>= next) q old new
     turns_then x q old mid new first second = record {
       keeps = keeps_both (Ok x) q old mid new first.keeps second.keeps;
       turned = λ told. subst (λ (r : Result A ElfError). IsTurned q (r >>= next) new.o)
@@ -141,7 +141,7 @@ module _ {S : Type 0} (g : Ghosts S) where
     }
 
     pub turns_end : {U : Type 0} (e : ElfError) (old new : State S)
-        → Gives {T = T} g see stated (Err e) old new → Turns {T = U} g (stated >>= next) (Err e)
+        → Gives {T = T} g see stated (Err e) old new → TurnsObject {T = U} g (stated >>= next) (Err e)
         old new
     turns_end e old new first = record {
       keeps = keeps_end e old new first.keeps;
@@ -151,8 +151,8 @@ module _ {S : Type 0} (g : Ghosts S) where
   -- a step that leaves an object, and then another
   module _ (stated : Result Object ElfError) (next : Object → Result Object ElfError) where
     pub object_then : {T U : Type 0} (x : T) (q : Result U ElfError) (old mid new : State S)
-        → Turns g stated (Ok x) old mid → Turns g (next mid.o) q mid new
-        → Turns g (stated >>= next) q old new
+        → TurnsObject g stated (Ok x) old mid → TurnsObject g (next mid.o) q mid new
+        → TurnsObject g (stated >>= next) q old new
     object_then x q old mid new first second = record {
       keeps = keeps_both (Ok x) q old mid new first.keeps second.keeps;
       turned = λ told. subst (λ (r : Result Object ElfError). IsTurned q (r >>= next) new.o)
@@ -160,25 +160,25 @@ module _ {S : Type 0} (g : Ghosts S) where
     }
 
     pub object_end : {T U : Type 0} (e : ElfError) (old new : State S)
-        → Turns {T = T} g stated (Err e) old new → Turns {T = U} g (stated >>= next) (Err e) old new
+        → TurnsObject {T = T} g stated (Err e) old new → TurnsObject {T = U} g (stated >>= next) (Err e) old new
     object_end e old new first = record {
       keeps = keeps_end e old new first.keeps;
       turned = λ told. refused_then stated next (stated_refusal e) (first.turned told);
     }
 
   -- where there is nothing to do
-  pub turns_none : (state : State S) → Turns {T = Unit {0}} g (Ok state.o) (Ok tt) state state
+  pub turns_none : (state : State S) → TurnsObject {T = Unit {0}} g (Ok state.o) (Ok tt) state state
   turns_none state = record { keeps = keeps_none (Ok (tt {0})) state tt; turned = λ told. refl }
 
   -- the same under another name
   pub turns_as : {T : Type 0} (a b : Result Object ElfError) (r : Result T ElfError)
-      (old new : State S) → a ≡ b → Turns g a r old new → Turns g b r old new
+      (old new : State S) → a ≡ b → TurnsObject g a r old new → TurnsObject g b r old new
   turns_as a b r old new same turns =
-      subst (λ (x : Result Object ElfError). Turns g x r old new) same turns
+      subst (λ (x : Result Object ElfError). TurnsObject g x r old new) same turns
 
   -- the object was found to be another name of the one that it is
   pub turns_of : {T : Type 0} (stated : Object → Result Object ElfError) (o : Object)
-      (r : Result T ElfError) (old new : State S) → old.o ≡ o → Turns g (stated old.o) r old new
-      → Turns g (stated o) r old new
+      (r : Result T ElfError) (old new : State S) → old.o ≡ o → TurnsObject g (stated old.o) r old new
+      → TurnsObject g (stated o) r old new
   turns_of stated o r old new same turns = turns_as (stated old.o) (stated o) r old new
       (ap stated same) turns

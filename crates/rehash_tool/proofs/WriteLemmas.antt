@@ -7,21 +7,21 @@ use Rattle.elf_outside.specs.declared.sources.Source.{Ghosts as SourceGhosts}
 use Rattle.elf_outside.specs.declared.sinks.Sink.{Ghosts as SinkGhosts}
 use Rattle.elf_outside.specs.declared.file_sets.Files.{Ghosts as FilesGhosts}
 use Rattle.elf_object.specs.Object.{Object}
-use Rattle.object_writing.specs.elf_descriptor.State.{State}
-use Rattle.command_objects.specs.Rehashed.{RehashFault, rehashed}
-use Rattle.command_objects.specs.Rehashed.RehashFault.{Refused}
+use Rattle.tool_files.specs.elf_descriptor.State.{State}
+use Rattle.rebuild_model.specs.Rehashed.{RehashFault, rehashed}
+use Rattle.rebuild_model.specs.Rehashed.RehashFault.{Refused}
 use Rattle.tool_output.specs.declared.stops.Stop.{Stop}
 use Rattle.tool_output.specs.declared.outputs.Outputs.{Outputs}
 use Rattle.tool_output.specs.Steps.{LeavesOutputs}
 use Rattle.tool_output.specs.Names.{file_name}
 use Rattle.tool_output.specs.Reports.{Reports, refusal_report}
 use Rattle.tool_output.specs.Made.{Done, Complaint, complaint, written_outcome}
-use Rattle.command_outcomes.specs.object_output.Refusals.{Refuses}
-use Rattle.command_outcomes.specs.object_output.Steps.{SourceRose}
-use Rattle.command_outcomes.specs.Copy.{rehash_text}
-use Rattle.object_writing.specs.Writes.{WritesFile}
-use Rattle.object_writing.proofs.WriteLemmas.{outputs_leave, said_done, refused_writes, written_then}
-use Rattle.rehash_tool.specs.Steps.{Rehashes, IsRehashed}
+use Rattle.elfkit_outcomes.specs.tool_objects.Refusals.{ReportsRefusal}
+use Rattle.elfkit_outcomes.specs.tool_objects.Steps.{SourceRose}
+use Rattle.elfkit_outcomes.specs.Copy.{rehash_text}
+use Rattle.tool_files.specs.ElfImages.Writes.{WritesFile}
+use Rattle.tool_files.proofs.elf_images.WriteLemmas.{outputs_leave, said_done, refused_writes, written_then}
+use Rattle.rehash_tool.specs.Steps.{Rehashes, AreHashSectionsRebuilt}
 use Rattle.rehash_tool.specs.Writes.{done_by, rehashed_done}
 
 module _ {S F D O E : Type 0} (g : SourceGhosts S) (f : FilesGhosts F D) (o : SinkGhosts O)
@@ -46,7 +46,7 @@ module _ {S F D O E : Type 0} (g : SourceGhosts S) (f : FilesGhosts F D) (o : Si
     leaves = outputs_leave f o e (codes "rehash") (SourceRose g state state) r a s t left;
   }
 
-  done_is : (done : Bool) (r : Result Object RehashFault) (p : Object) → IsRehashed (Ok done) r p
+  done_is : (done : Bool) (r : Result Object RehashFault) (p : Object) → AreHashSectionsRebuilt (Ok done) r p
       → rehashed_done file out r ≡ done_by done file out p
   done_is true r p is = ap (rehashed_done file out) is
   done_is false r p is = ap (rehashed_done file out) is
@@ -70,7 +70,7 @@ module _ {S F D O E : Type 0} (g : SourceGhosts S) (f : FilesGhosts F D) (o : Si
 
   pub rehashed_refused : (old mid : State S) (d : ElfError) (r : Result Bool Stop) (a : F)
       (s t : Outputs O E) → Rehashes g (Err d) old mid
-      → Refuses o e (codes "rehash") (file_name file) d r s t
+      → ReportsRefusal o e (codes "rehash") (file_name file) d r s t
       → Writes (rehashed_done file out (rehashed old.o)) r old mid a a s t
   rehashed_refused old mid d r a s t first h =
       refused_writes g f o e (codes "rehash") file (rehashed_done file out (rehashed old.o))

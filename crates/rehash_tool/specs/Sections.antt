@@ -9,13 +9,13 @@ use Rattle.rehash_tool.specs.declared.sections.Sought.{Sought}
 use Rattle.rehash_tool.specs.declared.sections.Sought.TheVariants as sought
 
 -- a section that is sought, by its header
-abbrev pub is_sought : Sought → Shdr → Bool
-is_sought sought.Symbols h = h.stype == SHT_DYNSYM
-is_sought (sought.Gnu s) h = h.stype == SHT_GNU_HASH && h.link == s
-is_sought (sought.Words s) h = is_of SHT_HASH kinds.Word h && h.link == s
+abbrev pub is_matching_section : Sought → Shdr → Bool
+is_matching_section sought.Symbols h = h.stype == SHT_DYNSYM
+is_matching_section (sought.Gnu s) h = h.stype == SHT_GNU_HASH && h.link == s
+is_matching_section (sought.Words s) h = is_of SHT_HASH kinds.Word h && h.link == s
 
 -- a section of this shape can be built
-pub record IsUsable (shape : GnuShape) : Type 0 where
+pub record IsBuildableShape (shape : GnuShape) : Type 0 where
   pub buckets : 0 < shape.nbuckets
   pub bloom : 0 < shape.bloom
   pub shift : shape.shift < 32

@@ -8,12 +8,12 @@ use Rattle.elf_outside.specs.Asks.{Leaves, ReadRose}
 use Rattle.elf_object.specs.Object.{Object}
 use Rattle.elf_object.specs.Answers.{bytes_of, words_of}
 use Rattle.elf_object.specs.Calls.{data_answer, replace}
-use Rattle.object_writing.specs.elf_descriptor.State.{State}
+use Rattle.tool_files.specs.elf_descriptor.State.{State}
 use Rattle.elf_object.specs.Sections.{edited}
 use Rattle.hash_model.specs.BuiltHashes.{GnuShape, gnu_order_answer, build_gnu_answer, build_sysv_answer}
 use Rattle.hash_model.specs.Reordered.{reordered, reorder_refusal}
-use Rattle.command_objects.specs.Rehashed.{shape_of, nbucket_of, with_gnu, with_sysv, where_there, laid_out, RehashFault, rehashed}
-use Rattle.command_objects.specs.Rehashed.RehashFault.{NoDynamicHash, Refused}
+use Rattle.rebuild_model.specs.Rehashed.{shape_of, nbucket_of, with_gnu, with_sysv, where_there, laid_out, RehashFault, rehashed}
+use Rattle.rebuild_model.specs.Rehashed.RehashFault.{NoDynamicHash, Refused}
 
 -- ---- What is stated
 
@@ -56,7 +56,8 @@ both_hashes o s gnu words =
 -- ---- What a step does
 
 -- what it leaves of the source, and the cause of a failed read
-pub record Keeps {S T : Type 0} (g : Ghosts S) (result : Result T ElfError) (old new : State S)
+pub record KeepsSource {S T
+    : Type 0} (g : Ghosts S) (result : Result T ElfError) (old new : State S)
     : Type 0 where
   pub told : new.told ≡ old.told
   pub leaves : Leaves g old.source new.source
@@ -67,7 +68,7 @@ pub record Keeps {S T : Type 0} (g : Ghosts S) (result : Result T ElfError) (old
 pub record Gives {S A T : Type 0} (g : Ghosts S) (see : T → A) (stated : Result A ElfError)
     (result : Result T ElfError) (old new : State S) : Type 0 where
   pub object : new.o ≡ old.o
-  pub keeps : Keeps g result old new
+  pub keeps : KeepsSource g result old new
   pub given : IsTrue old.told → FollowsBy see stated_refusal result stated
 
 -- it leaves the object that is stated, where the source tells its bytes
@@ -75,22 +76,23 @@ abbrev pub IsTurned : {T : Type 0} → Result T ElfError → Result Object ElfEr
 IsTurned (Ok x) stated o = stated ≡ Ok o
 IsTurned (Err e) stated o = IfSome (stated_refusal e) (λ d. stated ≡ Err d)
 
-pub record Turns {S T : Type 0} (g : Ghosts S) (stated : Result Object ElfError)
+pub record TurnsObject {S T : Type 0} (g : Ghosts S) (stated : Result Object ElfError)
     (result : Result T ElfError) (old new : State S) : Type 0 where
-  pub keeps : Keeps g result old new
+  pub keeps : KeepsSource g result old new
   pub turned : IsTrue old.told → IsTurned result stated new.o
 
 -- ---- The whole
 
 -- whether the hash sections were built anew, which they are where they are there
-abbrev pub IsRehashed : Result Bool ElfError → Result Object RehashFault → Object → Type 0
-IsRehashed (Ok true) stated o = stated ≡ Ok o
-IsRehashed (Ok false) stated o = stated ≡ Err NoDynamicHash
-IsRehashed (Err e) stated o = IfSome (stated_refusal e) (λ d. stated ≡ Err (Refused d))
+abbrev pub AreHashSectionsRebuilt : Result Bool ElfError → Result Object RehashFault → Object
+    → Type 0
+AreHashSectionsRebuilt (Ok true) stated o = stated ≡ Ok o
+AreHashSectionsRebuilt (Ok false) stated o = stated ≡ Err NoDynamicHash
+AreHashSectionsRebuilt (Err e) stated o = IfSome (stated_refusal e) (λ d. stated ≡ Err (Refused d))
 
 -- where none is there nothing is done
 pub record Rehashes {S : Type 0} (g : Ghosts S) (result : Result Bool ElfError)
     (old new : State S) : Type 0 where
-  pub keeps : Keeps g result old new
-  pub rehashed : IsTrue old.told → IsRehashed result (rehashed old.o) new.o
+  pub keeps : KeepsSource g result old new
+  pub rehashed : IsTrue old.told → AreHashSectionsRebuilt result (rehashed old.o) new.o
   pub none : result ≡ Ok false → new ≡ old

@@ -2,12 +2,12 @@
 use Rattle.std.specs.Prelude.{ℕ, Bool, true, false, List, Result, Err}
 use Rattle.elf_types.specs.Answers.{◌>>=◌}
 use Rattle.elf_object.specs.Object.{Object}
-use Rattle.command_objects.specs.Rehashed.{RehashFault}
-use Rattle.command_objects.specs.Rehashed.RehashFault.{NoDynamicHash}
+use Rattle.rebuild_model.specs.Rehashed.{RehashFault}
+use Rattle.rebuild_model.specs.Rehashed.RehashFault.{NoDynamicHash}
 use Rattle.tool_output.specs.Made.{Done, Complaint, complaint}
-use Rattle.command_outcomes.specs.Strip.{or_complaint}
-use Rattle.command_outcomes.specs.Copy.{rehash_text}
-use Rattle.object_writing.specs.Writes.{written_done}
+use Rattle.elfkit_outcomes.specs.Strip.{or_complaint}
+use Rattle.elfkit_outcomes.specs.Copy.{rehash_text}
+use Rattle.tool_files.specs.ElfImages.Writes.{written_done}
 
 -- of an object whose hash sections were built anew, or that has none
 abbrev pub done_by : Bool → List ℕ → List ℕ → Object → Result Done Complaint

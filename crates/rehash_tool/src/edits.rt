@@ -1,14 +1,14 @@
 //! The command, by the image of an open file.
 
 ghost use Rattle.std.specs.Prelude.{codes};
-ghost use Rattle.command_objects.specs.Rehashed.{rehashed};
+ghost use Rattle.rebuild_model.specs.Rehashed.{rehashed};
 ghost use Rattle.rehash_tool.specs.Writes.{rehashed_done};
 
 use crate::writing::write_rehashed;
 use elf_outside::{Files, Sink, Source};
-use object_writing::ImageCommand;
-use object_writing::prelude::Elf;
 use std::alloc::Global;
+use tool_files::elf_images::ImageCommand;
+use tool_files::prelude::Elf;
 use tool_output::{Outputs, Stop};
 
 /// rehash, by the name of the file that is made.
@@ -18,7 +18,7 @@ pub struct RehashCommand<'a> {
     pub out: &'a str,
 }
 
-/// The hash sections of the image are built anew, and what this leaves is written to the new file
+/// The hash sections of the image are rebuilt, and what this leaves is written to the new file
 /// while the old one is open.
 impl ImageCommand for RehashCommand<'_> {
     ghost named = { λ _. codes "rehash" };

@@ -2,11 +2,11 @@
 
 ghost use Rattle.std.specs.Prelude.{◌≡◌, true};
 ghost use Rattle.elf_object.specs.Steps.{with_layout};
-ghost use Rattle.command_objects.specs.Rehashed.{laid_out};
+ghost use Rattle.rebuild_model.specs.Rehashed.{laid_out};
 
 use elf_outside::Source;
 use elf_types::{LAYOUT, Part};
-use object_writing::prelude::Elf;
+use tool_files::prelude::Elf;
 
 /// The layout of an object becomes the caller's.
 fn set_layout<S: Source>(elf: &mut Elf<S>)
@@ -19,7 +19,7 @@ fn set_layout<S: Source>(elf: &mut Elf<S>)
 }
 
 /// The layout of a program becomes the caller's, so that a section which grows into another part is
-/// refused.
+/// rejected.
 pub fn lay_out<S: Source>(elf: &mut Elf<S>)
     ensures { elf.new ≡ record elf.old { o = laid_out elf.old.o } }
 {

@@ -1,6 +1,8 @@
-//! The command `rehash`: the hash sections of the dynamic symbols of an image are built anew, and
-//! the image that this leaves is written to a new file. `rehash` does so with a descriptor,
-//! `write_rehashed` writes what it leaves, and `RehashCommand` does both with what an open file holds.
+//! The command `rehash`: the hash sections of the dynamic symbols of an image are rebuilt, and the
+//! image is written to a new file.
+//!
+//! `rehash` does so with a descriptor, `write_rehashed` writes what it leaves, and `RehashCommand`
+//! does both with what an open file holds.
 #![tactic(auto)]
 
 pub mod edits;

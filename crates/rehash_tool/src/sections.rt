@@ -5,13 +5,13 @@ ghost use Rattle.elf_types.specs.declared.constants.TheConstants.{SHT_HASH};
 ghost use Rattle.elf_types.specs.declared.records.Kind.TheVariants as kinds;
 ghost use Rattle.elf_object.specs.Answers.{same_kind};
 ghost use Rattle.elf_object.specs.Sections.{is_of};
-ghost use Rattle.command_objects.specs.Rehashed.{dynamic_symbols, gnu_section, sysv_section};
-ghost use Rattle.rehash_tool.specs.Sections.{is_sought};
+ghost use Rattle.rebuild_model.specs.Rehashed.{dynamic_symbols, gnu_section, sysv_section};
+ghost use Rattle.rehash_tool.specs.Sections.{is_matching_section};
 
 use elf_outside::Source;
 use elf_types::constants::{SHT_DYNSYM, SHT_GNU_HASH, SHT_HASH};
 use elf_types::{Class, Kind, ScnId, Shdr, kind_of};
-use object_writing::prelude::Elf;
+use tool_files::prelude::Elf;
 
 /// A section that rehash looks for.
 #[derive(Clone, Copy)]
@@ -40,9 +40,9 @@ fn is_word_hash(h: &Shdr) -> bool
     h.stype == SHT_HASH && are_words(kind_of(Class::C64, h))
 }
 
-/// Whether a section is one that is sought.
+/// Whether a section is the one that is looked for.
 fn is_sought(h: &Shdr, sought: Sought) -> bool
-    ensures { result ≡ is_sought sought h.now }
+    ensures { result ≡ is_matching_section sought h.now }
 {
     match sought {
         Sought::Symbols => h.stype == SHT_DYNSYM,
@@ -51,9 +51,9 @@ fn is_sought(h: &Shdr, sought: Sought) -> bool
     }
 }
 
-/// The first section that is sought. It takes no memory.
+/// The first section that is looked for. It takes no memory.
 fn first_section<S: Source>(elf: &Elf<S>, sought: Sought) -> Option<u32>
-    ensures { result ≡ position (λ c. is_sought sought c.header) elf.now.o.sections }
+    ensures { result ≡ position (λ c. is_matching_section sought c.header) elf.now.o.sections }
 {
     let shnum = elf.shnum();
     for n in 0..shnum {
@@ -66,7 +66,7 @@ fn first_section<S: Source>(elf: &Elf<S>, sought: Sought) -> Option<u32>
 }
 
 /// The first table of dynamic symbols. It takes no memory.
-#[tactic(auto, unfolding(command_objects::specs::Rehashed::dynamic_symbols))]
+#[tactic(auto, unfolding(rebuild_model::specs::Rehashed::dynamic_symbols))]
 pub fn dynamic_symbols<S: Source>(elf: &Elf<S>) -> Option<u32>
     ensures { result ≡ dynamic_symbols elf.now.o }
 {
@@ -74,7 +74,7 @@ pub fn dynamic_symbols<S: Source>(elf: &Elf<S>) -> Option<u32>
 }
 
 /// The first GNU hash section that links to a table. It takes no memory.
-#[tactic(auto, unfolding(command_objects::specs::Rehashed::gnu_section))]
+#[tactic(auto, unfolding(rebuild_model::specs::Rehashed::gnu_section))]
 pub fn gnu_section<S: Source>(elf: &Elf<S>, s: u32) -> Option<u32>
     ensures { result ≡ gnu_section elf.now.o s }
 {
@@ -82,7 +82,7 @@ pub fn gnu_section<S: Source>(elf: &Elf<S>, s: u32) -> Option<u32>
 }
 
 /// The first hash section of words that links to a table. It takes no memory.
-#[tactic(auto, unfolding(command_objects::specs::Rehashed::sysv_section))]
+#[tactic(auto, unfolding(rebuild_model::specs::Rehashed::sysv_section))]
 pub fn sysv_section<S: Source>(elf: &Elf<S>, s: u32) -> Option<u32>
     ensures { result ≡ sysv_section elf.now.o s }
 {

@@ -1,11 +1,11 @@
-//! The shape of a hash section as it is: what of it the one that is built anew keeps.
+//! The shape of a hash section as it is: what of it the one that is rebuilt keeps.
 
 ghost use Rattle.std.specs.Prelude.{◌≡◌, ◌<◌, ◌≤◌, ◌+◌, ◌*◌, true, length, if◌then◌else◌};
 ghost use Rattle.elf_object.specs.Answers.{bytes_of, words_of};
 ghost use Rattle.hash_model.specs.HashSections.{gnu_head};
-ghost use Rattle.command_objects.specs.Rehashed.{is_moderate, is_usable, nbucket_of, shape_at, shape_of, smallest_shape};
+ghost use Rattle.rebuild_model.specs.Rehashed.{is_moderate, is_usable, nbucket_of, shape_at, shape_of, smallest_shape};
 ghost use Rattle.hash_build.specs.Calls.{stated};
-ghost use Rattle.rehash_tool.specs.Sections.{IsUsable};
+ghost use Rattle.rehash_tool.specs.Sections.{IsBuildableShape};
 
 use elf_types::{Class, Order};
 use elf_xlate::Items;
@@ -57,7 +57,7 @@ fn is_usable(shape: GnuShape) -> bool
 /// One bucket and one bloom word, and a shift that goes on with the next bits of the hash.
 fn smallest_shape(class: Class) -> GnuShape
     ensures value { stated result ≡ smallest_shape class }
-    ensures usable { IsUsable result }
+    ensures usable { IsBuildableShape result }
 {
     match class {
         Class::C32 => GnuShape {
@@ -77,7 +77,7 @@ fn smallest_shape(class: Class) -> GnuShape
 fn usable_shape(shape: GnuShape, class: Class) -> GnuShape
     ensures value { stated result
         ≡ (if is_usable (stated shape) then stated shape else smallest_shape class) }
-    ensures usable { IsUsable result }
+    ensures usable { IsBuildableShape result }
 {
     if is_usable(shape) {
         return shape;
@@ -85,12 +85,12 @@ fn usable_shape(shape: GnuShape, class: Class) -> GnuShape
     smallest_shape(class)
 }
 
-/// The shape of a section with these bytes that is built anew: the one that it has, where that is
+/// The shape of a section with these bytes that is rebuilt: the one that it has, where that is
 /// moderate, and else the smallest one.
-#[tactic(auto, unfolding(command_objects::specs::Rehashed::shape_of))]
+#[tactic(auto, unfolding(rebuild_model::specs::Rehashed::shape_of))]
 fn shape_in(bytes: &[u8], class: Class, order: Order) -> GnuShape
     ensures value { stated result ≡ shape_of class order bytes.now }
-    ensures usable { IsUsable result }
+    ensures usable { IsBuildableShape result }
 {
     if bytes.len() < 16 {
         return smallest_shape(class);
@@ -98,10 +98,11 @@ fn shape_in(bytes: &[u8], class: Class, order: Order) -> GnuShape
     usable_shape(shape_at(bytes, order), class)
 }
 
-/// The same of a section's items. Those of another kind are no bytes.
+/// The shape in which a section with these items is rebuilt, as `shape_in` tells it. Those of
+/// another kind are no bytes.
 pub fn shape_of(items: &Items, class: Class, order: Order) -> GnuShape
     ensures value { stated result ≡ shape_of class order (bytes_of items.now) }
-    ensures usable { IsUsable result }
+    ensures usable { IsBuildableShape result }
 {
     match items {
         Items::Bytes(bytes) => shape_in(bytes.as_slice(), class, order),
@@ -120,9 +121,9 @@ fn usable_count(n: u32) -> u32
     1
 }
 
-/// The number of buckets of a section of words that is built anew: the one that it has, where that
-/// is from 1 to 2^20, and else 1. Items of another kind are no words.
-#[tactic(auto, unfolding(command_objects::specs::Rehashed::nbucket_of))]
+/// The number of buckets of a section of words that is rebuilt: the one that it has, where that is
+/// from 1 to 2^20, and else 1. Items of another kind are no words.
+#[tactic(auto, unfolding(rebuild_model::specs::Rehashed::nbucket_of))]
 pub fn nbucket_of(items: &Items) -> u32
     ensures value { result ≡ nbucket_of (words_of items.now) }
     ensures some { 0 < result }

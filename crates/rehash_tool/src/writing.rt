@@ -5,18 +5,18 @@ ghost use Rattle.tool_output.specs.Names.{file_name};
 ghost use Rattle.tool_output.specs.Made.{written_outcome};
 ghost use Rattle.tool_output.specs.Reports.{Reports, refusal_report};
 ghost use Rattle.tool_output.specs.Steps.{LeavesOutputs};
-ghost use Rattle.object_writing.specs.Writes.{WritesFile};
+ghost use Rattle.tool_files.specs.ElfImages.Writes.{WritesFile};
 ghost use Rattle.rehash_tool.specs.Writes.{done_by, rehashed_done};
-ghost use Rattle.command_objects.specs.Rehashed.{rehashed};
+ghost use Rattle.rebuild_model.specs.Rehashed.{rehashed};
 
 use crate::rehashing::rehash;
 use elf_outside::{Files, Sink, Source};
-use object_writing::prelude::Elf;
-use object_writing::{refuse_for, write_object};
 use std::alloc::Global;
+use tool_files::elf_images::{refuse_for, write_object};
+use tool_files::prelude::Elf;
 use tool_output::{FileName, Message, Outputs, Stop};
 
-/// Refuses a file that has no hash section of dynamic symbols.
+/// Rejects a file that has no hash section of dynamic symbols.
 fn refuse_absent<O: Sink, E: Sink>(
     file: &[u8],
     outputs: &mut Outputs<'_, O, E>,
@@ -32,7 +32,7 @@ fn refuse_absent<O: Sink, E: Sink>(
     })
 }
 
-/// Writes the image of an object whose hash sections were built anew to a new file; where there is
+/// Writes the image of an object whose hash sections were rebuilt to a new file; where there is
 /// none, the message says so.
 fn write_done<S: Source, F: Files, O: Sink, E: Sink>(
     alloc: Global,
@@ -53,12 +53,12 @@ fn write_done<S: Source, F: Files, O: Sink, E: Sink>(
     refuse_absent(file, outputs)
 }
 
-/// Builds the hash sections of the dynamic symbols of an object anew, and writes the image that
-/// this leaves to a new file. Where it is refused, the message says why, and no file is made. The
-/// answer tells whether it was refused.
+/// Rebuilds the hash sections of the dynamic symbols of an object, and writes the image that this
+/// leaves to a new file. Where it is rejected, the message says why, and no file is made. It
+/// returns whether it was rejected.
 ///
 /// It stops by `Read` where a read of the source failed, by `Write` where a put or a write of the
-/// file failed, and by `Memory`. Then the name of the file holds what it held or a front of the
+/// file failed, and by `Memory`. Then the name of the file holds what it held or a prefix of the
 /// image.
 pub fn write_rehashed<S: Source, F: Files, O: Sink, E: Sink>(
     alloc: Global,

@@ -1,6 +1,6 @@
 pub use Rattle.elf_object.proofs as elf_object
 pub use Rattle.elf_object.proofs.elf_outside
-pub use Rattle.elf_object.proofs.elf_xlate
+pub use Rattle.elf_xlate.proofs as elf_xlate
 pub mod Holdings
 pub mod Items
 pub mod Loading

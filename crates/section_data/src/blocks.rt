@@ -259,8 +259,8 @@ pub(crate) fn note_blocks(
     let _all = note_shorts(pieces, short, count / MIDDLE * PARTS, count / SHORT);
 }
 
-/// A run with the blocks of a length behind it, as far as something is noted of them and they end
-/// at a limit at the latest.
+/// A run with the blocks of a length after it, as far as something is noted of them and they end at
+/// a limit at the latest.
 fn run_of_blocks(spans: &[Option<Span>], size: usize, pieces: &[Piece], run: Run, limit: u64) -> Run
     requires some { 0 < size }
     requires noted { AreNoted size spans.now pieces.now }
@@ -286,8 +286,8 @@ fn run_of_blocks(spans: &[Option<Span>], size: usize, pieces: &[Piece], run: Run
     Run { count, end }
 }
 
-/// A run with the pieces behind it, as far as they have bytes of their own and end at a limit at
-/// the latest.
+/// A run with the pieces after it, as far as they have bytes of their own and end at a limit at the
+/// latest.
 fn run_of_pieces(pieces: &[Piece], run: Run, limit: u64) -> Run
     requires there { run.count ≤ length pieces.now }
     requires within { run.end ≤ limit }

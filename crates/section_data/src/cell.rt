@@ -43,7 +43,7 @@ impl Model for Cell {
 }
 
 impl Cell {
-    /// The cell of a new section, which has an empty home and no piece. It refuses nothing and
+    /// The cell of a new section, which has an empty home and no piece. It rejects nothing and
     /// takes no memory.
     pub fn fresh(alloc: Global, section: u32) -> Cell
         ensures value { result ≡ new_cell section }
@@ -53,7 +53,7 @@ impl Cell {
     }
 
     /// The cell of a section of an image of `size` bytes, by its number and its header: nothing of
-    /// it is read. It refuses nothing and takes no memory.
+    /// it is read. It rejects nothing and takes no memory.
     ///
     /// Source: gABI chapter 4, "Section Header".
     #[tactic(auto, using(crate::proofs::Loading::opened_lies))]

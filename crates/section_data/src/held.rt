@@ -13,7 +13,8 @@ pub(crate) enum HomeItems {
     Nothing,
     /// The items.
     Translated(Items),
-    /// Those of a home of bytes, which are its raw bytes, with room for a copy of them.
+    /// The items of a home of bytes, which are its raw bytes, with memory reserved for a copy of
+    /// them.
     Raw(Room),
 }
 

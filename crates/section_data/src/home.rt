@@ -1,4 +1,4 @@
-//! Where a section's data stands in the image as it was opened.
+//! Where a section's data is in the image as it was opened.
 
 ghost use Rattle.std.specs.Prelude.{◌≡◌, ℕ, false};
 ghost use Rattle.elf_types.specs.declared.records.Kind.TheVariants as kinds;
@@ -32,7 +32,7 @@ impl Home {
         }
     }
 
-    /// The home that a section header gives its section. It refuses nothing and takes no memory.
+    /// The home that a section header gives its section. It rejects nothing and takes no memory.
     ///
     /// Source: gABI chapter 4, "Section Header".
     #[tactic(auto, unfolding(elf_object::specs::Open::home_of))]

@@ -151,7 +151,7 @@ impl Item for Dyn {
     ghost sized = { dyn_sized };
 }
 
-/// The entry of a list at an index. It refuses `NoEntry` alone and takes no memory.
+/// The entry of a list at an index. It fails with `NoEntry` alone and takes no memory.
 pub(crate) fn entry<T: Copy + Drop>(list: &List<T>, i: u64) -> Result<T, ElfError>
     ensures { result ≡ entry_at list.now i }
 {
@@ -201,7 +201,8 @@ fn item_of_class<T: Item>(bytes: &[u8], i: u64, class: Class, order: Order) -> O
     }
 }
 
-/// The same in either class: the sizes are constants in each arm, so that no division is left.
+/// Item `i` of the items that bytes hold in a class, where they are whole items: the sizes are
+/// constants in each arm, so that no division is left.
 #[inline(always)]
 pub(crate) fn item_if_whole<T: Item>(bytes: &[u8], i: u64, class: Class, order: Order) -> Option<T>
     ensures whole { IfSome result (λ _. IsTrue (is_whole T.kind class (length bytes.now))) }
@@ -214,7 +215,7 @@ pub(crate) fn item_if_whole<T: Item>(bytes: &[u8], i: u64, class: Class, order: 
     }
 }
 
-/// Item `i` of the items that bytes hold. It refuses `NoEntry` alone and takes no memory.
+/// Item `i` of the items that bytes hold. It fails with `NoEntry` alone and takes no memory.
 pub(crate) fn item_in<T: Item>(
     bytes: &[u8],
     i: u64,

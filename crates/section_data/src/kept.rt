@@ -27,9 +27,9 @@ use std::alloc::Global;
 use std::marker::Model;
 use std::mem;
 
-/// What is kept of a section's cell, in 80 bytes: the home, and the first piece, which stands in
-/// the struct itself. What a section needs once it is used stands behind one pointer. Contracts see
-/// it as the cell.
+/// What is kept of a section's cell, in 80 bytes: the home, and the first piece, which is in the
+/// struct itself. What a section needs once it is used follows one pointer. Contracts see it as the
+/// cell.
 #[derive(Drop)]
 pub(crate) struct Kept {
     at: u64,
@@ -210,7 +210,7 @@ impl Kept {
         }
     }
 
-    /// A piece, lent for writing: what the borrower leaves stands in its place.
+    /// A piece, lent for writing: what the borrower leaves is in its place.
     pub(crate) fn get_mut(&mut self, p: u32) -> &mut Piece
         requires { p < length self.old.pieces }
         ensures* lends { sem 𝓛 (LendsPieceOf p self.entry result) }
@@ -272,7 +272,7 @@ impl Kept {
         Some(self.home_size())
     }
 
-    /// The first pieces behind the first one, which ends there.
+    /// The first pieces after the first one, which ends there.
     fn pieces_behind(&self, end: u64, limit: u64) -> FirstPieces
         requires first { AreFirstIn self.now 1 end }
         requires within { end ≤ limit }
@@ -318,8 +318,8 @@ impl Kept {
         used.note_pieces();
     }
 
-    /// Keeps the home's bytes, which are not held. It refuses `Memory` alone, and takes none where
-    /// there are no bytes.
+    /// Keeps the home's bytes, which are not held. It fails with `Memory` alone, and takes none
+    /// where there are no bytes.
     pub(crate) fn keep_bytes(&mut self, alloc: Global, bytes: Octets) -> Result<(), ElfError>
         requires { cell_is_loaded self.old ≡ false }
         ensures ok { OnOk result (self.new ≡ record self.old { raw = Some bytes }) }
@@ -338,7 +338,7 @@ impl Kept {
         Ok(())
     }
 
-    /// Keeps the home's items in memory form. It refuses `Memory` alone.
+    /// Keeps the home's items in memory form. It fails with `Memory` alone.
     pub(crate) fn keep_items(&mut self, alloc: Global, items: Items) -> Result<(), ElfError>
         ensures ok { OnOk result (self.new ≡ record self.old { held = Some items }) }
         ensures unchanged { OnErr result (self.new ≡ self.old) }
@@ -353,7 +353,7 @@ impl Kept {
     }
 
     /// Keeps the home's bytes, of which there are some, as its items too, and room for a copy. It
-    /// refuses `Memory` alone.
+    /// fails with `Memory` alone.
     pub(crate) fn keep_copy(&mut self, alloc: Global) -> Result<(), ElfError>
         requires { 0 < length (bytes_or_none self.old.raw) }
         ensures ok { OnOk result
@@ -382,7 +382,7 @@ impl Kept {
         used.take_items()
     }
 
-    /// Keeps memory aside for the home's bytes. It refuses `Memory` alone.
+    /// Reserves memory for the home's bytes. It fails with `Memory` alone.
     pub(crate) fn reserve(&mut self, alloc: Global) -> Result<(), ElfError>
         ensures ok { OnOk result (self.new ≡ record self.old { room = true }) }
         ensures unchanged { OnErr result (self.new ≡ self.old) }
@@ -397,8 +397,8 @@ impl Kept {
         Ok(())
     }
 
-    /// Reads the home's bytes, which are not held, into the memory that is kept aside for them. It
-    /// refuses `Read` alone, and then nothing changes.
+    /// Reads the home's bytes, which are not held, into the memory that is reserved for them. It
+    /// fails with `Read` alone, and then nothing changes.
     pub(crate) fn fill_room<S: Source>(&mut self, src: &mut S) -> Result<(), ElfError>
         requires lies { 0 < self.old.home.len
             → self.old.home.at + self.old.home.len ≤ S.size src.old }
@@ -416,7 +416,7 @@ impl Kept {
         used.fill_room(src, self.at, self.len)
     }
 
-    /// Lets go of the home's bytes and items. It takes no memory.
+    /// Frees the home's bytes and items. It takes no memory.
     pub(crate) fn forget(&mut self)
         ensures { self.new ≡ record self.old { raw = None; held = None } }
     {

@@ -34,7 +34,8 @@ pub trait Listed {
         ensures value { result.now ≡ list_of items.now }
         ensures counted { length result.now ≡ items_count items.now };
 
-    /// The same, lent for writing: what the borrower leaves is what the items hold.
+    /// The list in items of the kind, lent for writing: what the borrower leaves is what the items
+    /// hold.
     fn list_mut(items: &mut Items) -> &mut List<Self>
         requires { items_kind items.old ≡ kind }
         ensures* lends { sem 𝓛 (LendsList Self.row variant items.entry result) }

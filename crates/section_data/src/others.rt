@@ -14,7 +14,7 @@ use std::marker::Model;
 /// The pieces of a section after the first. Of each block of 16 pieces that hold bytes, of each 32
 /// such blocks and of each 32 of those it can be noted what they do to the end before them, in 32
 /// bytes. So a place among the pieces is found in some 32 steps for each of the three lengths, and
-/// what is noted of a piece that is changed is forgotten and noted anew in as many. Contracts see
+/// what is noted of a piece that is changed is forgotten and noted again in as many. Contracts see
 /// the pieces.
 #[derive(Drop)]
 pub(crate) struct Others {
@@ -22,9 +22,9 @@ pub(crate) struct Others {
     /// What is noted of each block of 16 pieces, from the first on; nothing of one that was changed
     /// since.
     short: Vec<Option<Span>>,
-    /// The same of each block of 512 pieces.
+    /// What each block of 512 pieces does to the end before it.
     middle: Vec<Option<Span>>,
-    /// The same of each block of 16,384 pieces.
+    /// What each block of 16,384 pieces does to the end before it.
     long: Vec<Option<Span>>,
 }
 
@@ -78,7 +78,7 @@ impl Others {
         &self.pieces[i]
     }
 
-    /// A piece, lent for writing: what the borrower leaves stands in its place.
+    /// A piece, lent for writing: what the borrower leaves is in its place.
     pub(crate) fn get_mut(&mut self, i: usize) -> &mut Piece
         requires { i < length self.old }
         ensures* lends { sem 𝓛 (LendsOther i self.entry result) }

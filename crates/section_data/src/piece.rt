@@ -94,7 +94,7 @@ impl Piece {
         &self.items
     }
 
-    /// The own items of a piece that is let go.
+    /// The own items of a piece that is freed.
     pub(crate) fn into_items(self) -> Items
         requires { IsSome self.own }
         ensures { self.own ≡ Some result }

@@ -10,12 +10,12 @@ use elf_types::Octets;
 use memchr::memrchr;
 use std::marker::Model;
 
-/// The bytes of a home, as items of kind `Bytes`, and where their last NUL stands once that was
-/// looked for, so that no string is looked for behind it. Contracts see the items.
+/// The bytes of a home, as items of kind `Bytes`, and where their last NUL is once that was looked
+/// for, so that no string is looked for after it. Contracts see the items.
 #[derive(Drop)]
 pub(crate) struct RawBytes {
     items: Items,
-    /// How many bytes stand up to the last NUL, once it was looked for.
+    /// How many bytes there are up to the last NUL, once it was looked for.
     ended: Option<usize>,
 }
 
@@ -31,8 +31,8 @@ impl Model for RawBytes {
     ghost invariant = { λ r. IsEndNoted (bytes_in r.items) r.ended };
 }
 
-/// How many bytes stand up to the last NUL, which is one of them; 0 where there is none. It takes
-/// no memory.
+/// How many bytes there are up to the last NUL, which is one of them; 0 where there is none. It
+/// takes no memory.
 pub fn ended_len(bytes: &[u8]) -> usize
     ensures { IsLastEnd bytes.now result }
 {

@@ -24,7 +24,7 @@ impl Model for Room {
 }
 
 impl Room {
-    /// Memory for so many bytes. It refuses `Memory` alone.
+    /// Memory for so many bytes. It fails with `Memory` alone.
     pub(crate) fn of(alloc: Global, len: u64) -> Result<Room, ElfError>
         ensures ok { IfOk result (λ room. room ≡ len) }
         ensures err { IfErr result (λ e. e ≡ Memory) }

@@ -21,7 +21,7 @@ pub(crate) struct Span {
 }
 
 impl Span {
-    /// That of no pieces.
+    /// The span of no pieces.
     #[tactic(auto, using(crate::proofs::Rounding::rounded_to_one))]
     pub(crate) fn none() -> Span
         ensures end { (end : ℕ) → span_end result end ≡ end }
@@ -34,7 +34,7 @@ impl Span {
         }
     }
 
-    /// Where the run ends that stands after an end; None exactly where that is above a limit.
+    /// Where the run ends that is after an end; None exactly where that is above a limit.
     #[tactic(auto, using(crate::proofs::Sizes::rounded_up_le))]
     pub(crate) fn end_within(&self, end: u64, limit: u64) -> Option<u64>
         ensures { SomeIff result (span_end self.now end ≤ limit) (span_end self.now end) }
@@ -112,7 +112,7 @@ impl Span {
         None
     }
 
-    /// The run with another one behind it. It is None only where `followed` is.
+    /// The run with another one after it. It is None only where `followed` is.
     pub(crate) fn joined(&self, next: Span) -> Option<Span>
         requires { 0 < self.now.align }
         ensures some { IfSome result (λ s. 0 < s.align) }

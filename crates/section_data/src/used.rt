@@ -23,7 +23,7 @@ use elf_types::{ElfError, Octets};
 use std::alloc::Global;
 use std::mem;
 
-/// What is kept of a section's data once it is read, or memory is kept aside for it, or it has more
+/// What is kept of a section's data once it is read, or memory is reserved for it, or it has more
 /// than one piece.
 #[derive(Drop)]
 pub(crate) struct Used {
@@ -31,7 +31,7 @@ pub(crate) struct Used {
     pub(crate) raw: Option<RawBytes>,
     /// The home's items where they are held in memory form.
     pub(crate) held: HomeItems,
-    /// Memory for the home's bytes that is kept aside: as many zeros.
+    /// Memory for the home's bytes that is reserved: as many zeros.
     pub(crate) room: Option<Octets>,
     /// The pieces after the first.
     pub(crate) others: Others,
@@ -44,7 +44,7 @@ pub(crate) fn put<T: Drop>(slot: &mut T, value: T)
     let _before = mem::replace(slot, value);
 }
 
-/// Makes a place for what is kept, where there is none. It refuses `Memory` alone.
+/// Makes a place for what is kept, where there is none. It fails with `Memory` alone.
 pub(crate) fn open(alloc: Global, slot: &mut Option<Box<Used>>) -> Result<(), ElfError>
     ensures ok { OnOk result (Opens (unboxed slot.old) (unboxed slot.new)) }
     ensures unchanged { OnErr result (slot.new ≡ slot.old) }
@@ -63,7 +63,7 @@ pub(crate) fn open(alloc: Global, slot: &mut Option<Box<Used>>) -> Result<(), El
     Ok(())
 }
 
-/// Lets go of the raw bytes and the items, and of the place for them where nothing else is kept.
+/// Frees the raw bytes and the items, and of the place for them where nothing else is kept.
 pub(crate) fn forget(slot: &mut Option<Box<Used>>)
     ensures { Forgets (unboxed slot.old) (unboxed slot.new) }
 {
@@ -77,7 +77,7 @@ pub(crate) fn forget(slot: &mut Option<Box<Used>>)
     put(slot, None);
 }
 
-/// So many zeros. It refuses `Memory` alone.
+/// So many zeros. It fails with `Memory` alone.
 pub(crate) fn zeros(alloc: Global, len: u64) -> Result<Octets, ElfError>
     ensures ok { IfOk result (λ octets. length octets ≡ len) }
     ensures err { IfErr result (λ e. e ≡ Memory) }
@@ -86,7 +86,7 @@ pub(crate) fn zeros(alloc: Global, len: u64) -> Result<Octets, ElfError>
     Ok(Octets::from_vec(bytes))
 }
 
-/// Fills bytes with those of a source from a place on. It refuses `Read` alone.
+/// Fills bytes with those of a source from a place on. It fails with `Read` alone.
 fn fill<S: Source>(src: &mut S, at: u64, bytes: &mut Octets) -> Result<(), ElfError>
     requires { 0 < length bytes.old → at + length bytes.old ≤ S.size src.old }
     ensures bytes { OnOk result (IfSome (S.holds src.old)
@@ -144,14 +144,14 @@ impl Used {
         put(&mut self.held, held);
     }
 
-    /// Keeps memory aside.
+    /// Reserves memory.
     pub(crate) fn set_room(&mut self, room: Octets)
         ensures { self.new ≡ record self.old { room = Some room } }
     {
         put(&mut self.room, Some(room));
     }
 
-    /// Lets go of the raw bytes and the items.
+    /// Frees the raw bytes and the items.
     fn forget(&mut self)
         ensures { self.new ≡ record self.old { raw = None; held = Nothing } }
     {
@@ -231,8 +231,8 @@ impl Used {
         }
     }
 
-    /// Reads the home's bytes, which are not held, from a place on into the memory that is kept
-    /// aside for them. It refuses `Read` alone, and then the memory is kept.
+    /// Reads the home's bytes, which are not held, from a place on into the memory that is reserved
+    /// for them. It fails with `Read` alone, and then the memory is kept.
     pub(crate) fn fill_room<S: Source>(
         &mut self,
         src: &mut S,

@@ -13,7 +13,7 @@ use std::alloc::Global;
 use std::marker::Model;
 
 /// The present headers of sections. As long as none changed since they were opened they are those
-/// of the table that stands in the image, which is not copied. Memory for the copy is kept from the
+/// of the table that is in the image, which is not copied. Memory for the copy is kept from the
 /// beginning and not touched, so that a header changes without any.
 #[derive(Drop)]
 pub(crate) struct Headers {
@@ -59,8 +59,8 @@ fn copy_once(opened: &HeaderTable, own: &mut Vec<Shdr>)
     let _copied = own.extend_from_slice(headers);
 }
 
-/// Adds a header to a list at the end, and makes room for some `besides` where it has to be moved.
-/// It refuses `Memory` alone, and then nothing changes.
+/// Adds a header to a list at the end, and makes room for some `besides` where it must be moved. It
+/// fails with `Memory` alone, and then nothing changes.
 #[inline(always)]
 fn push_to(own: &mut Vec<Shdr>, header: Shdr, besides: usize) -> Result<(), ElfError>
     requires { besides ≤ 3 * MAX_SECTIONS }
@@ -85,7 +85,7 @@ impl Headers {
         }
     }
 
-    /// The headers of a table that was opened. It refuses `Memory` alone.
+    /// The headers of a table that was opened. It fails with `Memory` alone.
     pub(crate) fn over(alloc: Global, opened: HeaderTable) -> Result<Headers, ElfError>
         ensures ok { IfOk result (λ h. h ≡ opened) }
         ensures err { IfErr result (λ e. e ≡ Memory) }
@@ -120,8 +120,8 @@ impl Headers {
         self.own[s as usize] = header;
     }
 
-    /// Adds a header at the end, and makes room for some `besides` where the headers have to be
-    /// moved. It refuses `Memory` alone, and then nothing changes.
+    /// Adds a header at the end, and makes room for some `besides` where the headers must be moved.
+    /// It fails with `Memory` alone, and then nothing changes.
     pub(crate) fn push(&mut self, header: Shdr, besides: usize) -> Result<(), ElfError>
         requires { besides ≤ 3 * MAX_SECTIONS }
         ensures ok { OnOk result (self.new ≡ self.old ++ header ∷ []) }

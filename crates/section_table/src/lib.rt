@@ -1,9 +1,9 @@
 //! The sections of an object: their headers, their marks and their cells.
 //!
-//! [`Sections`] makes the cell of a section when it is first lent. Until then the cell is the one
-//! that the section's header tells, and takes 4 bytes. The headers are those of the table that was
-//! opened, a [`HeaderTable`], and are copied once one of them changes. So an image of many sections
-//! is opened, and dropped, in the time in which its headers are read.
+//! [`Sections`] makes the cell of a section when it is first lent. Until then the section's header
+//! tells the cell, which takes 4 bytes. The headers are those of the table that was opened, a
+//! [`HeaderTable`], and are copied once one of them changes. So an image of many sections is
+//! opened, and dropped, in the time in which its headers are read.
 #![tactic(auto)]
 
 mod at;

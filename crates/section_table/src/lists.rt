@@ -1,4 +1,4 @@
-//! The lists behind the sections.
+//! The lists after the sections.
 
 ghost use Rattle.std.specs.Prelude.{◌≡◌, ◌+◌, ◌*◌, ◌<◌, ◌≤◌, ◌++◌, ◌∷◌, [], false, length, replicate, OnOk, OnErr, IfOk, IfErr, vec_len, vec_capacity};
 ghost use Rattle.elf_types.specs.declared.constants.TheConstants.{MAX_SECTIONS};
@@ -9,7 +9,7 @@ use elf_types::{ElfError, Shdr};
 use section_data::Cell;
 use std::alloc::Global;
 
-/// So many marks, none of which is set. It refuses `Memory` alone.
+/// So many marks, none of which is set. It fails with `Memory` alone.
 pub(crate) fn clear_marks(alloc: Global, count: usize) -> Result<Vec<bool>, ElfError>
     ensures ok { IfOk result (λ marks. marks.items ≡ replicate count false) }
     ensures err { IfErr result (λ e. e ≡ Memory) }
@@ -18,7 +18,7 @@ pub(crate) fn clear_marks(alloc: Global, count: usize) -> Result<Vec<bool>, ElfE
     Ok(marks)
 }
 
-/// So many slots, all of which are empty. It refuses `Memory` alone.
+/// So many slots, all of which are empty. It fails with `Memory` alone.
 pub(crate) fn empty_slots(alloc: Global, count: usize) -> Result<Vec<u32>, ElfError>
     ensures ok { IfOk result (λ slots. slots.items ≡ replicate count 0) }
     ensures err { IfErr result (λ e. e ≡ Memory) }
@@ -27,7 +27,7 @@ pub(crate) fn empty_slots(alloc: Global, count: usize) -> Result<Vec<u32>, ElfEr
     Ok(slots)
 }
 
-/// Room for so many cells, which is not touched. It refuses `Memory` alone.
+/// Room for so many cells, which is not touched. It fails with `Memory` alone.
 pub(crate) fn cell_room(alloc: Global, count: usize) -> Result<Vec<Cell>, ElfError>
     ensures ok { IfOk result (λ cells. cells.items ≡ []) }
     ensures room { IfOk result (λ cells. count ≤ vec_capacity cells) }
@@ -46,8 +46,8 @@ pub(crate) fn put_last<T: Drop>(list: &mut Vec<T>, item: T)
     list.push_reserved(item);
 }
 
-/// Makes room for so many items more in a list. A list that has to be moved for it gets room for
-/// some `besides`, so that it is seldom moved. It refuses `Memory` alone. What the list holds stays.
+/// Makes room for so many items more in a list. A list that must be moved for it gets room for some
+/// `besides`, so that it is seldom moved. It fails with `Memory` alone. What the list holds stays.
 #[inline(always)]
 pub(crate) fn make_room<T>(list: &mut Vec<T>, more: usize, besides: usize) -> Result<(), ElfError>
     requires some { 0 < more }
@@ -68,7 +68,7 @@ pub(crate) fn make_room<T>(list: &mut Vec<T>, more: usize, besides: usize) -> Re
 }
 
 /// Adds the header of one section more, and takes memory for the rest of it, and for the cell of
-/// each section. It refuses `Memory` alone, and then nothing changes.
+/// each section. It fails with `Memory` alone, and then nothing changes.
 #[inline(always)]
 pub(crate) fn add_header(
     headers: &mut Headers,

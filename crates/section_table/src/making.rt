@@ -22,7 +22,7 @@ pub(crate) struct Form {
     pub(crate) size: u64,
 }
 
-/// Makes the cell of a section that has none, and answers its place. It takes no memory.
+/// Makes the cell of a section that has none, and returns its place. It takes no memory.
 fn make_new(
     form: Form,
     s: u32,
@@ -47,7 +47,7 @@ fn make_new(
     place
 }
 
-/// Makes the cell of a section where there is none, and answers its place. It takes no memory.
+/// Makes the cell of a section where there is none, and returns its place. It takes no memory.
 pub(crate) fn make(
     form: Form,
     s: u32,

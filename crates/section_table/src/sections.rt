@@ -64,7 +64,7 @@ impl Sections {
     }
 
     /// The sections with the headers of a table in an image of `size` bytes: nothing of them is
-    /// read, and no header is copied. It refuses `Memory` alone.
+    /// read, and no header is copied. It fails with `Memory` alone.
     ///
     /// Source: gABI chapter 4, "Sections".
     pub fn opened(
@@ -144,8 +144,8 @@ impl Sections {
         CellAt::Made(&self.cells[slot as usize - 1])
     }
 
-    /// The cell of a section that is there, lent for writing: what the borrower leaves stands in
-    /// its place. It takes no memory.
+    /// The cell of a section that is there, lent for writing: what the borrower leaves is in its
+    /// place. It takes no memory.
     pub fn cell_mut(&mut self, s: u32) -> &mut Cell
         requires { s < length self.old }
         ensures* lends { sem 𝓛 (LendsCellAt s self.entry result) }
@@ -177,7 +177,7 @@ impl Sections {
     }
 
     /// Adds a new section at the end: a header of zeros, no home and no piece, marked dirty. It
-    /// refuses `Memory` alone, and then nothing changes.
+    /// fails with `Memory` alone, and then nothing changes.
     ///
     /// Source: elf_newscn of elf(3E).
     pub fn push_new(&mut self) -> Result<(), ElfError>

@@ -1,4 +1,4 @@
-//! A table of section headers that may be held twice and stands in memory once.
+//! A table of section headers that may be held twice and is in memory once.
 
 ghost use Rattle.std.specs.Prelude.{◌≡◌, length, IfOk, IfErr};
 ghost use Rattle.elf_types.specs.declared.errors.ElfError.TheVariants.{Memory};
@@ -19,8 +19,8 @@ pub(crate) enum Holding {
 }
 
 /// A table of section headers that does not change. A descriptor and its sections hold the one of
-/// the image that was opened together, so that it stands in memory once. Contracts see it as the
-/// list of its headers.
+/// the image that was opened together, so that it is in memory once. Contracts see it as the list
+/// of its headers.
 ///
 /// Source: gABI chapter 4, "Section Header".
 #[derive(Drop)]
@@ -59,7 +59,8 @@ impl HeaderTable {
         }
     }
 
-    /// The table of these headers twice. It takes memory for no header, and refuses `Memory` alone.
+    /// The table of these headers twice. It takes memory for no header, and fails with `Memory`
+    /// alone.
     pub fn shared(alloc: Global, headers: Shdrs) -> Result<(HeaderTable, HeaderTable), ElfError>
         ensures one { IfOk result (λ t. t.0 ≡ headers) }
         ensures other { IfOk result (λ t. t.1 ≡ headers) }

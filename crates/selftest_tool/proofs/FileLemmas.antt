@@ -12,16 +12,16 @@ use Rattle.elf_outside.specs.declared.file_sets.Files.{Ghosts as FilesGhosts}
 use Rattle.elf_object.specs.Object.{Object}
 use Rattle.elf_object.specs.Open.{opened}
 use Rattle.elf_object.specs.Image.{image}
-use Rattle.image_generate.specs.elf_descriptor.State.{State}
-use Rattle.command_objects.specs.Files.{file_of}
-use Rattle.command_objects.specs.Generated.{generated_and_shifted, told_lines}
+use Rattle.elf_calls_generate.specs.elf_descriptor.State.{State}
+use Rattle.rebuild_model.specs.Files.{file_of}
+use Rattle.rebuild_model.specs.Generated.{generated_and_shifted, told_lines}
 use Rattle.tool_output.specs.declared.stops.Stop.{Stop}
 use Rattle.tool_output.specs.declared.stops.Stop.TheVariants.{Read, Write, Memory}
 use Rattle.tool_output.specs.declared.outputs.Outputs.{Outputs}
 use Rattle.tool_output.specs.Names.{file_name}
 use Rattle.tool_output.specs.Statuses.{refused_status, stop_status}
 use Rattle.tool_output.specs.Steps.{LeavesOutputs}
-use Rattle.tool_output.specs.Reports.{Report, Reports, no_report, shown}
+use Rattle.tool_output.specs.Reports.{Report, Reports, no_report, shown_report}
 use Rattle.tool_output.specs.Sources.{ReportsOn}
 use Rattle.tool_output.specs.Files.{LeavesFilesBy, LeavesFiles}
 use Rattle.tool_output.specs.Outcomes.{FileWrite, Outcome, report_outcome, write_of, held_after, MayHold, Does}
@@ -30,14 +30,14 @@ use Rattle.tool_output.proofs.StepLemmas.{writes_stop, writes_then, keeps_none, 
 use Rattle.tool_output.proofs.FileLemmas.{only_reads_none, totals_none, totals_then, leaves_stop, leaves_stop_by}
 use Rattle.tool_output.proofs.OutcomeLemmas.{reads_done}
 use Rattle.tool_output.proofs.MadeLemmas.{never_read}
-use Rattle.command_outcomes.specs.object_output.Images.{object_report, image_report}
-use Rattle.object_files.specs.Edits.{unbounded, edited_outcome, EditsFile}
-use Rattle.object_files.proofs.SaidLemmas.{said_after}
-use Rattle.command_outcomes.specs.Selftest.{selftest_done, selftest_outcome}
-use Rattle.command_laws.specs.SelftestSizes.{selftest_lines}
-use Rattle.command_laws.specs.SelftestLaw.{SelftestGives}
-use Rattle.image_generate.specs.Stages.{StandsFor}
-use Rattle.selftest_tool.specs.Told.{lines_report, told_report, told_outcome}
+use Rattle.elfkit_outcomes.specs.tool_objects.Images.{object_report, image_report}
+use Rattle.tool_files.specs.Edits.{unbounded, edited_outcome, EditsFile}
+use Rattle.tool_files.proofs.SaidLemmas.{said_after}
+use Rattle.elfkit_outcomes.specs.Selftest.{selftest_done, selftest_outcome}
+use Rattle.law_files.specs.Commands.SelftestSizes.{selftest_lines}
+use Rattle.law_files.specs.Commands.SelftestLaw.{SelftestGives}
+use Rattle.elf_calls_generate.specs.Stages.{StandsFor}
+use Rattle.selftest_tool.specs.Told.{selftest_lines_report, told_report, told_outcome}
 
 -- ---- What is told of a file
 
@@ -97,15 +97,15 @@ module _ (out : List ℕ) (n : ℕ) (bytes : List ℕ) (done : Done) where
   by_lines : (res : Result (List ℕ) ElfError)
       → ◌≡◌ {A = Result Done Complaint} (of_file out res >>= λ lines.
       Ok (record { shown = lines; writes = made_file out bytes ∷ [] })) (Ok done)
-      → lines_report (file_name out) res ≡ shown done.shown
+      → selftest_lines_report (file_name out) res ≡ shown_report done.shown
   by_lines (Err e) is = cc
-  by_lines (Ok lines) is = let same : lines ≡ done.shown = cc in ap shown same
+  by_lines (Ok lines) is = let same : lines ≡ done.shown = cc in ap shown_report same
 
   by_opened : (res : Result Object ElfError)
       → ◌≡◌ {A = Result Done Complaint} (of_file out res >>= λ o.
       of_file out (told_lines n o) >>= λ lines.
       Ok (record { shown = lines; writes = made_file out bytes ∷ [] })) (Ok done)
-      → object_report (codes "selftest") (told_report n) (file_name out) res ≡ shown done.shown
+      → object_report (codes "selftest") (told_report n) (file_name out) res ≡ shown_report done.shown
   unfolding told_report
   by_opened (Err e) is = cc
   by_opened (Ok o) is = by_lines (told_lines n o) is
@@ -120,7 +120,7 @@ module _ (out : List ℕ) (n : ℕ) (law : SelftestGives out n) where
 
   -- the lines that are stated
   told_is : image_report (codes "selftest") (told_report n) (file_name out) (image object)
-      ≡ shown (selftest_lines n)
+      ≡ shown_report (selftest_lines n)
   unfolding selftest_done image_report
   told_is =
       by_opened out n (image object)
@@ -212,7 +212,7 @@ module _ {F D O E : Type 0} (f : FilesGhosts F D) (o : SinkGhosts O) (e : SinkGh
         subst (λ (stated : Outcome). Does f o e refused_status stated r b c t u)
         (edited_is n out bytes (f.named b) there) told in
         subst (λ (stated : Outcome). Does f o e refused_status stated r a c s u) (sym law.outcome)
-        (made_and_told x (shown (selftest_lines n)) out bytes r h
+        (made_and_told x (shown_report (selftest_lines n)) out bytes r h
         (subst (λ (report : Report).
         Does f o e refused_status (report_outcome report None) r b c t u)
         (told_is out n law) known))
@@ -222,7 +222,7 @@ module _ {F D O E : Type 0} (f : FilesGhosts F D) (o : SinkGhosts O) (e : SinkGh
     selftest_stopped stop h =
         subst (λ (stated : Outcome).
         Does {T = Bool} f o e refused_status stated (Err stop) a b s t) (sym law.outcome)
-        (made_stopped stop (shown (selftest_lines n))
+        (made_stopped stop (shown_report (selftest_lines n))
         (made_file out (image (generated_and_shifted n)) ∷ []) h)
 
   -- ---- What is left

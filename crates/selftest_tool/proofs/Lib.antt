@@ -1,4 +1,4 @@
-pub use Rattle.object_files.proofs as object_files
+pub use Rattle.tool_files.proofs as tool_files
 mod ValueLemmas
 mod ToldLemmas
 mod ShiftLemmas

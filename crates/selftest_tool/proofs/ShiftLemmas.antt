@@ -13,11 +13,11 @@ use Rattle.elf_object.specs.Answers.{items_at, syms_of, lend_refusal}
 use Rattle.elf_object.specs.Runs.{more_sym}
 use Rattle.elf_object.specs.Steps.{with_own}
 use Rattle.elf_object.specs.Words.{Wants, Answers}
-use Rattle.image_generate.specs.elf_descriptor.State.{State}
-use Rattle.image_generate.specs.elf_descriptor.Lends.{IsLent}
-use Rattle.command_objects.specs.Generated.{generated, generated_and_shifted}
-use Rattle.command_laws.proofs.GeneratedObject.{lends_symbols, shifted_by}
-use Rattle.image_generate.specs.Stages.{StandsFor}
+use Rattle.elf_calls_generate.specs.elf_descriptor.State.{State}
+use Rattle.elf_calls_generate.specs.elf_descriptor.Lends.{IsLent}
+use Rattle.rebuild_model.specs.Generated.{generated, generated_and_shifted}
+use Rattle.law_files.proofs.commands.GeneratedObject.{lends_symbols, shifted_by}
+use Rattle.elf_calls_generate.specs.Stages.{StandsFor}
 
 pub shift_made : {S T : Type 0} (g : Ghosts S) (r : Result T ElfError) (n : ℕ) (old new : State S)
     (lent left : List Sym) → StandsFor (generated n) old

@@ -12,22 +12,22 @@ use Rattle.elf_object.specs.Words.{Answers}
 use Rattle.elf_object.specs.Answers.{items_at, count_at, lend_refusal}
 use Rattle.elf_object.specs.Due.{unless_refused, when_clean, when_piece_clean}
 use Rattle.elf_object.proofs.AnswerLaws.{answered_value, answered_refusal, lend_kind}
-use Rattle.image_generate.specs.elf_descriptor.State.{State}
-use Rattle.image_generate.specs.elf_descriptor.Reads.{Looks, wanted}
+use Rattle.elf_calls_generate.specs.elf_descriptor.State.{State}
+use Rattle.elf_calls_generate.specs.elf_descriptor.Reads.{Looks, wanted}
 use Rattle.symbol_lookup.specs.Lookups as calls
 use Rattle.symbol_lookup.specs.Lookups.{linear_needs, linear_refusal, link_of, table_homes}
 use Rattle.hash_model.specs.Listed.{find_linear_answer}
-use Rattle.command_objects.specs.Generated.{numbered_name, symbols_in, five_lines, told_lines}
+use Rattle.rebuild_model.specs.Generated.{numbered_name, symbols_in, five_lines, told_lines}
 use Rattle.tool_output.specs.declared.stops.Stop.{Stop}
 use Rattle.tool_output.specs.Names.{Name}
-use Rattle.tool_output.specs.Reports.{shown, refusal_report}
+use Rattle.tool_output.specs.Reports.{shown_report, refusal_report}
 use Rattle.tool_output.specs.Stops.{stop_of}
-use Rattle.command_outcomes.specs.object_output.Steps.{Learns}
-use Rattle.command_outcomes.proofs.object_output.OnceSums.{Once, once_others}
-use Rattle.command_outcomes.proofs.object_output.OnceReads.{once_unless, once_piece, once_clean}
-use Rattle.command_outcomes.proofs.object_output.QueryLemmas.{settled_by, reads_stop, plain_is, plain_stops}
-use Rattle.command_outcomes.proofs.object_output.LearnLemmas.{learns_by}
-use Rattle.command_outcomes.proofs.object_output.ListCounts.{syms_counted}
+use Rattle.elfkit_outcomes.specs.tool_objects.Steps.{Learns}
+use Rattle.elfkit_outcomes.proofs.tool_objects.OnceSums.{Once, once_others}
+use Rattle.elfkit_outcomes.proofs.tool_objects.OnceReads.{once_unless, once_piece, once_clean}
+use Rattle.elfkit_outcomes.proofs.tool_objects.QueryLemmas.{settled_by, reads_stop, plain_is, plain_stops}
+use Rattle.elfkit_outcomes.proofs.tool_objects.LearnLemmas.{learns_by}
+use Rattle.elfkit_outcomes.proofs.tool_objects.ListCounts.{syms_of_length}
 use Rattle.selftest_tool.specs.Told.{number_line, found_line, lines_text, value_sum, symbols_told, first_named, told_report}
 
 -- ---- The lookup
@@ -93,7 +93,7 @@ module _ (n : ℕ) (name : Name) (o : Object) where
       let value = answered_value symbols_refusal (count_at o (n + 1) 0) count (sym is) in (
         value.0,
         value.1
-            ∙ sym (syms_counted (items_at o (n + 1) 0) (lend_kind o kinds.Sym (n + 1) 0 value.0)),
+            ∙ sym (syms_of_length (items_at o (n + 1) 0) (lend_kind o kinds.Sym (n + 1) 0 value.0)),
       )
 
   -- they are refused
@@ -107,7 +107,7 @@ module _ (n : ℕ) (name : Name) (o : Object) where
   -- they are told of
   pub told_shown : (count : ℕ) → symbols_refusal ≡ None → count ≡ length (symbols_told n o)
       → told_report n name o
-      ≡ shown (lines_text (length o.sections) count (length o.base)
+      ≡ shown_report (lines_text (length o.sections) count (length o.base)
       (value_sum (symbols_told n o)) (first_named n (numbered_name (codes "y") n) o))
   unfolding told_report told_lines find_linear_answer five_lines symbols_in lines_text number_line found_line value_sum
   told_shown count passed is = rw (passed, is) refl

@@ -10,11 +10,11 @@ use Rattle.elf_types.specs.declared.records.Sym.{Sym}
 use Rattle.elf_outside.specs.declared.sources.Source.{Ghosts as SourceGhosts}
 use Rattle.elf_object.specs.Object.{Object}
 use Rattle.elf_object.specs.Runs.{more_sym}
-use Rattle.image_generate.specs.elf_descriptor.State.{State}
-use Rattle.command_objects.specs.Generated.{zero_sym}
+use Rattle.elf_calls_generate.specs.elf_descriptor.State.{State}
+use Rattle.rebuild_model.specs.Generated.{zero_sym}
 use Rattle.tool_output.specs.declared.stops.Stop.{Stop}
-use Rattle.command_outcomes.specs.object_output.Steps.{LeavesElf, ReadsElf, Learns}
-use Rattle.command_outcomes.proofs.object_output.LearnLemmas.{learns_stop, reads_after}
+use Rattle.elfkit_outcomes.specs.tool_objects.Steps.{LeavesElf, ReadsElf, Learns}
+use Rattle.elfkit_outcomes.proofs.tool_objects.LearnLemmas.{learns_stop, reads_after}
 use Rattle.selftest_tool.specs.Told.{value_sum}
 
 -- one symbol more that a number was added to

@@ -1,3 +1,3 @@
-pub use Rattle.command_outcomes.specs as command_outcomes
-pub use Rattle.command_outcomes.specs.object_output
+pub use Rattle.elfkit_outcomes.specs as elfkit_outcomes
+pub use Rattle.elfkit_outcomes.specs.tool_objects
 pub mod Told

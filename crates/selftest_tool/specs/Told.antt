@@ -1,4 +1,4 @@
--- What the self test tells of the image that it opens again (`told_lines` of command_objects), and
+-- What the self test tells of the image that it opens again (`told_lines` of rebuild_model), and
 -- of the file that holds it.
 use Rattle.std.specs.Prelude.{◌++◌, ℕ, ◌+◌, List, map, codes, decimal, Option, None, Result, Ok, Err}
 use Rattle.std.specs.List.{position, sum}
@@ -9,11 +9,11 @@ use Rattle.elf_object.specs.Object.{Object}
 use Rattle.elf_object.specs.Answers.{items_at, syms_of}
 use Rattle.elf_object.specs.Strings.{is_name}
 use Rattle.hash_model.specs.Listed.{listed_names}
-use Rattle.command_objects.specs.Generated.{line_of, found_text, told_lines}
+use Rattle.rebuild_model.specs.Generated.{line_of, found_text, told_lines}
 use Rattle.tool_output.specs.Names.{Name, file_name}
-use Rattle.tool_output.specs.Reports.{Report, shown, refusal_report}
+use Rattle.tool_output.specs.Reports.{Report, shown_report, refusal_report}
 use Rattle.tool_output.specs.Outcomes.{Outcome, report_outcome}
-use Rattle.command_outcomes.specs.object_output.Images.{image_report}
+use Rattle.elfkit_outcomes.specs.tool_objects.Images.{image_report}
 
 -- ---- The lines
 
@@ -50,12 +50,12 @@ first_named n name o = position (is_name name) (listed_names o (n + 1))
 -- ---- The report
 
 -- the lines, or the message of what is refused
-abbrev pub lines_report : Name → Result (List ℕ) ElfError → Report
-lines_report name (Ok lines) = shown lines
-lines_report name (Err e) = refusal_report (codes "selftest") name (error_text e)
+abbrev pub selftest_lines_report : Name → Result (List ℕ) ElfError → Report
+selftest_lines_report name (Ok lines) = shown_report lines
+selftest_lines_report name (Err e) = refusal_report (codes "selftest") name (error_text e)
 
 unfoldable pub told_report : ℕ → Name → Object → Report
-told_report n name o = lines_report name (told_lines n o)
+told_report n name o = selftest_lines_report name (told_lines n o)
 
 -- of what a file holds; no bound on what is asked for is promised
 unfoldable pub told_outcome : ℕ → List ℕ → List ℕ → Outcome

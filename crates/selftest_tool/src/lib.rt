@@ -1,5 +1,5 @@
-//! The command `selftest`: an image is generated, its symbols are changed, it is written to a file,
-//! and five lines are told of what the file holds then.
+//! The command `selftest`: it generates an image, changes its symbols, writes it to a file, and
+//! shows five lines of what the file holds then.
 #![tactic(auto)]
 
 mod lines;

@@ -5,12 +5,12 @@ ghost use Rattle.elf_types.specs.Writers.{WantsMemory};
 ghost use Rattle.selftest_tool.specs.Told.{number_line, found_line, lines_text};
 
 use elf_types::{ElfError, Octets, put_text};
-use number_columns::put_number;
 use tool_output::Line;
+use tool_output::columns::put_number;
 use tool_text::Radix;
 
 /// Appends a word and a number, on a line.
-#[tactic(auto, using(elf_types::proofs::Writers::kept), unfolding(crate::specs::Told::number_line, number_columns::specs::Columns::number))]
+#[tactic(auto, using(elf_types::proofs::Writers::kept), unfolding(crate::specs::Told::number_line, tool_output::specs::Columns::Columns::radix_digits))]
 fn put_line(page: &mut Octets, word: &str, n: u128) -> Result<(), ElfError>
     ensures ok { OnOk result (page.new ≡ page.old ++ number_line word.now n) }
     ensures err { IfErr result (WantsMemory page.old page.new) }

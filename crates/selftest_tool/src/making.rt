@@ -2,13 +2,13 @@
 
 ghost use Rattle.std.specs.Prelude.{◌≡◌, ◌≤◌, map, OnOk, IfOk, IfErr};
 ghost use Rattle.elf_object.specs.Runs.{more_sym};
-ghost use Rattle.command_objects.specs.Generated.{generated, generated_and_shifted};
-ghost use Rattle.image_generate.specs.Stages.{StandsFor};
+ghost use Rattle.rebuild_model.specs.Generated.{generated, generated_and_shifted};
+ghost use Rattle.elf_calls_generate.specs.Stages.{StandsFor};
 
+use elf_calls_generate::generate;
+use elf_calls_generate::prelude::Elf;
 use elf_outside::NoSource;
 use elf_types::{DataId, ElfError, Sym, Syms};
-use image_generate::generate;
-use image_generate::prelude::Elf;
 use std::alloc::Global;
 
 /// Adds a number to the value of a symbol, modulo its range.
@@ -27,8 +27,8 @@ fn add_to_values(symbols: &mut Syms, n: u64)
     }
 }
 
-/// Adds the number of sections with data to the value of each symbol that was generated. It refuses
-/// `Memory` alone.
+/// Adds the number of sections with data to the value of each symbol that was generated. It fails
+/// with `Memory` alone.
 fn shift(elf: &mut Elf<NoSource>, n: u32) -> Result<(), ElfError>
     requires small { n ≤ 60000 }
     requires made { StandsFor (generated n) elf.old }
@@ -48,7 +48,7 @@ fn shift(elf: &mut Elf<NoSource>, n: u32) -> Result<(), ElfError>
     }
 }
 
-/// The same with an object that is handed on.
+/// The generated object with the values of its symbols changed.
 fn shifted(mut elf: Elf<NoSource>, n: u32) -> Result<Elf<NoSource>, ElfError>
     requires small { n ≤ 60000 }
     requires made { StandsFor (generated n) elf }
@@ -61,7 +61,7 @@ fn shifted(mut elf: Elf<NoSource>, n: u32) -> Result<Elf<NoSource>, ElfError>
     }
 }
 
-/// The object that the self test writes. It refuses `Memory` alone.
+/// The object that the self test writes. It fails with `Memory` alone.
 pub(crate) fn make(alloc: Global, n: u32) -> Result<Elf<NoSource>, ElfError>
     requires { n ≤ 60000 }
     ensures made { IfOk result (StandsFor (generated_and_shifted n)) }

@@ -1,3 +1,3 @@
 //! What `selftest_tool` passes on of the crates below it.
 
-pub use command_outcomes::prelude::{ObjectTool, show_file};
+pub use elfkit_outcomes::prelude::{ObjectTool, show_file};

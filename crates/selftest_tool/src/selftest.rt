@@ -2,20 +2,20 @@
 
 ghost use Rattle.std.specs.Prelude.{◌≡◌, ◌≤◌, [], ◌∷◌, IsTrue};
 ghost use Rattle.elf_object.specs.Image.{image};
-ghost use Rattle.command_objects.specs.Generated.{generated_and_shifted};
+ghost use Rattle.rebuild_model.specs.Generated.{generated_and_shifted};
 ghost use Rattle.tool_output.specs.Files.{LeavesFiles, LeavesFilesBy};
 ghost use Rattle.tool_output.specs.Made.{made_file, outcome_with};
 ghost use Rattle.tool_output.specs.Outcomes.{Does};
 ghost use Rattle.tool_output.specs.Reports.{no_report};
 ghost use Rattle.tool_output.specs.Statuses.{refused_status};
-ghost use Rattle.command_outcomes.specs.Selftest.{selftest_outcome};
+ghost use Rattle.elfkit_outcomes.specs.Selftest.{selftest_outcome};
 
 use crate::making::make;
 use crate::telling::Told;
-use command_laws::laws::selftest_law;
 use elf_outside::{Files, Sink};
-use object_files::{edit_file, write_image};
+use law_files::commands::laws::selftest_law;
 use std::alloc::Global;
+use tool_files::{edit_file, write_image};
 use tool_output::{Outputs, Stop};
 use tool_text::Text;
 
@@ -67,10 +67,10 @@ fn make_and_tell<F: Files, O: Sink, E: Sink>(
 /// the file again, and shows five lines of what it holds: how many sections, how many symbols, how
 /// many bytes, the sum of the symbols' values, and the index of the last symbol, which is looked up
 /// by its name. A file that is not there then, is no image, or has no such symbols, as where
-/// somebody else changed it, has its message. The answer tells whether it has.
+/// somebody else changed it, has its message. It returns whether it has.
 ///
 /// It stops by `Write` where a put or a write of the file failed, then the file holds what it held
-/// or a front of the image; by `Read` where the file is not handed out again or a read of it
+/// or a prefix of the image; by `Read` where the file is not handed out again or a read of it
 /// failed, and then it holds the image; and by `Memory`.
 pub fn write_and_tell<F: Files, O: Sink, E: Sink>(
     alloc: Global,

@@ -3,23 +3,23 @@
 ghost use Rattle.std.specs.Prelude.{◌≡◌, ◌≤◌, ◌+◌, length, codes, None};
 ghost use Rattle.elf_types.specs.declared.records.Kind.TheVariants as kinds;
 ghost use Rattle.elf_object.specs.Answers.{lend_refusal};
-ghost use Rattle.command_objects.specs.Generated.{numbered_name};
-ghost use Rattle.tool_output.specs.Reports.{shown};
-ghost use Rattle.command_outcomes.specs.object_output.Looks.{looks_over};
-ghost use Rattle.command_outcomes.specs.object_output.Steps.{Learns, ReportsElf};
+ghost use Rattle.rebuild_model.specs.Generated.{numbered_name};
+ghost use Rattle.tool_output.specs.Reports.{shown_report};
+ghost use Rattle.elfkit_outcomes.specs.tool_objects.Looks.{looks_over};
+ghost use Rattle.elfkit_outcomes.specs.tool_objects.Steps.{Learns, ReportsElf};
 ghost use Rattle.selftest_tool.specs.Told.{value_sum, symbols_told, first_named, lines_text, told_report, told_outcome};
 
 use crate::lines::FiveLines;
 use crate::values::sum_values;
-use command_outcomes::prelude::{ObjectTool, stop_for};
+use elf_calls_generate::numbered_name;
+use elf_calls_generate::prelude::Elf;
 use elf_outside::{Files, Sink, Source};
 use elf_types::{DataId, ScnId, Sym};
-use image_generate::numbered_name;
-use image_generate::prelude::Elf;
-use object_files::FileEdit;
+use elfkit_outcomes::prelude::{ObjectTool, stop_for};
 use std::alloc::Global;
 use symbol_lookup::find_linear;
 use symbol_lookup::prelude::item_count;
+use tool_files::FileEdit;
 use tool_output::{FileName, Message, Outputs, Stop};
 
 /// The first symbol with a name, among those of section `n + 1`, which are there. It stops by
@@ -62,7 +62,7 @@ fn show_lines<S: Source, O: Sink, E: Sink>(
     requires passed { lend_refusal elf.old.o kinds.Sym (n + 1) 0 ≡ None }
     requires count { symbols ≡ length (symbols_told n elf.old.o) }
     ensures { ReportsElf S.Source O.Sink E.Sink
-        (λ o. shown (lines_text (length o.sections) symbols (length o.base)
+        (λ o. shown_report (lines_text (length o.sections) symbols (length o.base)
         (value_sum (symbols_told n o)) (first_named n last.now o)))
         result elf.old elf.new outputs.old outputs.new }
 {
@@ -76,7 +76,7 @@ fn show_lines<S: Source, O: Sink, E: Sink>(
     outputs.show(&lines)
 }
 
-/// Tells of an image by its five lines, or gives the message that its symbols are refused.
+/// Tells of an image by its five lines, or gives the message that its symbols are rejected.
 fn show_told<S: Source, O: Sink, E: Sink>(
     elf: &mut Elf<S>,
     n: u32,
@@ -110,7 +110,7 @@ pub(crate) struct Told {
     pub(crate) count: u16,
 }
 
-/// Of an object the five lines, or the message that its symbols are refused. The last of them is
+/// Of an object the five lines, or the message that its symbols are rejected. The last of them is
 /// looked up by its name.
 impl ObjectTool for Told {
     ghost command = { λ _. codes "selftest" };

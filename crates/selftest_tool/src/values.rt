@@ -3,13 +3,13 @@
 ghost use Rattle.std.specs.Prelude.{◌≡◌, ◌<◌, ◌^◌, length, None};
 ghost use Rattle.elf_types.specs.declared.records.Kind.TheVariants as kinds;
 ghost use Rattle.elf_object.specs.Answers.{items_at, lend_refusal, syms_of};
-ghost use Rattle.command_outcomes.specs.object_output.Steps.{Learns};
+ghost use Rattle.elfkit_outcomes.specs.tool_objects.Steps.{Learns};
 ghost use Rattle.selftest_tool.specs.Told.{value_sum};
 
-use command_outcomes::prelude::item_there;
+use elf_calls_generate::prelude::Elf;
 use elf_outside::Source;
 use elf_types::{DataId, Sym};
-use image_generate::prelude::Elf;
+use elfkit_outcomes::prelude::item_there;
 use tool_output::Stop;
 
 /// The value of a symbol, as a number that may be added to many others.

@@ -22,9 +22,9 @@ use Rattle.elf_object.specs.Open.{opened_section, begun, opened}
 use Rattle.tool_output.specs.declared.outputs.Outputs.{Outputs}
 use Rattle.tool_output.specs.declared.stops.Stop.{Stop}
 use Rattle.tool_output.specs.Names.{Name}
-use Rattle.tool_output.specs.Reports.{Reports, shown}
-use Rattle.object_output.specs.Images.{object_report, image_report}
-use Rattle.object_output.proofs.SectionLemmas.{ok_is}
+use Rattle.tool_output.specs.Reports.{Reports, shown_report}
+use Rattle.tool_objects.specs.Images.{object_report, image_report}
+use Rattle.tool_objects.proofs.SectionLemmas.{ok_value_is}
 use Rattle.size_tool.specs.declared.sums.Sums.{Sums}
 use Rattle.size_tool.specs.Sums.{header_sums, sums_of, sums_in, total_of}
 use Rattle.size_tool.specs.Rows.{size_row}
@@ -129,21 +129,21 @@ sums_within holds head old mid new is first second =
 module _ (command : List ℕ) (name : Name) where
   shown_by : (r : Result Object ElfError) (sums : Sums)
       → (r >>= (λ o. Ok (sums_of o.sections))) ≡ Ok sums
-      → object_report command size_report name r ≡ shown (size_row sums (total_of sums) name)
+      → object_report command size_report name r ≡ shown_report (size_row sums (total_of sums) name)
   unfolding size_report
   shown_by (Ok o) sums is =
-      ap (λ (q : Sums). shown (size_row q (total_of q) name)) (ok_is (sums_of o.sections) sums is)
+      ap (λ (q : Sums). shown_report (size_row q (total_of q) name)) (ok_value_is (sums_of o.sections) sums is)
   shown_by (Err e) sums is = cc
 
   sums_shown : (image : List ℕ) (sums : Sums) → sums_in image ≡ Ok sums
-      → image_report command size_report name image ≡ shown (size_row sums (total_of sums) name)
+      → image_report command size_report name image ≡ shown_report (size_row sums (total_of sums) name)
   unfolding sums_in image_report
   sums_shown image sums is = shown_by (opened image) sums is
 
   pub sums_reported : {O E : Type 0} (o : SinkGhosts O) (e : SinkGhosts E) (r : Result Bool Stop)
       (t u : Outputs O E) (holds : Option (List ℕ)) (sums : Sums)
       → IfSome holds (λ image. Follows (Ok sums) (sums_in image))
-      → Reports o e r t u (shown (size_row sums (total_of sums) name))
+      → Reports o e r t u (shown_report (size_row sums (total_of sums) name))
       → IfSome holds (λ image. Reports o e r t u (image_report command size_report name image))
   sums_reported o e r t u None sums is h = tt
   sums_reported o e r t u (Some image) sums is h = rw (sums_shown image sums is) h

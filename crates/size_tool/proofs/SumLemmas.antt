@@ -5,7 +5,7 @@ use Rattle.std.proofs.lemmas.List.Sums.{sum_by_push}
 use Rattle.elf_types.specs.declared.records.Shdr.{Shdr}
 use Rattle.elf_object.specs.Object.{Object, Section, section_at, absent_section}
 use Rattle.size_tool.specs.declared.sums.Sums.{Sums}
-use Rattle.size_tool.specs.Sums.{is_text, is_data, is_bss, size_if, size_of, header_sums, sums_of, with_section, AreWithin, Adds}
+use Rattle.size_tool.specs.Sums.{is_text, is_data, is_bss, size_if, size_of, header_sums, sums_of, sums_with_section, AreWithin, Adds}
 
 size_pushed : (counts : Shdr → Bool) (headers : List Shdr) (h : Shdr)
     → size_of counts (headers ++ h ∷ []) ≡ size_of counts headers + size_if (counts h) h.size
@@ -14,7 +14,7 @@ size_pushed counts headers h = sum_by_push (λ x. size_if (counts x) x.size) hea
 
 -- one section more
 pub sums_pushed : (headers : List Shdr) (h : Shdr)
-    → with_section (header_sums headers) h ≡ header_sums (headers ++ h ∷ [])
+    → sums_with_section (header_sums headers) h ≡ header_sums (headers ++ h ∷ [])
 unfolding header_sums
 sums_pushed headers h =
     rw (size_pushed is_text headers h, size_pushed is_data headers h, size_pushed is_bss headers h)
@@ -33,7 +33,7 @@ within_more m n sums more w = record {
 -- the next of them is added
 pub sums_next : (o : Object) (i : ℕ) (h : Shdr) (before after : Sums) → i < length o.sections
     → h ≡ (section_at o i).header → before ≡ header_sums (take i (map (λ s. s.header) o.sections))
-    → after ≡ with_section before h
+    → after ≡ sums_with_section before h
     → after ≡ header_sums (take (i + 1) (map (λ s. s.header) o.sections))
 unfolding section_at
 sums_next o i h before after low is so_far added =
@@ -44,7 +44,7 @@ sums_next o i h before after low is so_far added =
     get_or-map header o.sections i absent_section absent low ∙ sym is in
     let long : length headers ≡ length o.sections = length-map o.sections header in
     added
-    ∙ ap (λ (sums : Sums). with_section sums h) so_far
+    ∙ ap (λ (sums : Sums). sums_with_section sums h) so_far
     ∙ sums_pushed (take i headers) h
     ∙ ap (λ (x : Shdr). header_sums (take i headers ++ x ∷ [])) (sym here)
     ∙ ap header_sums (sym (take_more headers i absent (omega (arith, low, long))))
@@ -68,12 +68,12 @@ adds_none sums = record {
 
 -- and one more
 pub adds_more : (more : List Shdr) (h : Shdr) (old mid new : Sums) → Adds more old mid
-    → new ≡ with_section mid h → ((n : ℕ) → AreWithin n mid → AreWithin (n + 1) new)
+    → new ≡ sums_with_section mid h → ((n : ℕ) → AreWithin n mid → AreWithin (n + 1) new)
     → Adds (more ++ h ∷ []) old new
 adds_more more h old mid new adds is within = record {
   sums = λ headers same.
       is
-      ∙ ap (λ (sums : Sums). with_section sums h) (adds.sums headers same)
+      ∙ ap (λ (sums : Sums). sums_with_section sums h) (adds.sums headers same)
       ∙ sums_pushed (headers ++ more) h
       ∙ ap header_sums (append_assoc headers more (h ∷ []));
   within = λ n w.

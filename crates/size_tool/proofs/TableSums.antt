@@ -17,7 +17,7 @@ use Rattle.elf_ident.specs.Front.{shdrs_at}
 use Rattle.elf_ident.proofs.TableLemmas.{shdr_size_some, entries_count, told_same}
 use Rattle.elf_ident.proofs.PieceLemmas.{none_first, asks_stopped}
 use Rattle.size_tool.specs.declared.sums.Sums.{Sums}
-use Rattle.size_tool.specs.Sums.{header_sums, with_section, AreWithin, Adds}
+use Rattle.size_tool.specs.Sums.{header_sums, sums_with_section, AreWithin, Adds}
 use Rattle.size_tool.proofs.SumLemmas.{within_more, adds_none, adds_more}
 
 -- ---- The section headers of a piece
@@ -35,7 +35,7 @@ no_header_added h bytes sums =
 -- and one more
 pub header_added : (h : Ehdr) (i s w : ℕ) (bytes : List ℕ) (old mid new : Sums) (x : Shdr)
     → Adds (headers_in h i bytes) old mid → s ≡ shdr_size h.class → w ≡ s
-    → x ≡ shdr_of h.class h.order (take w (drop (i * s) bytes)) → new ≡ with_section mid x
+    → x ≡ shdr_of h.class h.order (take w (drop (i * s) bytes)) → new ≡ sums_with_section mid x
     → ((n : ℕ) → AreWithin n mid → AreWithin (n + 1) new)
     → Adds (headers_in h (i + 1) bytes) old new
 header_added h i s w bytes old mid new x adds size width value is within =

@@ -3,7 +3,7 @@ use Rattle.std.specs.Prelude.{◌++◌, ℕ, List, codes}
 use Rattle.tool_text.specs.declared.radixes.Radix.{Radix}
 use Rattle.tool_text.specs.declared.radixes.Radix.TheVariants.{Decimal, Hex}
 use Rattle.tool_output.specs.Names.{Name, name_ex}
-use Rattle.number_columns.specs.Columns.{column}
+use Rattle.tool_output.specs.Columns.Columns.{column}
 use Rattle.size_tool.specs.declared.sums.Sums.{Sums}
 
 -- the first line

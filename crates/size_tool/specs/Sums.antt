@@ -65,8 +65,8 @@ pub record AreWithin (count : ℕ) (sums : Sums) : Type 0 where
 -- ---- Headers one after another
 
 -- sums, and those of one section more
-abbrev pub with_section : Sums → Shdr → Sums
-with_section sums h = record {
+abbrev pub sums_with_section : Sums → Shdr → Sums
+sums_with_section sums h = record {
   text = sums.text + size_if (is_text h) h.size;
   «data» = sums.«data» + size_if (is_data h) h.size;
   bss = sums.bss + size_if (is_bss h) h.size;

@@ -53,8 +53,8 @@ fn add_headers(h: &Ehdr, bytes: &[u8], mut sums: Sums) -> Sums
     sums
 }
 
-/// Reads the section headers from the place `at` on into `bytes`, and adds their sections. It
-/// refuses `Read` alone.
+/// Reads the section headers from the place `at` on into `bytes`, and adds their sections. It fails
+/// with `Read` alone.
 fn add_piece<S: Source>(
     src: &mut S,
     h: &Ehdr,
@@ -81,7 +81,7 @@ fn add_piece<S: Source>(
 }
 
 /// The sums over a table of section headers, which is read by a buffer, as many of them at once as
-/// fit in it. It refuses `Read` alone.
+/// fit in it. It fails with `Read` alone.
 fn sum_pieces<S: Source>(
     src: &mut S,
     h: &Ehdr,
@@ -137,9 +137,9 @@ fn sum_table<S: Source, const N: usize>(src: &mut S, h: &Ehdr, count: u64) -> Re
 /// section headers, which are read a few at a time, three fields are looked at, and no list of them
 /// is kept.
 ///
-/// It refuses what `read_front` of elf_ident refuses, in its order, but for `Memory`: it takes
-/// none. It asks for at most one header and one section header, and for the table of section
-/// headers where nothing is refused; never for the program headers.
+/// It fails as `read_front` of elf_ident does, in its order, but for `Memory`: it takes none. It
+/// reads at most one header and one section header, and the table of section headers where nothing
+/// is rejected; never for the program headers.
 ///
 /// Source: gABI chapter 4, "ELF Header" and "Sections".
 pub fn sum_source<S: Source>(src: &mut S) -> Result<Sums, ElfError>

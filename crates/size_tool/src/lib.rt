@@ -1,4 +1,4 @@
-//! size: how much memory the sections of an object take.
+//! The tool size: how much memory the sections of an object take.
 #![tactic(auto)]
 
 pub mod headers;

@@ -6,7 +6,7 @@ ghost use Rattle.size_tool.specs.Rows.{size_title, cell, sum_cells, total_cells,
 
 use crate::sums::Sums;
 use elf_types::{ElfError, Octets, put_text};
-use number_columns::put_column;
+use tool_output::columns::put_column;
 use tool_output::{FileName, Line, NameEx};
 use tool_text::Radix;
 

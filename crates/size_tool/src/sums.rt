@@ -2,13 +2,13 @@
 
 ghost use Rattle.std.specs.Prelude.{◌≡◌, ◌+◌, ◌<◌, ◌≤◌, ◌^◌, ◌/◌, ◌%◌, ◌==◌, ℕ, [], length};
 ghost use Rattle.elf_object.specs.Sections.{is_allocated};
-ghost use Rattle.size_tool.specs.Sums.{is_bss, is_fixed, is_text, is_data, size_if, header_sums, sums_of, with_section, AreWithin};
+ghost use Rattle.size_tool.specs.Sums.{is_bss, is_fixed, is_text, is_data, size_if, header_sums, sums_of, sums_with_section, AreWithin};
 
 use elf_outside::Source;
 use elf_types::constants::{SHF_ALLOC, SHF_EXECINSTR, SHF_WRITE, SHT_NOBITS};
 use elf_types::{ScnId, Shdr};
-use object_output::prelude::Elf;
-use object_output::section_header;
+use tool_objects::prelude::Elf;
+use tool_objects::section_header;
 
 /// The sums of an object. As many sections of any size as there can be pass 64 bits.
 #[derive(Clone, Copy, Debug, PartialEq, Eq)]
@@ -88,7 +88,7 @@ pub fn no_sums() -> Sums
 #[inline(always)]
 pub fn with_section(sums: Sums, h: &Shdr) -> Sums
     requires { AreWithin (2 ^ 32) sums }
-    ensures sums { result ≡ with_section sums h.now }
+    ensures sums { result ≡ sums_with_section sums h.now }
     ensures within { (n : ℕ) → AreWithin n sums → AreWithin (n + 1) result }
 {
     let text = size_if(is_text(h), h.size);

@@ -2,10 +2,10 @@
 
 ghost use Rattle.std.specs.Prelude.{◌≡◌, ◌^◌, codes};
 ghost use Rattle.tool_output.specs.Names.{file_name};
-ghost use Rattle.tool_output.specs.Reports.{Reports, shown};
+ghost use Rattle.tool_output.specs.Reports.{Reports, shown_report};
 ghost use Rattle.tool_output.specs.Steps.{LeavesOutputs};
-ghost use Rattle.object_output.specs.Looks.{no_look};
-ghost use Rattle.object_output.specs.Shows.{ShowsElf};
+ghost use Rattle.tool_objects.specs.Looks.{no_look};
+ghost use Rattle.tool_objects.specs.Shows.{ShowsElf};
 ghost use Rattle.size_tool.specs.Rows.{size_row};
 ghost use Rattle.size_tool.specs.Sums.{AreWithin, total_of};
 ghost use Rattle.size_tool.specs.Tool.{size_report};
@@ -14,9 +14,9 @@ use crate::headers::sum_source;
 use crate::rows::SizeRow;
 use crate::sums::{Sums, sum_sections};
 use elf_outside::{Sink, Source};
-use object_output::prelude::Elf;
-use object_output::{ObjectTool, refuse, show_object};
 use std::alloc::Global;
+use tool_objects::prelude::Elf;
+use tool_objects::{ObjectTool, refuse, show_object};
 use tool_output::{FileName, Outputs, Stop};
 
 /// Shows the row of the sums of an object.
@@ -27,15 +27,15 @@ fn show_sums<O: Sink, E: Sink>(
 ) -> Result<bool, Stop>
     requires { AreWithin (2 ^ 32) sums }
     ensures reports { Reports O.Sink E.Sink result outputs.old outputs.new
-        (shown (size_row sums (total_of sums) name.now)) }
+        (shown_report (size_row sums (total_of sums) name.now)) }
     ensures leaves { LeavesOutputs O.Sink E.Sink ⊥ result outputs.old outputs.new }
 {
     let total = sums.text + sums.data + sums.bss;
     outputs.show(&SizeRow { sums, total, name })
 }
 
-/// The tool of the command size. It asks for nothing but the front, and of an image that no
-/// descriptor is over for no program headers either.
+/// The tool of the command size. It reads nothing but the headers; of an image without a descriptor
+/// not even the program headers.
 #[derive(Clone, Copy)]
 pub struct SizeTool;
 
@@ -60,7 +60,7 @@ impl ObjectTool for SizeTool {
         show_sums(sums, name, outputs)
     }
 
-    /// The same row as of a descriptor over the source, by the section headers alone.
+    /// The row of `show`, of a source, by the section headers alone.
     fn show_source<S: Source, O: Sink, E: Sink>(
         &self,
         _alloc: Global,
@@ -83,7 +83,7 @@ impl ObjectTool for SizeTool {
 
 /// Shows how much memory the sections of an object take, as a row of the command size, on two
 /// outputs: the bytes of text, of data and of sections that the file does not hold, and their sum
-/// in decimal and in hexadecimal. Nothing is read and nothing refused. It stops by `Write` where a
+/// in decimal and in hexadecimal. Nothing is read and nothing rejected. It stops by `Write` where a
 /// put failed, and by `Memory`.
 ///
 /// Source: gABI chapter 4, "Sections".

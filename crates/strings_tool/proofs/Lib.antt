@@ -1,7 +1,7 @@
-pub mod LaneLemmas
-pub mod RunLemmas
-pub mod TextLemmas
-pub mod ScanLemmas
-pub mod RangeLemmas
-pub mod SectionLemmas
-pub mod ToolLemmas
+mod LaneLemmas
+mod RunLemmas
+mod TextLemmas
+mod ScanLemmas
+mod RangeLemmas
+mod SectionLemmas
+mod ToolLemmas

@@ -1,4 +1,4 @@
-//! What the letters of strings ask for.
+//! What the options of strings ask for.
 
 use tool_text::Radix;
 
@@ -9,6 +9,6 @@ pub struct StringsOptions {
     pub all: bool,
     /// `-n`: the least length of a run, in bytes, from 1 to 4096.
     pub least: u32,
-    /// `-t`: the radix in which a run's place stands before it.
+    /// `-t`: the radix in which a run's place is before it.
     pub place: Option<Radix>,
 }

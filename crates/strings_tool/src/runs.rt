@@ -34,9 +34,9 @@ fn printable_mask(bytes: &[u8]) -> u64
     shown.to_bitmask()
 }
 
-/// The places at which so many set bits begin, one behind another. What is known of some bits is
-/// joined with what is known of as many behind them, so the number of steps is that of the digits
-/// of `count`.
+/// The places at which so many set bits begin, one after another. What is known of some bits is
+/// joined with what is known of as many after them, so the number of steps is that of the digits of
+/// `count`.
 #[inline(always)]
 fn run_starts(mask: u64, count: usize) -> u64
     requires { (0 < count) × (count ≤ LANES) }
@@ -52,7 +52,7 @@ fn run_starts(mask: u64, count: usize) -> u64
     starts
 }
 
-/// How many bits are set from a place on, one behind another.
+/// How many bits are set from a place on, one after another.
 #[inline(always)]
 fn set_bits(mask: u64, from: usize) -> usize
     requires { from < LANES }
@@ -68,7 +68,7 @@ fn set_bits(mask: u64, from: usize) -> usize
 }
 
 /// Finds the first run of at least so many bytes that has these among the first bytes: its place,
-/// and how many of the first bytes it has. Where they are the last ones, it may go on behind them.
+/// and how many of the first bytes it has. Where they are the last ones, it may go on after them.
 #[inline(always)]
 fn find_early_run(bytes: &[u8], least: usize) -> Option<(usize, usize)>
     requires room { LANES ≤ length bytes.now }
@@ -106,7 +106,7 @@ fn early_end(bytes: &[u8]) -> Option<usize>
     Some(clear.trailing_zeros() as usize)
 }
 
-/// How many printable bytes stand at the front.
+/// How many printable bytes are at the start.
 pub fn run_len(bytes: &[u8]) -> usize
     ensures len { result ≡ prefix_len is_printable bytes.now }
     ensures within { result ≤ length bytes.now }
@@ -141,8 +141,8 @@ fn last_unprintable(bytes: &[u8]) -> Option<usize>
 }
 
 /// Finds the first run of at least so many bytes, printable ones in a row, and gives the place
-/// where it begins and its length; where there is none, a place before which none begins and behind
-/// which fewer bytes stand. A short run is looked for by lanes. Else a byte that is not printable
+/// where it begins and its length; where there is none, a place before which none begins and after
+/// which fewer bytes are. A short run is looked for by lanes. Else a byte that is not printable
 /// rules out each place from which a run would have to go over it, so most bytes are not looked at.
 pub fn find_run(bytes: &[u8], least: usize) -> (usize, usize)
     requires { 0 < least }

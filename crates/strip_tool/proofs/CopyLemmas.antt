@@ -12,9 +12,9 @@ use Rattle.tool_output.specs.Made.{MakesFile}
 use Rattle.tool_output.specs.Steps.{Writes, LeavesOutputs}
 use Rattle.tool_output.proofs.FileLemmas.{totals_none}
 use Rattle.elf_outside.specs.Counts.{Rose}
-use Rattle.object_writing.specs.object_files.Making.{ReadsFrom}
-use Rattle.object_writing.proofs.object_files.WriteLemmas.{image_unput, image_done, image_stopped}
-use Rattle.strip_tool.specs.Copies.{MakesPlan, WritesImage, unrefused}
+use Rattle.tool_files.specs.Making.{ReadsFrom}
+use Rattle.tool_files.proofs.WriteLemmas.{image_unput, image_done, image_stopped}
+use Rattle.strip_tool.specs.Copies.{MakesPlan, WritesImage, refuses_nothing}
 
 -- ---- A file
 
@@ -96,7 +96,7 @@ module _ {S F D O E : Type 0} (g : SourceGhosts S) (f : FilesGhosts F D) (o : Si
   module _ (put : Writes {T = Unit {0}} o e (Ok tt) s t [])
       (l : LeavesOutputs {T = Unit {0}} o e ⊥ (Ok tt) s t) (next : S) (b : F) where
     pub made_left : (r : Result (Unit {0}) Stop) → MakesPlan g f out text r src next a b
-        → LeavesFilesBy f o e (Rose (g.faults src) (g.faults next)) (unrefused r) a b s t
+        → LeavesFilesBy f o e (Rose (g.faults src) (g.faults next)) (refuses_nothing r) a b s t
     made_left (Ok x) made =
         record { totals = made.makes.totals; keeps = l.keeps; read = tt; write = tt }
     made_left (Err Read) made = record {
@@ -115,7 +115,7 @@ module _ {S F D O E : Type 0} (g : SourceGhosts S) (f : FilesGhosts F D) (o : Si
         record { totals = made.makes.totals; keeps = l.keeps; read = tt; write = tt }
 
     image_by : (r : Result (Unit {0}) Stop) → MakesPlan g f out text r src next a b
-        → WritesImage g f o e out text (unrefused r) src next a b s t
+        → WritesImage g f o e out text (refuses_nothing r) src next a b s t
     image_by (Ok x) made = record {
       does = λ told. image_done f o e a s t told (tt {0}) b out (g.faults src) (g.faults next) put
           x text made.makes;
@@ -133,7 +133,7 @@ module _ {S F D O E : Type 0} (g : SourceGhosts S) (f : FilesGhosts F D) (o : Si
       leaves = made_left (Err stop) made;
     }
 
-    pub made_image : (r : Result (Unit {0}) Stop) (q : Result Bool Stop) → q ≡ unrefused r
+    pub made_image : (r : Result (Unit {0}) Stop) (q : Result Bool Stop) → q ≡ refuses_nothing r
         → MakesPlan g f out text r src next a b
         → WritesImage g f o e out text q src next a b s t
     made_image r q is made =

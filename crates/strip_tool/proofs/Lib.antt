@@ -1,8 +1,7 @@
-pub use Rattle.object_writing.proofs.elf_descriptor
-pub use Rattle.object_writing.proofs.object_files
-pub use Rattle.command_outcomes.proofs.object_output
-pub use Rattle.object_writing.proofs as object_writing
+pub use Rattle.tool_files.proofs.elf_descriptor
+pub use Rattle.tool_files.proofs as tool_files
+pub use Rattle.elfkit_outcomes.proofs.tool_objects
 pub mod StripLemmas
 pub mod CopyLemmas
 pub mod PlanLemmas
-pub mod WriteLemmas
+mod WriteLemmas

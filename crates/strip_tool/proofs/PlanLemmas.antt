@@ -5,21 +5,21 @@ use Rattle.elf_outside.specs.Asks.{Leaves}
 use Rattle.elf_outside.specs.declared.sources.Source.{Ghosts as SourceGhosts}
 use Rattle.elf_outside.specs.declared.sinks.Sink.{Ghosts as SinkGhosts}
 use Rattle.elf_outside.specs.declared.file_sets.Files.{Ghosts as FilesGhosts}
-use Rattle.command_outcomes.specs.elf_object.Object.{Object}
-use Rattle.object_writing.specs.elf_descriptor.State.{State}
+use Rattle.elfkit_outcomes.specs.elf_object.Object.{Object}
+use Rattle.tool_files.specs.elf_descriptor.State.{State}
 use Rattle.tool_output.specs.declared.stops.Stop.{Stop}
 use Rattle.tool_output.specs.declared.outputs.Outputs.{Outputs}
 use Rattle.tool_output.specs.Outcomes.{Does}
-use Rattle.tool_output.specs.Made.{Done, Complaint, made_file, made, written_outcome, outcome_with}
+use Rattle.tool_output.specs.Made.{Done, Complaint, made_file, made_file_alone, written_outcome, outcome_with}
 use Rattle.tool_output.specs.Reports.{Report, no_report}
 use Rattle.tool_output.specs.Statuses.{refused_status}
 use Rattle.tool_output.proofs.UnderWayLemmas.{shown_none}
-use Rattle.object_writing.specs.Writes.{WritesFile}
-use Rattle.object_writing.proofs.WriteLemmas.{DoesHere, written_then}
-use Rattle.strip_contents.specs.image_ranges.Images.{ranged_text}
-use Rattle.strip_contents.specs.image_ranges.Ranges.{KeptSource, kept_of_source}
-use Rattle.strip_contents.specs.declared.plans.RangedPlan.{RangedPlan}
-use Rattle.strip_contents.specs.Plans.{CopiesAs, kept_with}
+use Rattle.tool_files.specs.ElfImages.Writes.{WritesFile}
+use Rattle.tool_files.proofs.elf_images.WriteLemmas.{DoesHere, written_then}
+use Rattle.rebuild_plan.specs.rebuild_image.Ranges.Images.{ranged_text}
+use Rattle.rebuild_plan.specs.rebuild_image.Ranges.Ranges.{KeptSource, kept_of_source}
+use Rattle.rebuild_plan.specs.declared.plans.RangedPlan.{RangedPlan}
+use Rattle.rebuild_plan.specs.Plans.{CopiesAs, kept_with}
 use Rattle.strip_tool.specs.Copies.{WritesImage, IsOverSource, text_with, plan_text}
 use Rattle.strip_tool.proofs.StripLemmas.{over_stays}
 
@@ -28,7 +28,7 @@ module _ {S F D O E : Type 0} (g : SourceGhosts S) (f : FilesGhosts F D) (o : Si
   -- a file alone
   file_alone : (bytes : List ℕ) (r : Result Bool Stop) (a b : F) (s t : Outputs O E)
       → Does f o e refused_status (outcome_with no_report (made_file out bytes ∷ [])) r a b s t
-      → DoesHere f o e command (Ok (made out bytes)) r a b s t
+      → DoesHere f o e command (Ok (made_file_alone out bytes)) r a b s t
   unfolding written_outcome
   file_alone bytes r a b s t h =
       subst (λ (x : Report).
@@ -53,7 +53,7 @@ module _ {S F D O E : Type 0} (g : SourceGhosts S) (f : FilesGhosts F D) (o : Si
 
   -- what is stated is the file, and the plan is that of its bytes over the base
   abbrev IsFileOf : Result Done Complaint → List ℕ → RangedPlan → Type 0
-  IsFileOf q base x = (bytes : List ℕ) × (q ≡ Ok (made out bytes)) × CopiesAs base x bytes
+  IsFileOf q base x = (bytes : List ℕ) × (q ≡ Ok (made_file_alone out bytes)) × CopiesAs base x bytes
 
   module _ (old mid : State S) (next : S) (x : RangedPlan) (q : Result Done Complaint)
       (r : Result Bool Stop) (a b : F) (s t : Outputs O E) (over : IsOverSource g old)

@@ -5,27 +5,27 @@ use Rattle.elf_types.specs.declared.errors.ElfError.{ElfError}
 use Rattle.elf_outside.specs.Asks.{Leaves}
 use Rattle.elf_outside.specs.declared.sources.Source.{Ghosts}
 use Rattle.elf_outside.proofs.AskLemmas.{read_rose_before, read_rose_on}
-use Rattle.command_outcomes.specs.elf_object.Object.{Object}
-use Rattle.command_outcomes.specs.elf_object.Open.{begun}
-use Rattle.command_outcomes.specs.elf_object.Valid.{IsTied}
-use Rattle.command_outcomes.specs.elf_object.Words.{Wants, Answers}
-use Rattle.object_writing.specs.elf_descriptor.Begun.{begun_state, IsBegun}
-use Rattle.object_writing.specs.elf_descriptor.Sound.{IsSound}
-use Rattle.object_writing.specs.elf_descriptor.State.{State}
-use Rattle.object_writing.specs.elf_descriptor.Reads.{Queries}
-use Rattle.object_writing.specs.elf_descriptor.Views.{source_bytes}
-use Rattle.command_outcomes.proofs.object_output.SourceSteps.{leaves_then}
-use Rattle.command_outcomes.specs.command_objects.Files.{file_made}
-use Rattle.command_outcomes.specs.command_objects.Removed.{removed_sections}
-use Rattle.command_outcomes.specs.command_objects.Rebuilt.{rebuilt}
-use Rattle.strip_contents.specs.strip_laws.Made.{FitsClass}
-use Rattle.strip_contents.proofs.strip_laws.WritableLaws.{begun_fits_class}
-use Rattle.strip_contents.specs.image_ranges.Ranges.{KeptSource}
-use Rattle.strip_contents.proofs.image_ranges.RangeLaws.{kept_same}
-use Rattle.strip_contents.specs.strip_removed.Calls as calls
-use Rattle.strip_contents.specs.declared.plans.RangedPlan.{RangedPlan}
-use Rattle.strip_contents.specs.Plans.{FileAnswers, StreamsRebuilt}
-use Rattle.strip_contents.proofs.RemovedLaws.{set_is, never_refused}
+use Rattle.elfkit_outcomes.specs.elf_object.Object.{Object}
+use Rattle.elfkit_outcomes.specs.elf_object.Open.{begun}
+use Rattle.elfkit_outcomes.specs.elf_object.Valid.{IsTied}
+use Rattle.elfkit_outcomes.specs.elf_object.Words.{Wants, Answers}
+use Rattle.tool_files.specs.elf_descriptor.Begun.{begun_state, IsBegun}
+use Rattle.tool_files.specs.elf_descriptor.Sound.{IsSound}
+use Rattle.tool_files.specs.elf_descriptor.State.{State}
+use Rattle.tool_files.specs.elf_descriptor.Reads.{Queries}
+use Rattle.tool_files.specs.elf_descriptor.Views.{source_bytes}
+use Rattle.elfkit_outcomes.proofs.tool_objects.SourceSteps.{leaves_then}
+use Rattle.elfkit_outcomes.specs.rebuild_model.Files.{file_made}
+use Rattle.elfkit_outcomes.specs.rebuild_model.Removed.{removed_sections}
+use Rattle.elfkit_outcomes.specs.rebuild_model.Rebuilt.{rebuilt}
+use Rattle.rebuild_plan.specs.law_rebuild.Strip.Made.{FitsClass}
+use Rattle.rebuild_plan.proofs.law_rebuild.strip.WritableLaws.{begun_fits_class}
+use Rattle.rebuild_plan.specs.rebuild_image.Ranges.Ranges.{KeptSource}
+use Rattle.rebuild_plan.proofs.rebuild_image.ranges.RangeLaws.{kept_same}
+use Rattle.rebuild_plan.specs.rebuild_select.Calls as calls
+use Rattle.rebuild_plan.specs.declared.plans.RangedPlan.{RangedPlan}
+use Rattle.rebuild_plan.specs.Plans.{FileAnswers, StreamsRebuilt}
+use Rattle.rebuild_plan.proofs.RemovedLaws.{set_is, never_refused}
 use Rattle.strip_tool.specs.Copies.{IsOverSource}
 use Rattle.strip_tool.specs.Steps.{PlansStripped}
 
@@ -78,10 +78,10 @@ unfolding begun_state
 begun_tied {S} g src e is sound t =
     sound.tied (subst (λ (b : Bool). IsTrue b) (ap (λ (x : State S). x.told) is.state) t)
 
-pub begun_fits : {S : Type 0} (g : Ghosts S) (src : S) (e : State S) → IsBegun g src e
+pub begun_object_fits : {S : Type 0} (g : Ghosts S) (src : S) (e : State S) → IsBegun g src e
     → FitsClass e.o
 unfolding begun_state
-begun_fits {S} g src e is =
+begun_object_fits {S} g src e is =
     subst (λ (x : State S). FitsClass x.o) (sym is.state)
     (begun_fits_class is.front (source_bytes (g.holds e.source) (g.size e.source)) is.fitting)
 

@@ -7,21 +7,21 @@ use Rattle.elf_types.specs.Text.{error_text}
 use Rattle.elf_outside.specs.declared.sources.Source.{Ghosts as SourceGhosts}
 use Rattle.elf_outside.specs.declared.sinks.Sink.{Ghosts as SinkGhosts}
 use Rattle.elf_outside.specs.declared.file_sets.Files.{Ghosts as FilesGhosts}
-use Rattle.command_outcomes.specs.elf_object.Object.{Object}
-use Rattle.object_writing.specs.elf_descriptor.State.{State}
-use Rattle.command_outcomes.specs.command_objects.Removed.{removed_sections}
-use Rattle.command_outcomes.specs.command_objects.Rebuilt.{rebuilt}
-use Rattle.command_outcomes.specs.command_objects.Files.{file_made}
-use Rattle.command_outcomes.specs.Strip.{strip_alone}
+use Rattle.elfkit_outcomes.specs.elf_object.Object.{Object}
+use Rattle.tool_files.specs.elf_descriptor.State.{State}
+use Rattle.elfkit_outcomes.specs.rebuild_model.Removed.{removed_sections}
+use Rattle.elfkit_outcomes.specs.rebuild_model.Rebuilt.{rebuilt}
+use Rattle.elfkit_outcomes.specs.rebuild_model.Files.{file_made}
+use Rattle.elfkit_outcomes.specs.Strip.{strip_alone}
 use Rattle.tool_output.specs.declared.stops.Stop.{Stop}
 use Rattle.tool_output.specs.declared.outputs.Outputs.{Outputs}
 use Rattle.tool_output.specs.Names.{file_name}
 use Rattle.tool_output.specs.Made.{complaint, written_outcome}
-use Rattle.command_outcomes.specs.object_output.Refusals.{Refuses}
-use Rattle.object_writing.specs.Writes.{WritesFile}
-use Rattle.object_writing.proofs.WriteLemmas.{refused_writes}
-use Rattle.strip_contents.specs.declared.plans.RangedPlan.{RangedPlan}
-use Rattle.strip_contents.specs.Plans.{FileAnswers}
+use Rattle.elfkit_outcomes.specs.tool_objects.Refusals.{ReportsRefusal}
+use Rattle.tool_files.specs.ElfImages.Writes.{WritesFile}
+use Rattle.tool_files.proofs.elf_images.WriteLemmas.{refused_writes}
+use Rattle.rebuild_plan.specs.declared.plans.RangedPlan.{RangedPlan}
+use Rattle.rebuild_plan.specs.Plans.{FileAnswers}
 use Rattle.strip_tool.specs.Copies.{WritesImage, IsOverSource, plan_text}
 use Rattle.strip_tool.specs.Steps.{PlansStripped}
 use Rattle.strip_tool.specs.Writes.{stripped_done, object_done}
@@ -68,7 +68,7 @@ module _ {S F D O E : Type 0} (g : SourceGhosts S) (f : FilesGhosts F D) (o : Si
 
   pub stripped_refused : (old mid : State S) (d : ElfError) (r : Result Bool Stop) (a : F)
       (s t : Outputs O E) → PlansStripped g debug_only names (Err d) old mid
-      → Refuses o e (codes "strip") (file_name file) d r s t
+      → ReportsRefusal o e (codes "strip") (file_name file) d r s t
       → Writes old.o r old (record old { source = mid.source }) a a s t
   stripped_refused old mid d r a s t plans h =
       refused_writes g f o e (codes "strip") file (object_done debug_only names file out old.o)

@@ -5,7 +5,7 @@ use Rattle.elf_outside.specs.Counts.{Rose}
 use Rattle.elf_outside.specs.declared.sources.Source.{Ghosts as SourceGhosts}
 use Rattle.elf_outside.specs.declared.sinks.Sink.{Ghosts as SinkGhosts}
 use Rattle.elf_outside.specs.declared.file_sets.Files.{Ghosts as FilesGhosts}
-use Rattle.object_writing.specs.elf_descriptor.State.{State}
+use Rattle.tool_files.specs.elf_descriptor.State.{State}
 use Rattle.tool_output.specs.declared.stops.Stop.{Stop}
 use Rattle.tool_output.specs.declared.outputs.Outputs.{Outputs}
 use Rattle.tool_output.specs.Files.{LeavesFilesBy}
@@ -13,11 +13,11 @@ use Rattle.tool_output.specs.Made.{made_file, outcome_with, MakesFile}
 use Rattle.tool_output.specs.Outcomes.{Does}
 use Rattle.tool_output.specs.Reports.{no_report}
 use Rattle.tool_output.specs.Statuses.{refused_status}
-use Rattle.strip_contents.specs.image_ranges.declared.images.RangedImage.{RangedImage}
-use Rattle.strip_contents.specs.image_ranges.Images.{ranged_text}
-use Rattle.strip_contents.specs.image_ranges.Ranges.{KeptSource, bytes_of_source, kept_of_source, kept_of_parts}
-use Rattle.strip_contents.specs.declared.plans.RangedPlan.{RangedPlan}
-use Rattle.strip_contents.specs.Plans.{kept_with}
+use Rattle.rebuild_plan.specs.rebuild_image.declared.ranges.images.RangedImage.{RangedImage}
+use Rattle.rebuild_plan.specs.rebuild_image.Ranges.Images.{ranged_text}
+use Rattle.rebuild_plan.specs.rebuild_image.Ranges.Ranges.{KeptSource, bytes_of_source, kept_of_source, kept_of_parts}
+use Rattle.rebuild_plan.specs.declared.plans.RangedPlan.{RangedPlan}
+use Rattle.rebuild_plan.specs.Plans.{kept_with}
 
 -- ---- What is written
 
@@ -54,9 +54,9 @@ pub record MakesPlan {S F D : Type 0} (s : SourceGhosts S) (f : FilesGhosts F D)
   pub live : f.live files_old < 2 ^ 64 - 2 → f.live files_new ≡ f.live files_old
 
 -- it refuses nothing
-abbrev pub unrefused : Result (Unit {0}) Stop → Result Bool Stop
-unrefused (Ok x) = Ok false
-unrefused (Err stop) = Err stop
+abbrev pub refuses_nothing : Result (Unit {0}) Stop → Result Bool Stop
+refuses_nothing (Ok x) = Ok false
+refuses_nothing (Err stop) = Err stop
 
 -- These bytes are written to a new file, or the step stops on the way. The source of the image
 -- holds what it held, the file that is made is closed again, and the step stops by Read only where

@@ -1,8 +1,7 @@
-pub use Rattle.command_outcomes.specs as command_outcomes
-pub use Rattle.object_writing.specs.elf_descriptor
-pub use Rattle.object_writing.specs.object_files
-pub use Rattle.command_outcomes.specs.object_output
-pub use Rattle.object_writing.specs as object_writing
+pub use Rattle.rebuild_plan.specs.elf_descriptor
+pub use Rattle.elfkit_outcomes.specs as elfkit_outcomes
+pub use Rattle.tool_files.specs as tool_files
+pub use Rattle.elfkit_outcomes.specs.tool_objects
 pub mod Steps
 pub mod Writes
 pub mod Copies

@@ -2,14 +2,14 @@
 use Rattle.std.specs.Prelude.{ℕ, Bool, List, Result, Ok}
 use Rattle.elf_types.specs.declared.errors.ElfError.{ElfError}
 use Rattle.elf_types.specs.Answers.{◌>>=◌}
-use Rattle.command_outcomes.specs.elf_object.Object.{Object}
-use Rattle.command_outcomes.specs.command_objects.Removed.{removed_sections}
-use Rattle.command_outcomes.specs.Strip.{strip_alone}
-use Rattle.tool_output.specs.Made.{Done, Complaint, made, of_file}
+use Rattle.elfkit_outcomes.specs.elf_object.Object.{Object}
+use Rattle.elfkit_outcomes.specs.rebuild_model.Removed.{removed_sections}
+use Rattle.elfkit_outcomes.specs.Strip.{strip_alone}
+use Rattle.tool_output.specs.Made.{Done, Complaint, made_file_alone, of_file}
 
 -- the file of what was made anew, or why there is none
 abbrev pub stripped_done : List ℕ → List ℕ → Result (List ℕ) ElfError → Result Done Complaint
-stripped_done file out r = of_file file r >>= λ bytes. Ok (made out bytes)
+stripped_done file out r = of_file file r >>= λ bytes. Ok (made_file_alone out bytes)
 
 abbrev pub object_done : Bool → List (List ℕ) → List ℕ → List ℕ → Object → Result Done Complaint
 object_done debug_only names file out o =

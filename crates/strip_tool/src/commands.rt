@@ -5,9 +5,9 @@ ghost use Rattle.strip_tool.specs.Writes.{object_done};
 
 use crate::writing::write_stripped;
 use elf_outside::{Files, Sink, Source};
-use object_writing::ImageCommand;
-use object_writing::prelude::Elf;
 use std::alloc::Global;
+use tool_files::elf_images::ImageCommand;
+use tool_files::prelude::Elf;
 use tool_output::{Outputs, Stop};
 use tool_text::Args;
 
@@ -23,7 +23,7 @@ pub struct StripCommand<'a> {
 }
 
 /// The image without the sections that are removed is written to the new file, while the old one is
-/// open: what stays as it is is copied range by range. An image that cannot be made anew has the
+/// open: what stays as it is is copied range by range. An image that cannot be rebuilt has the
 /// message that says why: then no file is made.
 impl ImageCommand for StripCommand<'_> {
     ghost named = { λ _. codes "strip" };

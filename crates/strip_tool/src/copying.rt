@@ -1,17 +1,17 @@
 //! The new file of a plan.
 
 ghost use Rattle.std.specs.Prelude.{◌≡◌};
-ghost use Rattle.strip_tool.specs.Copies.{MakesPlan, WritesImage, image_text, plan_text, unrefused};
+ghost use Rattle.strip_tool.specs.Copies.{MakesPlan, WritesImage, image_text, plan_text, refuses_nothing};
 
 use elf_outside::{Files, Sink, Source};
-use object_writing::prelude::make_file;
+use rebuild_plan::RangedPlan;
+use rebuild_plan::prelude::{RangedImage, RangedParts};
 use std::alloc::Global;
-use strip_contents::RangedPlan;
-use strip_contents::prelude::{RangedImage, RangedParts};
+use tool_files::prelude::make_file;
 use tool_output::{Outputs, Stop};
 
-/// Makes the new file of an image of ranges, where each range lies in its bytes and the parts stand
-/// one behind the other; one of which that is not so is not begun, and the step stops by `Memory`.
+/// Makes the new file of an image of ranges, where each range lies in its bytes and the parts are
+/// one after the other; one of which that is not so is not begun, and the step stops by `Memory`.
 fn make_ready<S: Source, F: Files>(
     alloc: Global,
     image: &mut RangedImage<S>,
@@ -30,7 +30,7 @@ fn make_ready<S: Source, F: Files>(
 /// Makes the new file of the image of a plan, which is copied out of a source, and hands that back.
 /// It stops by `Read` where a read of the source failed, by `Write` where a write of the file
 /// failed, and by `Memory`, which is also what a plan gives that cannot be written. Then the name
-/// of the file holds what it held or a front of the image.
+/// of the file holds what it held or a prefix of the image.
 pub fn make_plan<S: Source, F: Files>(
     alloc: Global,
     src: S,
@@ -56,9 +56,9 @@ pub fn make_plan<S: Source, F: Files>(
     (image.parts.source, made)
 }
 
-/// The answer of a command whose files were made, or which stopped: it refuses nothing.
+/// The result of a command whose files were made, or which stopped: it rejects nothing.
 pub fn not_refused(made: Result<(), Stop>) -> Result<bool, Stop>
-    ensures { result ≡ unrefused made }
+    ensures { result ≡ refuses_nothing made }
 {
     match made {
         Ok(()) => Ok(false),
@@ -67,7 +67,7 @@ pub fn not_refused(made: Result<(), Stop>) -> Result<bool, Stop>
 }
 
 /// Writes the image of a plan to the new file `out`, copied out of a source, and hands that back.
-/// What waits for the outputs is put before. It refuses nothing, and stops as `make_plan` does, and
+/// What waits for the outputs is put before. It rejects nothing, and stops as `make_plan` does, and
 /// by `Write` where a put failed.
 pub fn write_plan<S: Source, F: Files, O: Sink, E: Sink>(
     alloc: Global,

@@ -1,22 +1,20 @@
 //! The plan of what is kept.
 
-ghost use Rattle.std.specs.Prelude.{◌≡◌, false, IsTrue};
-ghost use Rattle.command_outcomes.specs.elf_object.Object.{is_dirty};
-ghost use Rattle.command_outcomes.specs.elf_object.Valid.{IsTied};
-ghost use Rattle.strip_contents.specs.strip_laws.Made.{FitsClass};
+ghost use Rattle.std.specs.Prelude.{◌≡◌, false};
+ghost use Rattle.elfkit_outcomes.specs.elf_object.Object.{is_dirty};
 ghost use Rattle.strip_tool.specs.Steps.{PlansStripped};
 
 use elf_outside::Source;
 use elf_types::ElfError;
-use object_writing::prelude::Elf;
+use rebuild_plan::prelude::removed;
+use rebuild_plan::{RangedPlan, plan_rebuilt};
 use std::alloc::Global;
-use strip_contents::prelude::removed;
-use strip_contents::{RangedPlan, plan_rebuilt};
+use tool_files::prelude::Elf;
 use tool_text::Args;
 
 /// The plan of the image of an object in which nothing is dirty, without the sections that the
-/// names and the kind of the command remove: where each part stands, and where its bytes are. It
-/// refuses as `plan_rebuilt`, and reads as `removed` and `plan_rebuilt`.
+/// names and the kind of the command remove: where each part is, and where its bytes are. It fails
+/// as `plan_rebuilt`, and reads as `removed` and `plan_rebuilt`.
 ///
 /// Source: strip(1) of the development tools.
 pub fn plan_stripped<S: Source>(
@@ -26,8 +24,6 @@ pub fn plan_stripped<S: Source>(
     names: &Args,
 ) -> Result<RangedPlan, ElfError>
     requires clean { is_dirty elf.old.o ≡ false }
-    requires tied { IsTrue elf.old.told → IsTied elf.old.o }
-    requires fits { FitsClass elf.old.o }
     ensures { PlansStripped S.Source debug_only names.now result elf.old elf.new }
 {
     match removed(alloc, elf, debug_only, names) {

@@ -1,11 +1,9 @@
 //! The new file of an open one.
 
-ghost use Rattle.std.specs.Prelude.{◌≡◌, false, IsTrue, codes};
-ghost use Rattle.command_outcomes.specs.elf_object.Object.{is_dirty};
-ghost use Rattle.command_outcomes.specs.elf_object.Valid.{IsTied};
-ghost use Rattle.strip_contents.specs.strip_laws.Made.{FitsClass};
+ghost use Rattle.std.specs.Prelude.{◌≡◌, false, codes};
+ghost use Rattle.elfkit_outcomes.specs.elf_object.Object.{is_dirty};
 ghost use Rattle.tool_output.specs.Made.{written_outcome};
-ghost use Rattle.object_writing.specs.Writes.{WritesFile};
+ghost use Rattle.tool_files.specs.ElfImages.Writes.{WritesFile};
 ghost use Rattle.strip_tool.specs.Copies.{IsOverSource};
 ghost use Rattle.strip_tool.specs.Writes.{object_done};
 
@@ -13,13 +11,13 @@ use crate::commands::StripCommand;
 use crate::copying::write_plan;
 use crate::planning::plan_stripped;
 use elf_outside::{Files, Sink, Source};
-use object_writing::prelude::Elf;
-use object_writing::refuse_for;
 use std::alloc::Global;
+use tool_files::elf_images::refuse_for;
+use tool_files::prelude::Elf;
 use tool_output::{Outputs, Stop};
 
-/// Does the command with the object of the file `file`, of which nothing is dirty and whose base
-/// is that file, and hands the source back. What is refused has the message that says why: then no
+/// Does the command with the object of the file `file`, of which nothing is dirty and whose base is
+/// that file, and hands the source back. What is rejected has the message that says why: then no
 /// file is made. It stops by `Read` only where a read of the source failed.
 pub(crate) fn write_stripped<S: Source, F: Files, O: Sink, E: Sink>(
     command: &StripCommand<'_>,
@@ -31,8 +29,6 @@ pub(crate) fn write_stripped<S: Source, F: Files, O: Sink, E: Sink>(
 ) -> (S, Result<bool, Stop>)
     requires over { IsOverSource S.Source elf }
     requires clean { is_dirty elf.o ≡ false }
-    requires tied { IsTrue elf.told → IsTied elf.o }
-    requires fits { FitsClass elf.o }
     ensures { WritesFile S.Source F.Files O.Sink E.Sink
         (written_outcome (codes "strip") (object_done command.now.debug_only command.now.names.now
         file.now command.now.out.now elf.o))

@@ -1,6 +1,6 @@
 //! What a table in the making keeps of each of its names.
 
-/// Where a name stands in the table.
+/// Where a name is in the table.
 #[derive(Clone, Copy)]
 pub struct Entry {
     /// The offset of the name's first byte in the table.

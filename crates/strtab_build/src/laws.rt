@@ -1,11 +1,11 @@
-//! The laws of string tables in order of first use.
+//! The theorems on string tables in order of first use.
 
 ghost use Rattle.std.specs.Prelude.{◌≡◌, ◌≢◌, ℕ, List, ◌++◌, All, Contains};
 ghost use Rattle.strtab_build.specs.Table.{distinct, table, place_of, string_at};
 
 /// What a table means for a caller that keeps all the names that it used, repeats and the empty
 /// name among them, while `Strings` keeps each once. The call does nothing: its contract is the
-/// law.
+/// theorem.
 ///
 /// The distinct names have the table and the places of all that were used, and with more names they
 /// become the distinct names of all. A name keeps its place while more are used, and the string at

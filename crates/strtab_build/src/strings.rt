@@ -18,7 +18,7 @@ const LIMIT: usize = u32::MAX as usize;
 /// The names of a string table in the making, which contracts see as their list: each name that is
 /// not empty once, in order of first use.
 ///
-/// A name's bytes stand once, in the table. A map in order of insertion has an entry for each name,
+/// A name's bytes are once, in the table. A map in order of insertion has an entry for each name,
 /// so its own order is that of first use. The key of a name is its hash, and how many names before
 /// it have that hash. The hash has a fixed seed, so whoever picks the names can make them collide,
 /// and each of these is then compared with those before.
@@ -26,7 +26,7 @@ const LIMIT: usize = u32::MAX as usize;
 pub struct Strings {
     /// The table without its last NUL, so that a name follows its NUL, and no name takes no memory.
     bytes: Vec<u8>,
-    /// Where each name stands, in order of first use.
+    /// Where each name is, in order of first use.
     entries: IndexMap<(u64, u32), Entry>,
 }
 
@@ -67,8 +67,8 @@ impl Strings {
     /// The offset of a name in the table. An equal name has one offset, the empty name has 0, and a
     /// new name goes last.
     ///
-    /// It refuses `TooLarge` exactly where the table would pass 2^32 - 1 bytes, and else `Memory`
-    /// where there is none. Then nothing changed.
+    /// It fails with `TooLarge` exactly where the table would pass 2^32 - 1 bytes, and else
+    /// `Memory` where there is none. Then nothing changed.
     pub fn add(&mut self, bytes: &[u8]) -> Result<u32, ElfError>
         requires { All (λ b. b ≢ 0) bytes.now }
         ensures names { OnOk result (self.new ≡ distinct (self.old ++ bytes.now ∷ [])) }
@@ -91,7 +91,7 @@ impl Strings {
     }
 
     /// The table: a NUL and the names in order of first use, each with its NUL (gABI chapter 4,
-    /// "String Table"). It refuses `Memory` alone.
+    /// "String Table"). It fails with `Memory` alone.
     pub fn finish(self) -> Result<Octets, ElfError>
         ensures ok { IfOk result (λ bytes. bytes ≡ table self) }
         ensures err { IfErr result (λ e. e ≡ ElfError.Memory) }

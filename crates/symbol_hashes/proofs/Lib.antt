@@ -1,2 +1,2 @@
 pub mod HashLemmas
-pub mod NumberLemmas
+mod NumberLemmas

@@ -1,5 +1,5 @@
-//! What the two kinds of hash sections are made of: the hashes of names, the numbers at a place of
-//! a section, and the bits of a bloom.
+//! The parts of both kinds of hash sections: the hashes of names, the numbers at a place of a
+//! section, and the bits of a bloom filter.
 #![tactic(auto)]
 
 mod blooms;

@@ -17,11 +17,11 @@ use Rattle.hash_model.specs.elf_object.Words.{result_map}
 use Rattle.hash_model.specs.Hashes.{gnu_hash}
 use Rattle.hash_model.specs.HashSections.{GnuHash, bloom_bits, bloom_bytes, numbers_at, gnu_head, gnu_chains_at, gnu_in, has_bit, passes, gnu_word, is_end, gnu_chain, gnu_chain_from, is_on_with, is_found_gnu, is_whole_gnu, ends}
 use Rattle.hash_model.specs.elf_object.Sections.{is_among}
-use Rattle.symbol_lookup.specs.declared.walks.Step.{Step}
-use Rattle.symbol_lookup.specs.declared.walks.Start.{Start}
+use Rattle.symbol_lookup.specs.declared.walks.WalkStep.{WalkStep}
+use Rattle.symbol_lookup.specs.declared.walks.WalkStart.{WalkStart}
 use Rattle.symbol_lookup.specs.declared.walks.GnuHead.{GnuHead}
 use Rattle.symbol_lookup.specs.declared.walks.Links.TheVariants as links
-use Rattle.symbol_lookup.specs.Walks.{number_in, counted, count_in, head_in, nowhere, bloom_at, has_bits, buckets_at, chains_at, first_from, bucket_in, behind_head, gnu_start, gnu_next, walk_from}
+use Rattle.symbol_lookup.specs.Walks.{hash_number_in, nonzero_count, hash_count_in, gnu_head_in, nowhere, bloom_at, has_bits, buckets_at, chains_at, first_from, bucket_in, behind_head, gnu_start, gnu_next, walk_from}
 use Rattle.symbol_lookup.proofs.LeastLaws.{listed_at, all_at, all_six}
 use Rattle.symbol_lookup.proofs.SysvReach.{walked, walk_ends, positive, ended}
 
@@ -63,15 +63,15 @@ module _ (class : Class) (order : Order) (bytes : List ℕ) where
   abbrev pub head : GnuHead
   head = record { nbuckets = number 0; symoffset = number 4; size = number 8; shift = number 12 }
 
-  number_there : (at width : ℕ) → at + width ≤ length bytes → number_in order bytes at width ≡ Ok (number_at order bytes at width)
-  unfolding number_in
+  number_there : (at width : ℕ) → at + width ≤ length bytes → hash_number_in order bytes at width ≡ Ok (number_at order bytes at width)
+  unfolding hash_number_in
   number_there at width within =
       ap (λ (b : Bool). if b then Ok (number_at order bytes at width) else Err (BadChain at)) (le-leb (at + width) (length bytes) within)
 
-  count_there : (at : ℕ) → at + 4 ≤ length bytes → 0 < number at → count_in order bytes at ≡ Ok (number at)
-  unfolding count_in counted
+  count_there : (at : ℕ) → at + 4 ≤ length bytes → 0 < number at → hash_count_in order bytes at ≡ Ok (number at)
+  unfolding hash_count_in nonzero_count
   count_there at within some =
-      ap (λ (r : Result ℕ ElfError). r >>= counted at) (number_there at 4 within)
+      ap (λ (r : Result ℕ ElfError). r >>= nonzero_count at) (number_there at 4 within)
       ∙ ap (λ (b : Bool). if b then Err (BadChain at) else Ok (number at)) (ne_eqb (number at) 0 (λ is. absurd (omega (arith, is, some))))
 
   at_numbers : (at width count i : ℕ) → i < count → get_or (numbers_at order bytes at width count) i 0 ≡ number_at order bytes (at + width * i) width
@@ -86,16 +86,16 @@ module _ (class : Class) (order : Order) (bytes : List ℕ) where
   with_shift nbuckets symoffset size shift = Ok (record { nbuckets = nbuckets; symoffset = symoffset; size = size; shift = shift })
 
   abbrev with_size : ℕ → ℕ → ℕ → Result GnuHead ElfError
-  with_size nbuckets symoffset size = number_in order bytes 12 4 >>= with_shift nbuckets symoffset size
+  with_size nbuckets symoffset size = hash_number_in order bytes 12 4 >>= with_shift nbuckets symoffset size
 
   abbrev with_symoffset : ℕ → ℕ → Result GnuHead ElfError
-  with_symoffset nbuckets symoffset = count_in order bytes 8 >>= with_size nbuckets symoffset
+  with_symoffset nbuckets symoffset = hash_count_in order bytes 8 >>= with_size nbuckets symoffset
 
   abbrev with_nbuckets : ℕ → Result GnuHead ElfError
-  with_nbuckets nbuckets = number_in order bytes 4 4 >>= with_symoffset nbuckets
+  with_nbuckets nbuckets = hash_number_in order bytes 4 4 >>= with_symoffset nbuckets
 
-  head_is : 16 ≤ length bytes → 0 < number 0 → 0 < number 8 → head_in order bytes ≡ Ok head
-  unfolding head_in
+  head_is : 16 ≤ length bytes → 0 < number 0 → 0 < number 8 → gnu_head_in order bytes ≡ Ok head
+  unfolding gnu_head_in
   head_is long buckets bloom =
       ap (λ (r : Result ℕ ElfError). r >>= with_nbuckets) (count_there 0 (omega (arith, long)) buckets)
       ∙ ap (λ (r : Result ℕ ElfError). r >>= with_symoffset (number 0)) (number_there 4 4 (omega (arith, long)))
@@ -111,7 +111,7 @@ module _ (class : Class) (order : Order) (bytes : List ℕ) where
   chains = chains_at class head
 
   -- the step from a symbol by its chain word
-  abbrev step_by : ℕ → ℕ → Step
+  abbrev step_by : ℕ → ℕ → WalkStep
   step_by i word = record { at = chains + 4 * (i - number 4); symbol = if is_end word then 0 else i + 1 }
 
   next_is : (count i word : ℕ) → gnu_word whole count i ≡ Some word
@@ -192,7 +192,7 @@ module _ (class : Class) (order : Order) (bytes : List ℕ) where
   abbrev pub first : ℕ → ℕ
   first hash = number (bucket_place hash)
 
-  abbrev pub start : ℕ → Start
+  abbrev pub start : ℕ → WalkStart
   start hash = record { links = links.Gnu (number 4) chains; step = record { at = bucket_place hash; symbol = first hash } }
 
   passes_is : 0 < number 8 → (hash : ℕ) → passes class whole hash ≡ has_bits class head hash (bloom_word hash)

@@ -16,7 +16,7 @@ use Rattle.gelf_view.specs.Calls as views
 use Rattle.gelf_view.specs.elf_descriptor.State.{State}
 use Rattle.gelf_view.specs.elf_descriptor.Reads.{Reads, Queries, Looks, wanted}
 use Rattle.gelf_view.proofs.elf_descriptor.ReadsLaws.{reads_then}
-use Rattle.symbol_lookup.specs.declared.walks.Start.{Start}
+use Rattle.symbol_lookup.specs.declared.walks.WalkStart.{WalkStart}
 use Rattle.symbol_lookup.specs.Lookups.{Needs, needs_memory, link_of, found_from, words_refusal, bytes_refusal, linked_refusal, sysv_refusal, gnu_refusal, sysv_found, gnu_found, sysv_needs, gnu_needs, find_sysv_answer, find_gnu_answer, find_sysv, find_gnu, chain_refusals}
 use Rattle.symbol_lookup.specs.Searches.{HasLinks, HasTable, IsFree, MayEnd, Searches}
 use Rattle.symbol_lookup.proofs.FollowLaws.{then_follows, later_follows}
@@ -27,12 +27,12 @@ use Rattle.symbol_lookup.proofs.StepLaws.{links_stay, table_stays}
 
 -- ---- A walk behind its beginning
 
-module _ {S : Type 0} (g : Ghosts S) (n : Needs) (old mid : State S) (h s : ℕ) (name : List ℕ) (start : Start) (first : Searches {T = Start} g n (Ok start) old mid) (link : s ≡ link_of old.o h) where
+module _ {S : Type 0} (g : Ghosts S) (n : Needs) (old mid : State S) (h s : ℕ) (name : List ℕ) (start : WalkStart) (first : Searches {T = WalkStart} g n (Ok start) old mid) (link : s ≡ link_of old.o h) where
   pub linked_there : linked_refusal old.o h ≡ None → lend_refusal mid.o kinds.Sym s 0 ≡ None
   linked_there passed =
       ap (λ (o : Object). lend_refusal o kinds.Sym s 0) first.object ∙ ap (λ (k : ℕ). lend_refusal old.o kinds.Sym k 0) link ∙ passed
 
-  pub behind_follows : (r : Result (Option ℕ) ElfError) (begun : Result Start ElfError) → (IsTrue old.told → Follows (Ok start) begun) → (IsTrue mid.told → Follows r (found_from mid.o h s name start))
+  pub behind_follows : (r : Result (Option ℕ) ElfError) (begun : Result WalkStart ElfError) → (IsTrue old.told → Follows (Ok start) begun) → (IsTrue mid.told → Follows r (found_from mid.o h s name start))
       → IsTrue old.told → Follows r (begun >>= found_from old.o h (link_of old.o h) name)
   behind_follows r begun came later told =
       then_follows start begun r (found_from old.o h (link_of old.o h) name) (came told)

@@ -79,9 +79,9 @@ position_none {X} p xs is i d below = by_place (cases_lt (position_or_len p xs) 
 
 -- ---- Names
 
-pub named : (name : List ℕ) (found : Option (List ℕ)) → is_name name found ≡ true → found ≡ Some name
-named name None is = cc
-named name (Some other) is = ap Some ((bytes_eq-Decides other name).0 is)
+pub found_name_is : (name : List ℕ) (found : Option (List ℕ)) → is_name name found ≡ true → found ≡ Some name
+found_name_is name None is = cc
+found_name_is name (Some other) is = ap Some ((bytes_eq-Decides other name).0 is)
 
 -- a list in which stands each number that has a name: the least of them is the first of all names
 pub first_of_all : (name : List ℕ) (names : List (Option (List ℕ))) (l : List ℕ)
@@ -101,7 +101,7 @@ first_of_all name names l reached = by_first (position (is_name name) names) ref
     by_first (Some k) is =
         let first = position-Some (is_name name) names k None is in
         least_is (λ i. is_name name (get_or names i None)) k first.2 l first.1
-        (reached k first.0 (named name (get_or names k None) first.1))
+        (reached k first.0 (found_name_is name (get_or names k None) first.1))
 
 -- what holds of each listed name holds of the one at a place
 listed_from : (test : ℕ → List ℕ → Bool) (s : ℕ) (names : List (Option (List ℕ)))

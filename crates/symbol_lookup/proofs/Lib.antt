@@ -1,7 +1,7 @@
 pub use Rattle.gelf_view.proofs.elf_descriptor
 pub use Rattle.hash_model.proofs.elf_object
 pub use Rattle.gelf_view.proofs as gelf_view
-pub use Rattle.gelf_view.proofs.object_laws
+pub use Rattle.gelf_view.proofs.law_object
 pub use Rattle.symbol_hashes.proofs as symbol_hashes
 pub mod SearchLaws
 mod FollowLaws
@@ -15,6 +15,6 @@ mod NeedLaws
 mod HashLaws
 mod LendLaws
 pub mod LeastLaws
-pub mod SysvReach
-pub mod GnuReach
+mod SysvReach
+mod GnuReach
 pub mod ReachLaws

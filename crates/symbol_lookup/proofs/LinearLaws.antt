@@ -15,7 +15,7 @@ use Rattle.hash_model.proofs.elf_object.AnswerLaws.{lend_passed, items_kind_at}
 use Rattle.hash_model.proofs.elf_object.ItemCounts.{syms_counted}
 use Rattle.hash_model.specs.Listed.{listed_names}
 use Rattle.symbol_lookup.specs.Lookups.{is_match, link_of, linear_needs, table_homes}
-use Rattle.symbol_lookup.specs.Searches.{HasTable, Stays}
+use Rattle.symbol_lookup.specs.Searches.{HasTable, ObjectStays}
 use Rattle.symbol_lookup.proofs.StepLaws.{table_stays, ok_is}
 use Rattle.symbol_lookup.proofs.CallLaws.{listed_length}
 
@@ -86,7 +86,7 @@ linear_has o s = record {
 
 -- ---- Symbol by symbol
 
-module _ {S : Type 0} (old mid : State S) (s : ℕ) (stays : Stays old mid) where
+module _ {S : Type 0} (old mid : State S) (s : ℕ) (stays : ObjectStays old mid) where
   pub still_has : HasTable (linear_needs old.o s) mid.o s
   still_has = table_stays (linear_needs old.o s) old.o mid.o s stays.object (linear_has old.o s)
 

@@ -12,7 +12,7 @@ use Rattle.hash_model.specs.elf_object.Due.{when_piece_clean, with_others}
 use Rattle.symbol_lookup.specs.declared.walks.Links.{Links}
 use Rattle.symbol_lookup.specs.declared.walks.Links.TheVariants as links
 use Rattle.symbol_lookup.specs.Lookups.{Needs, link_of, linear_needs, hash_homes, sysv_needs, gnu_needs}
-use Rattle.symbol_lookup.specs.Searches.{HasWords, HasBytes, HasLinks, HasTable, IsSysv, IsGnu, IsThere, AreLinks}
+use Rattle.symbol_lookup.specs.Searches.{HasWords, HasBytes, HasLinks, HasTable, IsSysv, IsGnu, IsHashReadable, AreLinks}
 use Rattle.symbol_lookup.proofs.LinearLaws.{linear_has}
 
 -- ---- Lists of homes
@@ -85,7 +85,7 @@ pub sysv_links : (n : Needs) (o : Object) (h : ℕ) (l : Links) → IsSysv l →
 sysv_links n o h (links.Sysv nbucket nchain) is has = has
 sysv_links n o h (links.Gnu symoffset chains) is has = absurd is
 
-pub sysv_there : (o : Object) (h : ℕ) (l : Links) → IsSysv l → lend_refusal o kinds.Word h 0 ≡ None → IsThere o h l
+pub sysv_there : (o : Object) (h : ℕ) (l : Links) → IsSysv l → lend_refusal o kinds.Word h 0 ≡ None → IsHashReadable o h l
 sysv_there o h (links.Sysv nbucket nchain) is passed = passed
 sysv_there o h (links.Gnu symoffset chains) is passed = absurd is
 
@@ -97,6 +97,6 @@ pub gnu_links : (n : Needs) (o : Object) (h : ℕ) (l : Links) → IsGnu l → H
 gnu_links n o h (links.Sysv nbucket nchain) is has = absurd is
 gnu_links n o h (links.Gnu symoffset chains) is has = has
 
-pub gnu_there : (o : Object) (h : ℕ) (l : Links) → IsGnu l → lend_refusal o kinds.Bytes h 0 ≡ None → IsThere o h l
+pub gnu_there : (o : Object) (h : ℕ) (l : Links) → IsGnu l → lend_refusal o kinds.Bytes h 0 ≡ None → IsHashReadable o h l
 gnu_there o h (links.Sysv nbucket nchain) is passed = absurd is
 gnu_there o h (links.Gnu symoffset chains) is passed = passed

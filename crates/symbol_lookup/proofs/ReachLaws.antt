@@ -15,7 +15,7 @@ use Rattle.hash_model.specs.Hashes.{elf_hash, gnu_hash}
 use Rattle.hash_model.specs.elf_object.Sections.{is_among}
 use Rattle.hash_model.specs.HashSections.{is_on, is_on_with, gnu_in, gnu_chain_from}
 use Rattle.hash_model.specs.Listed.{listed_names, find_linear_answer}
-use Rattle.symbol_lookup.specs.declared.walks.Start.{Start}
+use Rattle.symbol_lookup.specs.declared.walks.WalkStart.{WalkStart}
 use Rattle.symbol_lookup.specs.declared.walks.Links.TheVariants as links
 use Rattle.symbol_lookup.specs.Walks.{walk_from, least_of, nowhere, has_bits}
 use Rattle.symbol_lookup.specs.Lookups.{link_of, is_match, next_on, found_from, linked_refusal, sysv_refusal, gnu_refusal, sysv_found, gnu_found, find_sysv_answer, find_gnu_answer}
@@ -35,7 +35,7 @@ module _ (o : Object) (h : ℕ) (name : List ℕ) where
   names = listed_names o linked
 
   -- what a walk over that chain finds is what is found among all symbols
-  found_is : (start : Start) (l : List ℕ) → lend_refusal o kinds.Sym linked 0 ≡ None
+  found_is : (start : WalkStart) (l : List ℕ) → lend_refusal o kinds.Sym linked 0 ≡ None
       → walk_from (next_on o h start.links) (length names) start.step.at start.step.symbol ≡ Ok l
       → ((k : ℕ) → k < length names → get_or names k None ≡ Some name → is_among l k ≡ true)
       → found_from o h linked name start ≡ Ok (position (is_name name) names)
@@ -51,10 +51,10 @@ module _ (o : Object) (h : ℕ) (name : List ℕ) where
       let words : List ℕ = words_of (items_at o h 0) in
       let nbucket : ℕ = get_or words 0 0 in
       let hash : ℕ = elf_hash name in
-      let start : Start = record { links = links.Sysv nbucket (length names); step = record { at = 4 * (2 + hash % nbucket); symbol = get_or words (2 + hash % nbucket) 0 } } in
+      let start : WalkStart = record { links = links.Sysv nbucket (length names); step = record { at = 4 * (2 + hash % nbucket); symbol = get_or words (2 + hash % nbucket) 0 } } in
       let w = sysv.is_whole words names whole.whole in
       let chain = w.chain hash in
-      ap (λ (r : Result Start ElfError). r >>= found_from o h linked name) (sysv.start_is words nbucket (length names) hash refl w.symbols w.some w.count)
+      ap (λ (r : Result WalkStart ElfError). r >>= found_from o h linked name) (sysv.start_is words nbucket (length names) hash refl w.symbols w.some w.count)
       ∙ found_is start chain.0 whole.symbols
       (sysv.chain_walked words nbucket (length names) w.count (length names) (4 * (2 + hash % nbucket)) (get_or words (2 + hash % nbucket) 0) chain.0 chain.1)
       (λ k below at. subst (λ (c : Option (List ℕ)). is_on k c ≡ true) chain.1 (w.within k name below at))
@@ -84,12 +84,12 @@ module _ (o : Object) (h : ℕ) (name : List ℕ) where
     by_bloom : (b : Bool) → passes ≡ b → gnu_found o h name ≡ Ok (position (is_name name) names)
     unfolding gnu_found next_on walk_from
     by_bloom true is =
-        ap (λ (r : Result Start ElfError). r >>= found_from o h linked name) (gnu.starts_there class order bytes w.long w.buckets w.bloom w.there hash is (gnu.chain_starts class order bytes (length names) (gnu.first class order bytes hash) chain.0 chain.1))
+        ap (λ (r : Result WalkStart ElfError). r >>= found_from o h linked name) (gnu.starts_there class order bytes w.long w.buckets w.bloom w.there hash is (gnu.chain_starts class order bytes (length names) (gnu.first class order bytes hash) chain.0 chain.1))
         ∙ found_is (gnu.start class order bytes hash) (gnu.symbols_of chain.0) whole.symbols
         (gnu.chain_from_walked class order bytes (length names) (gnu.start class order bytes hash).step.at (gnu.first class order bytes hash) chain.0 chain.1)
         (λ k below at. gnu.on_chain k hash chain.0 (subst (λ (c : Option (List (ℕ × ℕ))). is_on_with k hash c ≡ true) chain.1 (w.within k name below at)))
     by_bloom false is =
-        ap (λ (r : Result Start ElfError). r >>= found_from o h linked name) (gnu.starts_nowhere class order bytes w.long w.buckets w.bloom w.there hash is)
+        ap (λ (r : Result WalkStart ElfError). r >>= found_from o h linked name) (gnu.starts_nowhere class order bytes w.long w.buckets w.bloom w.there hash is)
         ∙ found_is nowhere [] whole.symbols refl
         (λ k below at. absurd (both_ways passes is (w.passes k name below at)))
 

@@ -12,22 +12,22 @@ use Rattle.elf_types.specs.declared.errors.ElfError.TheVariants.{BadChain}
 use Rattle.hash_model.specs.elf_object.Words.{result_map}
 use Rattle.hash_model.specs.Hashes.{elf_hash}
 use Rattle.hash_model.specs.HashSections.{sysv_in, sysv_chain, sysv_chain_of, is_whole_sysv, ends, is_on, each_listed}
-use Rattle.symbol_lookup.specs.declared.walks.Step.{Step}
+use Rattle.symbol_lookup.specs.declared.walks.WalkStep.{WalkStep}
 use Rattle.symbol_lookup.specs.declared.walks.Links.TheVariants as links
-use Rattle.symbol_lookup.specs.Walks.{hash_word, counted, sysv_buckets, sysv_bucket, sysv_behind, sysv_start, sysv_next, walk_from}
+use Rattle.symbol_lookup.specs.Walks.{hash_word, nonzero_count, sysv_buckets, sysv_bucket, sysv_behind, sysv_start, sysv_next, walk_from}
 use Rattle.symbol_lookup.proofs.LeastLaws.{listed_at, all_at, all_six}
 
 -- ---- A step of a walk
 
-pub walked : (next : ℕ → Result Step ElfError) (n at i : ℕ) (step : Step) (later : List ℕ) → next (suc i) ≡ Ok step → walk_from next n step.at step.symbol ≡ Ok later
+pub walked : (next : ℕ → Result WalkStep ElfError) (n at i : ℕ) (step : WalkStep) (later : List ℕ) → next (suc i) ≡ Ok step → walk_from next n step.at step.symbol ≡ Ok later
     → walk_from next (suc n) at (suc i) ≡ Ok (suc i ∷ later)
 unfolding walk_from
 walked next n at i step later came rest =
-    ap (λ (r : Result Step ElfError). r >>= (λ step. result_map (λ later. suc i ∷ later) (walk_from next n step.at step.symbol))) came
+    ap (λ (r : Result WalkStep ElfError). r >>= (λ step. result_map (λ later. suc i ∷ later) (walk_from next n step.at step.symbol))) came
     ∙ ap (result_map (λ later. suc i ∷ later)) rest
 
 -- a walk that stands at 0 has ended
-pub walk_ends : (next : ℕ → Result Step ElfError) (n at i : ℕ) → i ≡ 0 → walk_from next n at i ≡ Ok []
+pub walk_ends : (next : ℕ → Result WalkStep ElfError) (n at i : ℕ) → i ≡ 0 → walk_from next n at i ≡ Ok []
 unfolding walk_from
 walk_ends next n at zero is = refl
 walk_ends next n at (suc i) is = absurd (omega arith)
@@ -82,14 +82,14 @@ module _ (words : List ℕ) (nbucket nchain : ℕ) (count : length words ≡ 2 +
 
 pub start_is : (words : List ℕ) (nbucket nchain hash : ℕ) → get_or words 0 0 ≡ nbucket → get_or words 1 0 ≡ nchain → 0 < nbucket → length words ≡ 2 + nbucket + nchain
     → sysv_start words hash ≡ Ok (record { links = links.Sysv nbucket nchain; step = record { at = 4 * (2 + hash % nbucket); symbol = get_or words (2 + hash % nbucket) 0 } })
-unfolding sysv_start sysv_buckets sysv_behind sysv_bucket counted
+unfolding sysv_start sysv_buckets sysv_behind sysv_bucket nonzero_count
 start_is words nbucket nchain hash first second some count =
     let zero_in : 0 < length words = omega (arith, count) in
     let one_in : 1 < length words = omega (arith, count, some) in
     let bucket_in : 2 + hash % nbucket < length words = omega (arith, count, some) in
     let buckets : sysv_buckets words ≡ Ok nbucket =
-    ap (λ (r : Result ℕ ElfError). r >>= counted 0) (word_at words 0 zero_in)
-    ∙ ap (λ (n : ℕ). counted 0 n) first
+    ap (λ (r : Result ℕ ElfError). r >>= nonzero_count 0) (word_at words 0 zero_in)
+    ∙ ap (λ (n : ℕ). nonzero_count 0 n) first
     ∙ ap (λ (b : Bool). if b then Err (BadChain 0) else Ok nbucket) (ne_eqb nbucket 0 (λ is. absurd (omega (arith, is, some)))) in
     ap (λ (r : Result ℕ ElfError). r >>= sysv_behind words hash) buckets
     ∙ ap (λ (r : Result ℕ ElfError). r >>= sysv_bucket words hash nbucket) (word_at words 1 one_in)

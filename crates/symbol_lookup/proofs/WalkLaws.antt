@@ -11,14 +11,14 @@ use Rattle.hash_model.specs.elf_object.Words.{result_map}
 use Rattle.hash_model.specs.elf_object.Object.{Object}
 use Rattle.hash_model.specs.elf_object.Answers.{count_at}
 use Rattle.gelf_view.specs.elf_descriptor.State.{State}
-use Rattle.symbol_lookup.specs.declared.walks.Step.{Step}
+use Rattle.symbol_lookup.specs.declared.walks.WalkStep.{WalkStep}
 use Rattle.symbol_lookup.specs.declared.walks.Links.{Links}
 use Rattle.symbol_lookup.specs.declared.walks.Links.TheVariants as links
-use Rattle.symbol_lookup.specs.declared.walks.Start.{Start}
+use Rattle.symbol_lookup.specs.declared.walks.WalkStart.{WalkStart}
 use Rattle.symbol_lookup.specs.declared.walks.Walk.{Walk}
 use Rattle.symbol_lookup.specs.Walks.{walk_from, lesser, least_of, with_least}
 use Rattle.symbol_lookup.specs.Lookups.{Needs, IsBad, is_match, next_on, walked_on, found_from}
-use Rattle.symbol_lookup.specs.Searches.{HasLinks, HasTable, IsIndex, Searches, Stays}
+use Rattle.symbol_lookup.specs.Searches.{HasLinks, HasTable, IsIndex, Searches, ObjectStays}
 use Rattle.symbol_lookup.proofs.FollowLaws.{then_ends, mapped_ends, later_follows}
 use Rattle.symbol_lookup.proofs.SearchLaws.{searches_both, searches_value, searches_end, searches_nothing, searches_pure}
 use Rattle.symbol_lookup.proofs.StepLaws.{links_stay, table_stays}
@@ -45,7 +45,7 @@ unmapped {A} {B} f e first came = by_first first came
     by_first (Ok x) is = cc
     by_first (Err d) is = let same : d ≡ e = cc in ap Err same
 
-module _ (test : ℕ → Bool) (next : ℕ → Result Step ElfError) where
+module _ (test : ℕ → Bool) (next : ℕ → Result WalkStep ElfError) where
   -- after what was met, with so many steps left
   abbrev pub carried : Walk → ℕ → Result (Option ℕ) ElfError
   carried walk left = result_map (λ later. lesser walk.best (least_of test later)) (walk_from next left walk.step.at walk.step.symbol)
@@ -71,12 +71,12 @@ module _ (test : ℕ → Bool) (next : ℕ → Result Step ElfError) where
       by_symbol zero best at some came = absurd (some refl)
       by_symbol (suc i) best at some came = by_next (next (suc i)) refl came
         where
-          by_next : (r : Result Step ElfError) → next (suc i) ≡ r → result_map (λ step. record { best = with_least best (test (suc i)) (suc i); step = step }) r ≡ Ok later
+          by_next : (r : Result WalkStep ElfError) → next (suc i) ≡ r → result_map (λ step. record { best = with_least best (test (suc i)) (suc i); step = step }) r ≡ Ok later
               → result_map (λ later. lesser best (least_of test later)) (walk_from next (suc left) at (suc i)) ≡ carried later left
           by_next (Err e) known came = cc
           by_next (Ok step) known came =
               let same : record { best = with_least best (test (suc i)) (suc i); step = step } ≡ later = cc in
-              ap (λ (r : Result Step ElfError). result_map (λ later. lesser best (least_of test later)) (r >>= (λ step. result_map (λ later. suc i ∷ later) (walk_from next left step.at step.symbol)))) known
+              ap (λ (r : Result WalkStep ElfError). result_map (λ later. lesser best (least_of test later)) (r >>= (λ step. result_map (λ later. suc i ∷ later) (walk_from next left step.at step.symbol)))) known
               ∙ one_more best (suc i) (walk_from next left step.at step.symbol)
               ∙ ap (λ (w : Walk). carried w left) same
 
@@ -87,7 +87,7 @@ module _ (test : ℕ → Bool) (next : ℕ → Result Step ElfError) where
       subst (λ (n : ℕ). Follows {T = Option ℕ} (Err e) (carried walk n)) (sym (add-one left))
       (mapped_ends (λ later. lesser walk.best (least_of test later)) e (walk_from next (suc left) walk.step.at walk.step.symbol) (by_symbol walk.step.symbol some (unmapped _ e (next walk.step.symbol) came)))
     where
-      by_symbol : (symbol : ℕ) → (symbol ≡ 0 → ⊥) → Follows {T = Step} (Err e) (next symbol) → Follows {T = List ℕ} (Err e) (walk_from next (suc left) walk.step.at symbol)
+      by_symbol : (symbol : ℕ) → (symbol ≡ 0 → ⊥) → Follows {T = WalkStep} (Err e) (next symbol) → Follows {T = List ℕ} (Err e) (walk_from next (suc left) walk.step.at symbol)
       by_symbol zero some came = absurd (some refl)
       by_symbol (suc i) some came = then_ends e (next (suc i)) (λ step. result_map (λ later. suc i ∷ later) (walk_from next left step.at step.symbol)) came
 
@@ -112,13 +112,13 @@ links_chain n o h (links.Sysv nbucket nchain) has = has.chain
 links_chain n o h (links.Gnu symoffset chains) has = has.chain
 
 -- a walk under way, with so many steps left
-pub record Walking {S : Type 0} (g : Ghosts S) (h s : ℕ) (name : List ℕ) (start : Start) (old new : State S) (walk : Walk) (left : ℕ) : Type 0 where
-  pub stays : Stays old new
+pub record Walking {S : Type 0} (g : Ghosts S) (h s : ℕ) (name : List ℕ) (start : WalkStart) (old new : State S) (walk : Walk) (left : ℕ) : Type 0 where
+  pub stays : ObjectStays old new
   pub index : IsIndex walk.step.symbol
   pub searches : (n : Needs) → HasLinks n old.o h start.links → HasTable n old.o s → Searches {T = Unit {0}} g n (Ok (tt {0})) old new
   pub follows : IsTrue old.told → found_from old.o h s name start ≡ carried (is_match old.o s name) (next_on old.o h start.links) walk left
 
-module _ {S : Type 0} (g : Ghosts S) (h s : ℕ) (name : List ℕ) (start : Start) (old : State S) where
+module _ {S : Type 0} (g : Ghosts S) (h s : ℕ) (name : List ℕ) (start : WalkStart) (old : State S) where
   pub walk_begins : (steps : ℕ) → steps ≡ count_at old.o s 0 → IsIndex start.step.symbol → Walking g h s name start old old (record { best = None; step = start.step }) steps
   unfolding found_from
   walk_begins steps count index = record {
@@ -134,7 +134,7 @@ module _ {S : Type 0} (g : Ghosts S) (h s : ℕ) (name : List ℕ) (start : Star
   looked walk o = walked_on o h start.links (is_match o s name walk.step.symbol) walk
 
   module _ (mid : State S) (walk : Walk) (left : ℕ) (before : Walking g h s name start old mid walk (left + 1)) (some : walk.step.symbol ≡ 0 → ⊥) where
-    pub walk_goes : (later : Walk) (new : State S) → Stays mid new → IsIndex later.step.symbol
+    pub walk_goes : (later : Walk) (new : State S) → ObjectStays mid new → IsIndex later.step.symbol
         → ((n : Needs) → HasLinks n mid.o h start.links → HasTable n mid.o s → Searches {T = Walk} g n (Ok later) mid new)
         → (IsTrue mid.told → Follows (Ok later) (looked walk mid.o)) → Walking g h s name start old new later left
     unfolding walked_on

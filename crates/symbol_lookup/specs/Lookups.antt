@@ -15,10 +15,10 @@ use Rattle.hash_model.specs.elf_object.Due.{is_loaded, holds_items, unless_refus
 use Rattle.hash_model.specs.elf_object.Calls.{Call}
 use Rattle.hash_model.specs.Hashes as hashes
 use Rattle.hash_model.specs.Listed.{listed_names, find_linear_answer}
-use Rattle.symbol_lookup.specs.declared.walks.Step.{Step}
+use Rattle.symbol_lookup.specs.declared.walks.WalkStep.{WalkStep}
 use Rattle.symbol_lookup.specs.declared.walks.Links.{Links}
 use Rattle.symbol_lookup.specs.declared.walks.Links.TheVariants as links
-use Rattle.symbol_lookup.specs.declared.walks.Start.{Start}
+use Rattle.symbol_lookup.specs.declared.walks.WalkStart.{WalkStart}
 use Rattle.symbol_lookup.specs.declared.walks.Walk.{Walk}
 use Rattle.symbol_lookup.specs.Walks.{sysv_start, sysv_next, gnu_start, gnu_next, walk_from, least_of, with_least}
 
@@ -77,7 +77,7 @@ unfoldable pub is_match : Object → ℕ → List ℕ → ℕ → Bool
 is_match o s name i = is_name name (slice_index_or (listed_names o s) i None)
 
 -- the step from a symbol, by the chain words of a hash section
-unfoldable pub next_on : Object → ℕ → Links → ℕ → Result Step ElfError
+unfoldable pub next_on : Object → ℕ → Links → ℕ → Result WalkStep ElfError
 next_on o h (links.Sysv nbucket nchain) i = sysv_next (words_of (items_at o h 0)) nbucket nchain i
 next_on o h (links.Gnu symoffset chains) i =
     gnu_next o.header.order (bytes_of (items_at o h 0)) symoffset chains i
@@ -89,7 +89,7 @@ walked_on o h links passes walk = result_map
     (next_on o h links walk.step.symbol)
 
 -- the least symbol with the name on the chain that begins there, whose symbols are those of s
-unfoldable pub found_from : Object → ℕ → ℕ → List ℕ → Start → Result (Option ℕ) ElfError
+unfoldable pub found_from : Object → ℕ → ℕ → List ℕ → WalkStart → Result (Option ℕ) ElfError
 found_from o h s name start = result_map
     (least_of (is_match o s name))
     (walk_from (next_on o h start.links) (count_at o s 0) start.step.at start.step.symbol)

@@ -15,7 +15,7 @@ use Rattle.elf_types.specs.declared.records.Sym.{Sym}
 use Rattle.hash_model.specs.elf_xlate.Items.{item_size, sym_of}
 use Rattle.hash_model.specs.Listed.{is_defined_global}
 use Rattle.elf_types.specs.declared.records.Kind.TheVariants as kinds
-use Rattle.symbol_lookup.specs.declared.walks.Start.{Start}
+use Rattle.symbol_lookup.specs.declared.walks.WalkStart.{WalkStart}
 use Rattle.symbol_lookup.specs.declared.walks.Links.{Links}
 use Rattle.symbol_lookup.specs.declared.walks.Links.TheVariants as links
 use Rattle.symbol_lookup.specs.Lookups.{Needs, needs_memory, link_of}
@@ -69,7 +69,7 @@ pub record Searches {S T : Type 0} (g : Ghosts S) (n : Needs) (result : Result T
   pub ended : IfErr result (MayEnd n old)
 
 -- the object stays, and so does whether the source tells its bytes
-pub record Stays {S : Type 0} (old new : State S) : Type 0 where
+pub record ObjectStays {S : Type 0} (old new : State S) : Type 0 where
   pub object : new.o ≡ old.o
   pub told : new.told ≡ old.told
 
@@ -92,15 +92,15 @@ AreLinks (links.Sysv nbucket nchain) = Unit {0}
 AreLinks (links.Gnu symoffset chains) = chains < 2 ^ 40
 
 -- how a hash section whose words or bytes are there is refused: not at all
-abbrev pub IsThere : Object → ℕ → Links → Type 0
-IsThere o h (links.Sysv nbucket nchain) = lend_refusal o kinds.Word h 0 ≡ None
-IsThere o h (links.Gnu symoffset chains) = lend_refusal o kinds.Bytes h 0 ≡ None
+abbrev pub IsHashReadable : Object → ℕ → Links → Type 0
+IsHashReadable o h (links.Sysv nbucket nchain) = lend_refusal o kinds.Word h 0 ≡ None
+IsHashReadable o h (links.Gnu symoffset chains) = lend_refusal o kinds.Bytes h 0 ≡ None
 
 -- where a walk begins, by the words of a section, or by its bytes
-abbrev pub IsSysvStart : Start → Type 0
+abbrev pub IsSysvStart : WalkStart → Type 0
 IsSysvStart start = IsSysv start.links × IsIndex start.step.symbol
 
-abbrev pub IsGnuStart : Start → Type 0
+abbrev pub IsGnuStart : WalkStart → Type 0
 IsGnuStart start = IsGnu start.links × AreLinks start.links × IsIndex start.step.symbol
 
 -- ---- A name in bytes

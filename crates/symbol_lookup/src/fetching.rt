@@ -6,7 +6,7 @@ ghost use Rattle.elf_types.specs.declared.records.Kind.TheVariants as kinds;
 ghost use Rattle.hash_model.specs.elf_object.Answers.{items_at, lend_refusal, words_of};
 ghost use Rattle.symbol_lookup.specs.Walks as walks;
 ghost use Rattle.symbol_lookup.specs.Lookups.{or_bad, Needs};
-ghost use Rattle.symbol_lookup.specs.Searches.{HasWords, Searches, Stays};
+ghost use Rattle.symbol_lookup.specs.Searches.{HasWords, Searches, ObjectStays};
 
 use elf_types::{Class, DataId, ElfError, Order, ScnId};
 use gelf_view::prelude::Elf;
@@ -23,7 +23,7 @@ pub fn form<S: Source>(elf: &Elf<S>) -> (Class, Order)
     (header.class, header.order)
 }
 
-/// What a step meets in place of a word: a bad chain at its place, or want of memory, or a failed
+/// What a step meets in place of a word: a bad chain at its place, or out of memory, or a failed
 /// read.
 #[tactic(auto, unfolding(crate::specs::Lookups::or_bad))]
 fn or_bad(e: ElfError, at: u64) -> ElfError
@@ -42,7 +42,7 @@ pub fn hash_word<S: Source>(elf: &mut Elf<S>, h: ScnId, index: u64) -> Result<u3
     requires index { index < 2 ^ 62 }
     ensures follows { IsTrue elf.old.told
         → Follows result (walks.hash_word (words_of (items_at elf.old.o h.0 0)) index) }
-    ensures stays { Stays elf.old elf.new }
+    ensures stays { ObjectStays elf.old elf.new }
     ensures searches { (n : Needs) → HasWords n elf.old.o h.0
         → Searches S.Source n result elf.old elf.new }
 {

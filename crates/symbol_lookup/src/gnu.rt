@@ -7,10 +7,10 @@ ghost use Rattle.hash_model.specs.elf_object.Answers.{bytes_of, items_at, lend_r
 ghost use Rattle.hash_model.specs.HashSections as sections;
 ghost use Rattle.symbol_lookup.specs.Walks as walks;
 ghost use Rattle.symbol_lookup.specs.Lookups.{IsBad, Needs};
-ghost use Rattle.symbol_lookup.specs.Searches.{HasBytes, IsGnuStart, IsIndex, Searches, Stays};
+ghost use Rattle.symbol_lookup.specs.Searches.{HasBytes, IsGnuStart, IsIndex, Searches, ObjectStays};
 
 use crate::fetching::form;
-use crate::walks::{GnuHead, Links, Start, Step};
+use crate::walks::{GnuHead, Links, WalkStart, WalkStep};
 use elf_types::{Class, DataId, ElfError, Order, ScnId};
 use gelf_view::bytes;
 use gelf_view::prelude::Elf;
@@ -18,9 +18,9 @@ use hash_model::prelude::Source;
 use symbol_hashes::{bloom_bits, bloom_bytes, bloom_word, has_bit, shifted, word_in};
 
 /// The four-byte number at a place of bytes; else a bad chain there.
-#[tactic(auto, unfolding(crate::specs::Walks::number_in))]
+#[tactic(auto, unfolding(crate::specs::Walks::hash_number_in))]
 fn number_in(bytes: &[u8], at: u64, order: Order) -> Result<u32, ElfError>
-    ensures value { result ≡ walks.number_in order bytes.now at 4 }
+    ensures value { result ≡ walks.hash_number_in order bytes.now at 4 }
     ensures within { IfOk result (λ _. at + 4 < 2 ^ 63) }
     ensures bad { IfErr result IsBad }
 {
@@ -32,9 +32,9 @@ fn number_in(bytes: &[u8], at: u64, order: Order) -> Result<u32, ElfError>
 
 /// A word of a bloom, of four bytes in class 32 and of eight in class 64; else a bad chain at its
 /// place.
-#[tactic(auto, unfolding(crate::specs::Walks::number_in))]
+#[tactic(auto, unfolding(crate::specs::Walks::hash_number_in))]
 fn bloom_in(bytes: &[u8], at: u64, class: Class, order: Order) -> Result<u64, ElfError>
-    ensures value { result ≡ walks.number_in order bytes.now at (sections.bloom_bytes class) }
+    ensures value { result ≡ walks.hash_number_in order bytes.now at (sections.bloom_bytes class) }
     ensures bad { IfErr result IsBad }
 {
     match bloom_word(bytes, at, class, order) {
@@ -44,9 +44,9 @@ fn bloom_in(bytes: &[u8], at: u64, class: Class, order: Order) -> Result<u64, El
 }
 
 /// A count at a place of bytes, which is not 0; else a bad chain there.
-#[tactic(auto, unfolding(crate::specs::Walks::count_in, crate::specs::Walks::counted))]
+#[tactic(auto, unfolding(crate::specs::Walks::hash_count_in, crate::specs::Walks::nonzero_count))]
 fn count_in(bytes: &[u8], at: u64, order: Order) -> Result<u32, ElfError>
-    ensures value { result ≡ walks.count_in order bytes.now at }
+    ensures value { result ≡ walks.hash_count_in order bytes.now at }
     ensures some { IfOk result (λ count. 0 < count) }
     ensures bad { IfErr result IsBad }
 {
@@ -58,9 +58,9 @@ fn count_in(bytes: &[u8], at: u64, order: Order) -> Result<u32, ElfError>
 }
 
 /// The four numbers with which a section begins.
-#[tactic(auto, unfolding(crate::specs::Walks::head_in))]
+#[tactic(auto, unfolding(crate::specs::Walks::gnu_head_in))]
 fn head_in(bytes: &[u8], order: Order) -> Result<GnuHead, ElfError>
-    ensures value { result ≡ walks.head_in order bytes.now }
+    ensures value { result ≡ walks.gnu_head_in order bytes.now }
     ensures buckets { IfOk result (λ head. 0 < head.nbuckets) }
     ensures size { IfOk result (λ head. 0 < head.size) }
     ensures bad { IfErr result IsBad }
@@ -106,7 +106,7 @@ fn chains_at(class: Class, head: GnuHead) -> u64
 
 /// The walk from a bucket at a place, or a bad chain there.
 #[tactic(auto, unfolding(crate::specs::Walks::first_from))]
-fn first_from(class: Class, head: GnuHead, at: u64, first: u32) -> Result<Start, ElfError>
+fn first_from(class: Class, head: GnuHead, at: u64, first: u32) -> Result<WalkStart, ElfError>
     ensures value { result ≡ walks.first_from class head at first }
     ensures begins { IfOk result IsGnuStart }
     ensures bad { IfErr result IsBad }
@@ -114,12 +114,12 @@ fn first_from(class: Class, head: GnuHead, at: u64, first: u32) -> Result<Start,
     if first != 0 && first < head.symoffset {
         return Err(ElfError::BadChain { at });
     }
-    Ok(Start {
+    Ok(WalkStart {
         links: Links::Gnu {
             symoffset: head.symoffset,
             chains: chains_at(class, head),
         },
-        step: Step {
+        step: WalkStep {
             at,
             symbol: u64::from(first),
         },
@@ -134,7 +134,7 @@ fn bucket_in(
     order: Order,
     hash: u32,
     head: GnuHead,
-) -> Result<Start, ElfError>
+) -> Result<WalkStart, ElfError>
     requires { 0 < head.nbuckets }
     ensures value { result ≡ walks.bucket_in class order bytes.now hash head }
     ensures begins { IfOk result IsGnuStart }
@@ -164,7 +164,7 @@ fn behind_head(
     order: Order,
     hash: u32,
     head: GnuHead,
-) -> Result<Start, ElfError>
+) -> Result<WalkStart, ElfError>
     requires buckets { 0 < head.nbuckets }
     requires size { 0 < head.size }
     ensures value { result ≡ walks.behind_head class order bytes.now hash head }
@@ -184,21 +184,21 @@ fn behind_head(
 }
 
 /// A walk that has no symbol to begin with.
-fn nowhere() -> Start
+fn nowhere() -> WalkStart
     ensures value { result ≡ walks.nowhere }
 {
-    Start {
+    WalkStart {
         links: Links::Gnu {
             symoffset: 0,
             chains: 0,
         },
-        step: Step { at: 0, symbol: 0 },
+        step: WalkStep { at: 0, symbol: 0 },
     }
 }
 
 /// Where the walk of a hash begins in bytes.
 #[tactic(auto, unfolding(crate::specs::Walks::gnu_start))]
-fn start_in(bytes: &[u8], class: Class, order: Order, hash: u32) -> Result<Start, ElfError>
+fn start_in(bytes: &[u8], class: Class, order: Order, hash: u32) -> Result<WalkStart, ElfError>
     ensures value { result ≡ walks.gnu_start class order bytes.now hash }
     ensures begins { IfOk result IsGnuStart }
     ensures bad { IfErr result IsBad }
@@ -217,7 +217,7 @@ fn next_in(
     symoffset: u32,
     chains: u64,
     i: u64,
-) -> Result<Step, ElfError>
+) -> Result<WalkStep, ElfError>
     requires chains { chains < 2 ^ 40 }
     requires index { IsIndex i }
     ensures value { result ≡ walks.gnu_next order bytes.now symoffset chains i }
@@ -226,7 +226,7 @@ fn next_in(
 {
     let at = chains + 4 * i.saturating_sub(u64::from(symoffset));
     match number_in(bytes, at, order) {
-        Ok(word) => Ok(Step {
+        Ok(word) => Ok(WalkStep {
             at,
             symbol: if word % 2 == 1 { 0 } else { i + 1 },
         }),
@@ -236,7 +236,7 @@ fn next_in(
 
 /// Where the walk of a hash begins; else a bad chain at the first word that is needed and is not
 /// there.
-pub fn gnu_start<S: Source>(elf: &mut Elf<S>, h: ScnId, hash: u32) -> Result<Start, ElfError>
+pub fn gnu_start<S: Source>(elf: &mut Elf<S>, h: ScnId, hash: u32) -> Result<WalkStart, ElfError>
     requires passed { lend_refusal elf.old.o kinds.Bytes h.0 0 ≡ None }
     ensures follows { IsTrue elf.old.told → Follows result
         (walks.gnu_start elf.old.o.header.class elf.old.o.header.order
@@ -263,14 +263,14 @@ pub fn gnu_next<S: Source>(
     symoffset: u32,
     chains: u64,
     i: u64,
-) -> Result<Step, ElfError>
+) -> Result<WalkStep, ElfError>
     requires passed { lend_refusal elf.old.o kinds.Bytes h.0 0 ≡ None }
     requires chains { chains < 2 ^ 40 }
     requires index { IsIndex i }
     ensures follows { IsTrue elf.old.told → Follows result
         (walks.gnu_next elf.old.o.header.order (bytes_of (items_at elf.old.o h.0 0)) symoffset
         chains i) }
-    ensures stays { Stays elf.old elf.new }
+    ensures stays { ObjectStays elf.old elf.new }
     ensures searches { (n : Needs) → HasBytes n elf.old.o h.0
         → Searches S.Source n result elf.old elf.new }
     ensures index { IfOk result (λ step. IsIndex step.symbol) }

@@ -33,7 +33,7 @@ pub fn link<S: Source>(elf: &Elf<S>, s: ScnId) -> ScnId
 }
 
 /// The first of so many symbols that is listed by a name. Those that surely are not are passed over
-/// where their bytes stand.
+/// where their bytes are.
 fn first_match<S: Source>(
     elf: &mut Elf<S>,
     s: ScnId,
@@ -64,7 +64,7 @@ fn first_match<S: Source>(
 
 /// The least index of a symbol in piece 0 of a symbol table whose binding is not `STB_LOCAL`, which
 /// is defined and whose name is `name`. Symbol 0 and the empty name are never found, and a symbol
-/// whose name cannot be read matches nothing. It refuses as a lend of the symbols, in this order:
+/// whose name cannot be read matches nothing. It fails as a lend of the symbols, in this order:
 /// `NoSection`, `NoData`, `WrongKind`, and for the clean home piece `OutOfFile` and `Ragged`; then
 /// `Memory` or `Read`, at any read. It reads the table and its strings at the first use, each once,
 /// and marks nothing dirty.

@@ -20,7 +20,7 @@ use gelf_view::{bytes, item_count};
 use hash_model::prelude::Source;
 use symbol_hashes::{elf_hash, gnu_hash};
 
-/// The symbol table to which a section that is there links. It refuses as a lend of its symbols.
+/// The symbol table to which a section that is there links. It fails as a lend of its symbols.
 fn table_of<S: Source>(elf: &Elf<S>, h: ScnId) -> Result<ScnId, ElfError>
     requires { no_section elf.now.o h.0 ≡ None }
     ensures passed { IfOk result (λ s. linked_refusal elf.now.o h.0 ≡ None) }
@@ -35,7 +35,7 @@ fn table_of<S: Source>(elf: &Elf<S>, h: ScnId) -> Result<ScnId, ElfError>
     }
 }
 
-/// The symbol table to which a hash section of words links. It refuses as a lend of the words, and
+/// The symbol table to which a hash section of words links. It fails as a lend of the words, and
 /// then as a lend of the symbols.
 fn table_of_words<S: Source>(elf: &Elf<S>, h: ScnId) -> Result<ScnId, ElfError>
     ensures passed { IfOk result (λ s. words_refusal elf.now.o h.0 ≡ None) }
@@ -56,8 +56,8 @@ fn table_of_words<S: Source>(elf: &Elf<S>, h: ScnId) -> Result<ScnId, ElfError>
     }
 }
 
-/// Makes the bytes of a hash section be at hand. It refuses as a lend of them; then `Memory` or
-/// `Read`.
+/// Makes sure that the bytes of a hash section are in memory. It fails as a lend of them; then
+/// `Memory` or `Read`.
 fn fetch<S: Source>(elf: &mut Elf<S>, h: ScnId) -> Result<(), ElfError>
     ensures passed { OnOk result (bytes_refusal elf.old.o h.0 ≡ None) }
     ensures refused { IfErr result
@@ -119,14 +119,14 @@ fn find_by_bytes<S: Source>(
 /// name's bucket in a hash section of words. The symbols are those in piece 0 of the section to
 /// which the hash section links.
 ///
-/// It refuses as a lend of words of piece 0 of the hash section, then as a lend of symbols of piece
-/// 0 of the linked one. Then `Memory` or `Read` may come, at any read, and `BadChain` comes at the
+/// It fails as a lend of words of piece 0 of the hash section, then as a lend of symbols of piece 0
+/// of the linked one. Then `Memory` or `Read` may come, at any read, and `BadChain` comes at the
 /// place of the first word that is needed and is not there, in bytes: a number of buckets that is
 /// 0, a word past the end of the section, a chain word of an index that is not below their number;
-/// and at the last word that was read where the walk stands at a symbol after as many steps as
-/// there are symbols. The walk goes to its end before a symbol is chosen, so a bad chain is met
-/// also behind a symbol with the name. It reads each section at the first use, once, and marks
-/// nothing dirty.
+/// and at the last word that was read where the walk is at a symbol after as many steps as there
+/// are symbols. The walk goes to its end before a symbol is chosen, so a bad chain is met also
+/// after a symbol with the name. It reads each section at the first use, once, and marks nothing
+/// dirty.
 ///
 /// Source: gABI chapter 5, "Hash Table".
 pub fn find_sysv<S: Source>(
@@ -150,13 +150,13 @@ pub fn find_sysv<S: Source>(
 /// are those in piece 0 of the section to which the hash section links. A name whose hash does not
 /// pass the bloom is not there, and the hashes in the chain words are not compared.
 ///
-/// It refuses as a lend of bytes of piece 0 of the hash section, then as a lend of symbols of piece
-/// 0 of the linked one. Then `Memory` or `Read` may come, at any read, and `BadChain` comes at the
+/// It fails as a lend of bytes of piece 0 of the hash section, then as a lend of symbols of piece 0
+/// of the linked one. Then `Memory` or `Read` may come, at any read, and `BadChain` comes at the
 /// place of the first word that is needed and is not there: a number of buckets or of bloom words
 /// that is 0, a word past the end of the section, a bucket from 1 on that is below the first symbol
-/// that the section knows; and at the last word that was read where the walk stands at a symbol
-/// after as many steps as there are symbols. The walk goes to its end before a symbol is chosen. It
-/// reads each section at the first use, once, and marks nothing dirty.
+/// that the section knows; and at the last word that was read where the walk is at a symbol after
+/// as many steps as there are symbols. The walk goes to its end before a symbol is chosen. It reads
+/// each section at the first use, once, and marks nothing dirty.
 ///
 /// Source: GNU's hash section, which is no part of the gABI.
 pub fn find_gnu<S: Source>(elf: &mut Elf<S>, h: ScnId, name: &[u8]) -> Result<Option<u64>, ElfError>

@@ -7,7 +7,7 @@ ghost use Rattle.hash_model.specs.elf_object.Answers.{lend_refusal};
 ghost use Rattle.hash_model.specs.elf_object.Strings.{is_name, readable, string_answer};
 ghost use Rattle.hash_model.specs.Listed.{is_defined_global, not_empty};
 ghost use Rattle.symbol_lookup.specs.Lookups.{is_match, link_of, no_match, Needs};
-ghost use Rattle.symbol_lookup.specs.Searches.{HasStrings, HasTable, Searches, Stays};
+ghost use Rattle.symbol_lookup.specs.Searches.{HasStrings, HasTable, Searches, ObjectStays};
 
 use elf_types::constants::{SHN_UNDEF, STB_LOCAL};
 use elf_types::{DataId, ElfError, ScnId, Sym};
@@ -15,8 +15,8 @@ use gelf_view::prelude::Elf;
 use gelf_view::{strptr, sym};
 use hash_model::prelude::Source;
 
-/// What a symbol, or a string, that is refused tells: that it is no match, unless it was for want
-/// of memory or a failed read.
+/// What a symbol, or a string, that is rejected tells: that it is no match, unless memory ran out
+/// or a read failed.
 #[tactic(auto, unfolding(crate::specs::Lookups::no_match))]
 fn no_match(e: ElfError) -> Result<bool, ElfError>
     ensures { result ≡ no_match e }
@@ -37,7 +37,7 @@ fn is_string<S: Source>(
 ) -> Result<bool, ElfError>
     ensures follows { IsTrue elf.old.told → Follows result
         (Ok (is_name name.now (readable (string_answer elf.old.o strings.0 offset)))) }
-    ensures stays { Stays elf.old elf.new }
+    ensures stays { ObjectStays elf.old elf.new }
     ensures searches { (n : Needs) → HasStrings n elf.old.o strings.0
         → Searches S.Source n result elf.old elf.new }
 {
@@ -73,7 +73,7 @@ fn is_listed_as<S: Source>(
     ensures follows { IsTrue elf.old.told → Follows result (Ok
         (is_name name.now (if not (i == 0) && is_defined_global x
         then not_empty (readable (string_answer elf.old.o strings.0 x.name)) else None))) }
-    ensures stays { Stays elf.old elf.new }
+    ensures stays { ObjectStays elf.old elf.new }
     ensures searches { (n : Needs) → HasStrings n elf.old.o strings.0
         → Searches S.Source n result elf.old elf.new }
 {
@@ -97,7 +97,7 @@ pub fn is_match<S: Source>(
     requires strings { strings.0 ≡ link_of elf.old.o s.0 }
     ensures follows { IsTrue elf.old.told
         → Follows result (Ok (is_match elf.old.o s.0 name.now i)) }
-    ensures stays { Stays elf.old elf.new }
+    ensures stays { ObjectStays elf.old elf.new }
     ensures searches { (n : Needs) → HasTable n elf.old.o s.0
         → Searches S.Source n result elf.old elf.new }
 {

@@ -1,4 +1,4 @@
-//! Symbols that are surely not listed by a name, passed over where their bytes stand.
+//! Symbols that are surely not listed by a name, passed over where their bytes are.
 
 ghost use Rattle.std.specs.Prelude.{◌≡◌, ◌<◌, ◌≤◌, ◌*◌, ◌/◌, ◌%◌, ℕ, length, take, drop, IfSome, IsTrue, None, true, false};
 ghost use Rattle.elf_types.specs.declared.records.Kind.TheVariants as kinds;
@@ -54,7 +54,7 @@ fn bytes_of_item(bytes: &[u8], size: usize, i: u64) -> Option<&[u8]>
 }
 
 /// Whether the symbol that bytes hold is surely not listed by a name: it is local or not defined,
-/// or the strings do not have the name where its name stands.
+/// or the strings do not have the name where its name is.
 #[inline(always)]
 fn lacks_name_of(class: Class, order: Order, symbol: &[u8], strings: &[u8], name: &[u8]) -> bool
     requires { length symbol.now ≡ item_size kinds.Sym class }
@@ -126,8 +126,8 @@ fn raw_at_hand<S: Source>(elf: &Elf<S>, s: ScnId) -> Option<&[u8]>
 }
 
 /// The first symbol of a table from one on that may be listed by a name, or a number from its end
-/// on: those before it are surely not. Where the bytes of the table or of its strings are not at
-/// hand none is passed over. The sizes are constants in the arm of each class.
+/// on: those before it are surely not. Where the bytes of the table or of its strings are not in
+/// memory none is passed over. The sizes are constants in the arm of each class.
 pub fn pass_over<S: Source>(
     elf: &Elf<S>,
     s: ScnId,

@@ -7,18 +7,18 @@ ghost use Rattle.elf_types.specs.declared.records.Kind.TheVariants as kinds;
 ghost use Rattle.hash_model.specs.elf_object.Answers.{items_at, lend_refusal, words_of};
 ghost use Rattle.symbol_lookup.specs.Walks as walks;
 ghost use Rattle.symbol_lookup.specs.Lookups.{IsBad, Needs};
-ghost use Rattle.symbol_lookup.specs.Searches.{HasWords, IsIndex, IsSysvStart, Searches, Stays};
+ghost use Rattle.symbol_lookup.specs.Searches.{HasWords, IsIndex, IsSysvStart, Searches, ObjectStays};
 
 use crate::fetching::hash_word;
-use crate::walks::{Links, Start, Step};
+use crate::walks::{Links, WalkStart, WalkStep};
 use elf_types::{ElfError, ScnId};
 use gelf_view::prelude::Elf;
 use hash_model::prelude::Source;
 
 /// A count at a place, which is not 0; else a bad chain there.
-#[tactic(auto, unfolding(crate::specs::Walks::counted))]
+#[tactic(auto, unfolding(crate::specs::Walks::nonzero_count))]
 fn counted(at: u64, count: u32) -> Result<u32, ElfError>
-    ensures value { result ≡ walks.counted at count }
+    ensures value { result ≡ walks.nonzero_count at count }
     ensures some { IfOk result (λ count. 0 < count) }
     ensures bad { IfErr result IsBad }
 {
@@ -34,7 +34,7 @@ fn bucket_count<S: Source>(elf: &mut Elf<S>, h: ScnId) -> Result<u32, ElfError>
     ensures follows { IsTrue elf.old.told → Follows result
         (walks.sysv_buckets (words_of (items_at elf.old.o h.0 0))) }
     ensures some { IfOk result (λ nbucket. 0 < nbucket) }
-    ensures stays { Stays elf.old elf.new }
+    ensures stays { ObjectStays elf.old elf.new }
     ensures searches { (n : Needs) → HasWords n elf.old.o h.0
         → Searches S.Source n result elf.old elf.new }
 {
@@ -44,7 +44,7 @@ fn bucket_count<S: Source>(elf: &mut Elf<S>, h: ScnId) -> Result<u32, ElfError>
     }
 }
 
-/// The index of a hash's bucket, behind the two counts.
+/// The index of a hash's bucket, after the two counts.
 fn bucket_index(nbucket: u32, hash: u32) -> u64
     requires { 0 < nbucket }
     ensures value { result ≡ 2 + hash % nbucket }
@@ -53,7 +53,7 @@ fn bucket_index(nbucket: u32, hash: u32) -> u64
     2 + u64::from(hash % nbucket)
 }
 
-/// The index of a symbol's chain word, behind the buckets.
+/// The index of a symbol's chain word, after the buckets.
 fn chain_index(nbucket: u32, i: u64) -> u64
     requires { IsIndex i }
     ensures value { result ≡ 2 + nbucket + i }
@@ -63,26 +63,26 @@ fn chain_index(nbucket: u32, i: u64) -> u64
 }
 
 /// The step to a symbol that a word at a place holds.
-fn step_at(at: u64, word: u32) -> Step
+fn step_at(at: u64, word: u32) -> WalkStep
     ensures at { result.at ≡ at }
     ensures symbol { result.symbol ≡ word }
     ensures index { IsIndex result.symbol }
 {
-    Step {
+    WalkStep {
         at,
         symbol: u64::from(word),
     }
 }
 
 /// Reads the word of a hash's bucket, in a section of so many buckets and chain words, and gives
-/// the step with which the walk of the hash begins. It refuses as `hash_word` does.
+/// the step with which the walk of the hash begins. It fails as `hash_word` does.
 fn read_bucket<S: Source>(
     elf: &mut Elf<S>,
     h: ScnId,
     hash: u32,
     nbucket: u32,
     nchain: u32,
-) -> Result<Start, ElfError>
+) -> Result<WalkStart, ElfError>
     requires passed { lend_refusal elf.old.o kinds.Word h.0 0 ≡ None }
     requires some { 0 < nbucket }
     ensures follows { IsTrue elf.old.told → Follows result
@@ -93,7 +93,7 @@ fn read_bucket<S: Source>(
 {
     let index = bucket_index(nbucket, hash);
     match hash_word(elf, h, index) {
-        Ok(first) => Ok(Start {
+        Ok(first) => Ok(WalkStart {
             links: Links::Sysv { nbucket, nchain },
             step: step_at(4 * index, first),
         }),
@@ -102,7 +102,12 @@ fn read_bucket<S: Source>(
 }
 
 /// Where the walk of a hash begins, in a section of so many buckets.
-fn behind<S: Source>(elf: &mut Elf<S>, h: ScnId, hash: u32, nbucket: u32) -> Result<Start, ElfError>
+fn behind<S: Source>(
+    elf: &mut Elf<S>,
+    h: ScnId,
+    hash: u32,
+    nbucket: u32,
+) -> Result<WalkStart, ElfError>
     requires passed { lend_refusal elf.old.o kinds.Word h.0 0 ≡ None }
     requires some { 0 < nbucket }
     ensures follows { IsTrue elf.old.told → Follows result
@@ -119,7 +124,7 @@ fn behind<S: Source>(elf: &mut Elf<S>, h: ScnId, hash: u32, nbucket: u32) -> Res
 
 /// Where the walk of a hash begins; else a bad chain at the first word that is needed and is not
 /// there.
-pub fn sysv_start<S: Source>(elf: &mut Elf<S>, h: ScnId, hash: u32) -> Result<Start, ElfError>
+pub fn sysv_start<S: Source>(elf: &mut Elf<S>, h: ScnId, hash: u32) -> Result<WalkStart, ElfError>
     requires passed { lend_refusal elf.old.o kinds.Word h.0 0 ≡ None }
     ensures follows { IsTrue elf.old.told → Follows result
         (walks.sysv_start (words_of (items_at elf.old.o h.0 0)) hash) }
@@ -140,12 +145,12 @@ pub fn sysv_next<S: Source>(
     nbucket: u32,
     nchain: u32,
     i: u64,
-) -> Result<Step, ElfError>
+) -> Result<WalkStep, ElfError>
     requires passed { lend_refusal elf.old.o kinds.Word h.0 0 ≡ None }
     requires index { IsIndex i }
     ensures follows { IsTrue elf.old.told → Follows result
         (walks.sysv_next (words_of (items_at elf.old.o h.0 0)) nbucket nchain i) }
-    ensures stays { Stays elf.old elf.new }
+    ensures stays { ObjectStays elf.old elf.new }
     ensures searches { (n : Needs) → HasWords n elf.old.o h.0
         → Searches S.Source n result elf.old elf.new }
     ensures index { IfOk result (λ step. IsIndex step.symbol) }

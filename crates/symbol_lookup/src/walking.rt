@@ -7,13 +7,13 @@ ghost use Rattle.elf_types.specs.declared.records.Kind.TheVariants as kinds;
 ghost use Rattle.hash_model.specs.elf_object.Answers.{count_at, lend_refusal};
 ghost use Rattle.symbol_lookup.specs.Walks as walks;
 ghost use Rattle.symbol_lookup.specs.Lookups.{found_from, is_match, next_on, walked_on, IsBad, Needs};
-ghost use Rattle.symbol_lookup.specs.Searches.{AreLinks, HasLinks, HasTable, IsIndex, IsThere, Searches, Stays};
+ghost use Rattle.symbol_lookup.specs.Searches.{AreLinks, HasLinks, HasTable, IsIndex, IsHashReadable, Searches, ObjectStays};
 
 use crate::gnu::gnu_next;
 use crate::linear::link;
 use crate::matching::is_match;
 use crate::sysv::sysv_next;
-use crate::walks::{Links, Start, Step, Walk};
+use crate::walks::{Links, Walk, WalkStart, WalkStep};
 use elf_types::{DataId, ElfError, ScnId, Sym};
 use gelf_view::item_count;
 use gelf_view::prelude::Elf;
@@ -21,12 +21,17 @@ use hash_model::prelude::Source;
 
 /// The step from a symbol by the chain words of a hash section.
 #[tactic(auto, unfolding(crate::specs::Lookups::next_on))]
-fn next_on<S: Source>(elf: &mut Elf<S>, h: ScnId, links: Links, i: u64) -> Result<Step, ElfError>
-    requires there { IsThere elf.old.o h.0 links }
+fn next_on<S: Source>(
+    elf: &mut Elf<S>,
+    h: ScnId,
+    links: Links,
+    i: u64,
+) -> Result<WalkStep, ElfError>
+    requires there { IsHashReadable elf.old.o h.0 links }
     requires links { AreLinks links }
     requires index { IsIndex i }
     ensures follows { IsTrue elf.old.told → Follows result (next_on elf.old.o h.0 links i) }
-    ensures stays { Stays elf.old elf.new }
+    ensures stays { ObjectStays elf.old elf.new }
     ensures searches { (n : Needs) → HasLinks n elf.old.o h.0 links
         → Searches S.Source n result elf.old elf.new }
     ensures index { IfOk result (λ step. IsIndex step.symbol) }
@@ -58,12 +63,12 @@ fn walk_on<S: Source>(
     passes: bool,
     walk: Walk,
 ) -> Result<Walk, ElfError>
-    requires there { IsThere elf.old.o h.0 links }
+    requires there { IsHashReadable elf.old.o h.0 links }
     requires links { AreLinks links }
     requires index { IsIndex walk.step.symbol }
     ensures follows { IsTrue elf.old.told
         → Follows result (walked_on elf.old.o h.0 links passes walk) }
-    ensures stays { Stays elf.old elf.new }
+    ensures stays { ObjectStays elf.old elf.new }
     ensures searches { (n : Needs) → HasLinks n elf.old.o h.0 links
         → Searches S.Source n result elf.old elf.new }
     ensures index { IfOk result (λ walk. IsIndex walk.step.symbol) }
@@ -77,7 +82,7 @@ fn walk_on<S: Source>(
     }
 }
 
-/// The same, where the symbol is looked at first.
+/// The walk after one more symbol, which is looked at first.
 fn look_on<S: Source>(
     elf: &mut Elf<S>,
     h: ScnId,
@@ -87,12 +92,12 @@ fn look_on<S: Source>(
     name: &[u8],
 ) -> Result<Walk, ElfError>
     requires symbols { lend_refusal elf.old.o kinds.Sym s.0 0 ≡ None }
-    requires there { IsThere elf.old.o h.0 links }
+    requires there { IsHashReadable elf.old.o h.0 links }
     requires links { AreLinks links }
     requires index { IsIndex walk.step.symbol }
     ensures follows { IsTrue elf.old.told → Follows result (walked_on elf.old.o h.0 links
         (is_match elf.old.o s.0 name.now walk.step.symbol) walk) }
-    ensures stays { Stays elf.old elf.new }
+    ensures stays { ObjectStays elf.old elf.new }
     ensures searches { (n : Needs) → HasLinks n elf.old.o h.0 links → HasTable n elf.old.o s.0
         → Searches S.Source n result elf.old elf.new }
     ensures index { IfOk result (λ walk. IsIndex walk.step.symbol) }
@@ -129,17 +134,17 @@ fn end_of(walk: Walk) -> Result<Option<u64>, ElfError>
 }
 
 /// The least symbol of a table with a name on the chain that begins there, after the walk to its
-/// end: a bad chain at the last word that was read where the walk stands at a symbol after as many
+/// end: a bad chain at the last word that was read where the walk is at a symbol after as many
 /// steps as there are symbols.
 pub fn find_from<S: Source>(
     elf: &mut Elf<S>,
     h: ScnId,
     s: ScnId,
-    start: Start,
+    start: WalkStart,
     name: &[u8],
 ) -> Result<Option<u64>, ElfError>
     requires symbols { lend_refusal elf.old.o kinds.Sym s.0 0 ≡ None }
-    requires there { IsThere elf.old.o h.0 start.links }
+    requires there { IsHashReadable elf.old.o h.0 start.links }
     requires links { AreLinks start.links }
     requires index { IsIndex start.step.symbol }
     ensures follows { IsTrue elf.old.told

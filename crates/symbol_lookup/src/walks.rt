@@ -1,18 +1,18 @@
-//! Where a walk over the chain of a bucket stands.
+//! Where a walk over the chain of a bucket is.
 
 /// A step of a walk.
 #[derive(Clone, Copy)]
-pub struct Step {
+pub struct WalkStep {
     /// The place of the last word that was read, in bytes from the start of the hash section.
     pub at: u64,
     /// The number of the symbol; 0 where the chain has ended.
     pub symbol: u64,
 }
 
-/// Where the chain words of a hash section stand.
+/// Where the chain words of a hash section are.
 #[derive(Clone, Copy)]
 pub enum Links {
-    /// Of a section of type `SHT_HASH`: behind the buckets, one for each symbol.
+    /// Of a section of type `SHT_HASH`: after the buckets, one for each symbol.
     Sysv {
         /// The number of buckets.
         nbucket: u32,
@@ -30,11 +30,11 @@ pub enum Links {
 
 /// Where a walk begins.
 #[derive(Clone, Copy)]
-pub struct Start {
+pub struct WalkStart {
     /// The chain words that it goes by.
     pub links: Links,
     /// Its first step, at the bucket.
-    pub step: Step,
+    pub step: WalkStep,
 }
 
 /// The four numbers with which GNU's hash section begins.
@@ -55,6 +55,6 @@ pub struct GnuHead {
 pub struct Walk {
     /// The least symbol with the name that was met.
     pub best: Option<u64>,
-    /// Where it stands.
-    pub step: Step,
+    /// Where it is.
+    pub step: WalkStep,
 }

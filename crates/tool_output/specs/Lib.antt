@@ -11,3 +11,4 @@ pub mod Sources
 pub mod Statuses
 pub mod Steps
 pub mod Stops
+pub mod Columns

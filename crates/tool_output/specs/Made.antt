@@ -8,7 +8,7 @@ use Rattle.elf_outside.specs.declared.file_sets.Files.{Ghosts}
 use Rattle.tool_output.specs.declared.stops.Stop.{Stop}
 use Rattle.tool_output.specs.Names.{file_name}
 use Rattle.tool_output.specs.Statuses.{refused_status}
-use Rattle.tool_output.specs.Reports.{Report, no_report, shown, refusal_report}
+use Rattle.tool_output.specs.Reports.{Report, no_report, shown_report, refusal_report}
 use Rattle.tool_output.specs.Steps.{OnRead, OnWrite}
 use Rattle.tool_output.specs.Files.{Totals}
 use Rattle.tool_output.specs.Outcomes.{FileWrite, Outcome}
@@ -25,8 +25,8 @@ pub record Done : Type 0 where
   pub writes : List FileWrite
 
 -- a file alone, with nothing shown
-abbrev pub made : List ℕ → List ℕ → Done
-made name bytes = record { shown = []; writes = made_file name bytes ∷ [] }
+abbrev pub made_file_alone : List ℕ → List ℕ → Done
+made_file_alone name bytes = record { shown = []; writes = made_file name bytes ∷ [] }
 
 -- why a command ends: a file, and what is wrong with it
 pub record Complaint : Type 0 where
@@ -58,7 +58,7 @@ outcome_with report writes = record {
 
 -- status 1 and one message where something is refused
 unfoldable pub written_outcome : List ℕ → Result Done Complaint → Outcome
-written_outcome command (Ok done) = outcome_with (shown done.shown) done.writes
+written_outcome command (Ok done) = outcome_with (shown_report done.shown) done.writes
 written_outcome command (Err c) = outcome_with (refusal_report command (file_name c.file) c.text) []
 
 -- ---- A step that makes a file

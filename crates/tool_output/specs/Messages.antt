@@ -8,5 +8,5 @@ message command name text =
     command ++ codes ": " ++ shown_name name ++ codes ": " ++ text ++ codes "\n"
 
 -- a text on a section: `section S: TEXT`
-unfoldable pub in_section : ℕ → List ℕ → List ℕ
-in_section section text = codes "section " ++ decimal section ++ codes ": " ++ text
+unfoldable pub section_message : ℕ → List ℕ → List ℕ
+section_message section text = codes "section " ++ decimal section ++ codes ": " ++ text

@@ -15,8 +15,8 @@ pub record Report : Type 0 where
   pub refused : Bool
 
 -- a text on standard output
-unfoldable pub shown : List ℕ → Report
-shown text = record { marks = said Out text; refused = false }
+unfoldable pub shown_report : List ℕ → Report
+shown_report text = record { marks = said Out text; refused = false }
 
 -- a text on standard output that counts as a refusal: a finding
 unfoldable pub found : List ℕ → Report
@@ -36,16 +36,16 @@ refusal_report command name text =
 unfoldable pub no_report : Report
 no_report = record { marks = []; refused = false }
 
-unfoldable pub joined : Report → Report → Report
-joined a b = record { marks = a.marks ++ b.marks; refused = a.refused || b.refused }
+unfoldable pub joined_reports : Report → Report → Report
+joined_reports a b = record { marks = a.marks ++ b.marks; refused = a.refused || b.refused }
 
-unfoldable pub all_joined : List Report → Report
-all_joined [] = no_report
-all_joined (r ∷ rs) = joined r (all_joined rs)
+unfoldable pub all_reports_joined : List Report → Report
+all_reports_joined [] = no_report
+all_reports_joined (r ∷ rs) = joined_reports r (all_reports_joined rs)
 
 -- the reports on the items of a list, one after another
 unfoldable pub reports_of : {X : Type 0} → (X → Report) → List X → Report
-reports_of report xs = all_joined (map report xs)
+reports_of report xs = all_reports_joined (map report xs)
 
 -- a step gives a report: it writes its marks, and answers whether something was refused
 abbrev pub Reports : {O E : Type 0} → Ghosts O → Ghosts E → Result Bool Stop
@@ -58,4 +58,4 @@ pub record UnderWay {O E : Type 0} (o : Ghosts O) (e : Ghosts E) (refused : Bool
     (old new : Outputs O E) (whole rest : Report) : Type 0 where
   pub done : Report
   pub given : Reports o e (Ok refused) old new done
-  pub left : joined done rest ≡ whole
+  pub left : joined_reports done rest ≡ whole

@@ -9,7 +9,7 @@ use elf_types::{ElfError, Octets};
 pub trait Line {
     ghost text: { Self → List ℕ };
 
-    /// Appends the text. It refuses `Memory` alone; what the page held then still stands.
+    /// Appends the text. It fails with `Memory` alone; what the buffer held then stays.
     fn put(&self, page: &mut Octets) -> Result<(), ElfError>
         ensures ok { OnOk result (page.new ≡ page.old ++ text self.now) }
         ensures err { IfErr result (WantsMemory page.old page.new) };

@@ -2,7 +2,7 @@
 
 ghost use Rattle.std.specs.Prelude.{◌≡◌, ◌++◌};
 ghost use Rattle.elf_types.specs.Text.{error_text};
-ghost use Rattle.tool_output.specs.Messages.{message, in_section};
+ghost use Rattle.tool_output.specs.Messages.{message, section_message};
 
 use crate::lines::Line;
 use crate::names::FileName;
@@ -43,9 +43,9 @@ pub struct InSection<T> {
 }
 
 impl<T: Line> Line for InSection<T> {
-    ghost text = { λ s. in_section s.section (T.text s.text) };
+    ghost text = { λ s. section_message s.section (T.text s.text) };
 
-    #[tactic(auto, using(crate::proofs::Rows::kept), unfolding(crate::specs::Messages::in_section))]
+    #[tactic(auto, using(crate::proofs::Rows::kept), unfolding(crate::specs::Messages::section_message))]
     fn put(&self, page: &mut Octets) -> Result<(), ElfError> {
         put_text(page, "section ")?;
         put_decimal(page, u64::from(self.section))?;

@@ -1,10 +1,10 @@
-//! The two outputs, and the one way in which text goes to them: it waits in a page, which is put
+//! The two outputs, and the one way in which text goes to them: it waits in a buffer, which is put
 //! when it is full, when the other output has its turn, and at the end. So both outputs get few
-//! large pieces, in the order of writing, and no more than a page and a line is held.
+//! large pieces, in the order of writing, and no more than a buffer and a line is held.
 
 ghost use Rattle.std.specs.Prelude.{◌≡◌, ◌++◌, ◌+◌, ◌<◌, [], length, OnOk, OnErr, IfSome, IfNone};
 ghost use Rattle.tool_output.specs.Marks.{said, Gained, GainedFront};
-ghost use Rattle.tool_output.specs.Reports.{Reports, shown, found, noted, refusal_report};
+ghost use Rattle.tool_output.specs.Reports.{Reports, shown_report, found, noted, refusal_report};
 ghost use Rattle.tool_output.specs.Stops.{stop_of};
 ghost use Rattle.tool_output.specs.Steps.{Writes, Performs, LeavesSinks, SinkRose, LeavesOutputs, Waits, Ends, page_size};
 
@@ -14,8 +14,8 @@ use crate::stops::Stop;
 use elf_outside::{Failed, Sink};
 use elf_types::{ElfError, Octets};
 
-/// How many bytes fill a page.
-pub const PAGE_SIZE: u64 = 65536;
+/// How many bytes fill a buffer.
+pub const OUTPUT_BUFFER_SIZE: u64 = 65536;
 
 /// One of the two outputs.
 #[derive(Clone, Copy, Debug, PartialEq, Eq)]
@@ -26,8 +26,8 @@ pub enum Side {
     Error,
 }
 
-/// The two outputs of a tool, and the page in which its text waits. It must be ended: a value that
-/// is let go is refused by the compiler.
+/// The two outputs of a tool, and the buffer in which its text waits. It must be ended: a value
+/// that is dropped is rejected by the compiler.
 pub struct Outputs<'a, O: Sink, E: Sink> {
     /// Standard output.
     pub(crate) out: &'a mut O,
@@ -65,7 +65,7 @@ fn put_bytes<O: Sink, E: Sink>(
 }
 
 impl<'a, O: Sink, E: Sink> Outputs<'a, O, E> {
-    /// Two outputs for which nothing waits. The page is empty.
+    /// Two outputs for which nothing waits. The buffer is empty.
     pub fn new(out: &'a mut O, err: &'a mut E, page: &'a mut Octets) -> Outputs<'a, O, E>
         requires { page.old ≡ [] }
         ensures same { (result.out.ghost_name ≡ out.entry.ghost_name)
@@ -117,7 +117,7 @@ impl<'a, O: Sink, E: Sink> Outputs<'a, O, E> {
         Ok(())
     }
 
-    /// Puts the page where it is full. It stops with `Write` alone.
+    /// Puts the buffer where it is full. It stops with `Write` alone.
     fn turn(&mut self) -> Result<(), Stop>
         ensures writes { Writes O.Sink E.Sink result self.old self.new [] }
         ensures room { OnOk result (length self.new.page.now < page_size) }
@@ -126,15 +126,15 @@ impl<'a, O: Sink, E: Sink> Outputs<'a, O, E> {
             Waits self.old self.new self.old.page.now }
         ensures leaves { LeavesOutputs O.Sink E.Sink ⊥ result self.old self.new }
     {
-        if self.page.len() < PAGE_SIZE {
+        if self.page.len() < OUTPUT_BUFFER_SIZE {
             return Ok(());
         }
         self.flush()
     }
 
-    /// Writes a line on one of the outputs. What waits for the other is put first, and the page
+    /// Writes a line on one of the outputs. What waits for the other is put first, and the buffer
     /// once the line fills it. It stops with `Write`, and with `Memory` where the line found none:
-    /// the page is then as it was before the line.
+    /// the buffer is then as it was before the line.
     pub fn put<L: Line>(&mut self, side: Side, line: &L) -> Result<(), Stop>
         ensures writes { Writes O.Sink E.Sink result self.old self.new
             (said side (L.text line.now)) }
@@ -154,7 +154,7 @@ impl<'a, O: Sink, E: Sink> Outputs<'a, O, E> {
         self.turn()
     }
 
-    /// Writes a line, and answers whether it refuses something.
+    /// Writes a line, and returns whether it rejects something.
     fn give<L: Line>(&mut self, side: Side, line: &L, refused: bool) -> Result<bool, Stop>
         ensures performs { Performs O.Sink E.Sink result self.old self.new
             (said side (L.text line.now)) refused }
@@ -164,10 +164,11 @@ impl<'a, O: Sink, E: Sink> Outputs<'a, O, E> {
         Ok(refused)
     }
 
-    /// Writes a line on standard output. Nothing is refused.
-    #[tactic(auto, unfolding(crate::specs::Reports::shown))]
+    /// Writes a line on standard output. Nothing is rejected.
+    #[tactic(auto, unfolding(crate::specs::Reports::shown_report))]
     pub fn show<L: Line>(&mut self, line: &L) -> Result<bool, Stop>
-        ensures reports { Reports O.Sink E.Sink result self.old self.new (shown (L.text line.now)) }
+        ensures reports { Reports O.Sink E.Sink result self.old self.new
+            (shown_report (L.text line.now)) }
         ensures leaves { LeavesOutputs O.Sink E.Sink ⊥ result self.old self.new }
     {
         self.give(Side::Out, line, false)
@@ -182,7 +183,7 @@ impl<'a, O: Sink, E: Sink> Outputs<'a, O, E> {
         self.give(Side::Out, line, true)
     }
 
-    /// Writes a message that refuses nothing.
+    /// Writes a message that rejects nothing.
     #[tactic(auto, unfolding(crate::specs::Reports::noted))]
     pub fn note<T: Line>(&mut self, message: &Message<'_, T>) -> Result<bool, Stop>
         ensures reports { let m = message.now in Reports O.Sink E.Sink result self.old self.new
@@ -192,7 +193,7 @@ impl<'a, O: Sink, E: Sink> Outputs<'a, O, E> {
         self.give(Side::Error, message, false)
     }
 
-    /// Refuses a file, by its message.
+    /// Rejects a file, by its message.
     #[tactic(auto, unfolding(crate::specs::Reports::refusal_report))]
     pub fn refuse<T: Line>(&mut self, message: &Message<'_, T>) -> Result<bool, Stop>
         ensures reports { let m = message.now in Reports O.Sink E.Sink result self.old self.new
@@ -202,7 +203,7 @@ impl<'a, O: Sink, E: Sink> Outputs<'a, O, E> {
         self.give(Side::Error, message, true)
     }
 
-    /// Refuses a file for an error of the library, by a message that tells it, or stops where the
+    /// Rejects a file for an error of the library, by a message that tells it, or stops where the
     /// error is no refusal: then nothing is written.
     pub fn refuse_by<T: Line>(
         &mut self,
@@ -223,8 +224,8 @@ impl<'a, O: Sink, E: Sink> Outputs<'a, O, E> {
         }
     }
 
-    /// Ends the writing: puts what waits, but after a failed write, and answers what the last step
-    /// answered, or `Write` where that put fails.
+    /// Ends the writing: puts what waits, but after a failed write, and returns what the last step
+    /// returned, or `Write` where that put fails.
     pub fn end<T: Drop>(self, ended: Result<T, Stop>) -> Result<T, Stop>
         ensures { Ends O.Sink E.Sink ended result self.entry self.exit.0.now self.exit.1.0.now }
     {

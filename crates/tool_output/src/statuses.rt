@@ -8,11 +8,11 @@ use crate::stops::Stop;
 /// How a run of the program ended.
 #[derive(Clone, Copy, Debug, PartialEq, Eq)]
 pub enum Status {
-    /// Done, and nothing was refused.
+    /// Done, and nothing was rejected.
     Done,
-    /// Something was refused.
+    /// Something was rejected.
     Refused,
-    /// The words are refused.
+    /// The arguments are rejected.
     BadWords,
     /// A read failed.
     ReadFailed,
@@ -37,7 +37,7 @@ impl Status {
         }
     }
 
-    /// The status of a command that came to its end, by whether something was refused.
+    /// The status of a command that came to its end, by whether something was rejected.
     pub fn of_refused(refused: bool) -> Status
         ensures { status_code result ≡ refused_status refused }
     {

@@ -7,7 +7,7 @@ ghost use Rattle.elf_types.specs.declared.errors.ElfError.TheVariants.{Memory};
 use elf_types::ElfError;
 use thiserror::Error;
 
-/// Why a tool stopped before its end. What it had written by then is a front of its text.
+/// Why a tool stopped before its end. What it had written by then is a prefix of its text.
 #[derive(Clone, Copy, Debug, PartialEq, Eq, Error)]
 pub enum Stop {
     /// A read failed.
@@ -34,7 +34,7 @@ impl Stop {
         }
     }
 
-    /// What a call of the library answered: its value, None where it is refused, or the stop where
+    /// What a call of the library returned: its value, None where it is rejected, or the stop where
     /// the error is no refusal.
     pub fn unless_refused<T: Drop>(answer: Result<T, ElfError>) -> Result<Option<T>, Stop>
         ensures { result ≡ value_or_stop answer }
@@ -48,7 +48,7 @@ impl Stop {
         }
     }
 
-    /// The stop of want of memory, which no other error may be handed to.
+    /// The stop of out of memory, which no other error may be handed to.
     pub fn want_of(e: ElfError) -> Stop
         requires { e ≡ ElfError.Memory }
         ensures { result ≡ Stop.Memory }

@@ -1,1 +1,1 @@
-pub mod LastLemmas
+mod LastLemmas

@@ -1,4 +1,4 @@
-//! The words of a command line.
+//! The arguments of a command line.
 
 ghost use Rattle.std.specs.Prelude.{◌≡◌, ◌++◌, ◌∷◌, ◌==◌, [], length, slice_get, OnOk, OnErr, IfOk, IfErr};
 ghost use Rattle.std.specs.Option.{option_copied};
@@ -55,7 +55,7 @@ impl Args {
         Args { alloc, words }
     }
 
-    /// Appends a copy of a text. It refuses `Memory` alone, and then the list is as before.
+    /// Appends a copy of a text. It fails with `Memory` alone, and then the list is as before.
     pub fn add(&mut self, word: &str) -> Result<(), ElfError>
         ensures ok { OnOk result (self.new ≡ self.old ++ word.now ∷ []) }
         ensures unchanged { OnErr result (self.new ≡ self.old) }

@@ -6,11 +6,11 @@ use Rattle.std.proofs.lemmas.Bool.{cases_eq, and_parts, and_from, and_right, bot
 use Rattle.elf_object.specs.Object.{Object}
 use Rattle.elf_object.specs.Layout.{section_numbers}
 use Rattle.elf_object.specs.Sections.{is_among, is_allocated, header_at}
-use Rattle.command_objects.specs.Removed.{removable}
-use Rattle.command_objects.specs.Split.{removed_allocated}
-use Rattle.unstrip_join.specs.strip_removed.Steps.{IsRemovable}
-use Rattle.unstrip_join.proofs.strip_removed.SetLaws.{filter_filter, among_filter}
-use Rattle.unstrip_join.proofs.strip_rebuild.NumberLaws.{zero_stays}
+use Rattle.rebuild_model.specs.Removed.{removable}
+use Rattle.rebuild_model.specs.Split.{removed_allocated}
+use Rattle.rebuild_join.specs.rebuild_select.Steps.{IsRemovable}
+use Rattle.rebuild_join.proofs.rebuild_select.SetLaws.{filter_filter, among_filter}
+use Rattle.rebuild_join.proofs.rebuild_keep.NumberLaws.{zero_stays}
 use Rattle.unstrip_tool.specs.Allocated.{is_lost}
 
 -- ---- The first number of a range that passes

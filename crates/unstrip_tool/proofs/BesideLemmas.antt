@@ -9,14 +9,14 @@ use Rattle.elf_outside.specs.declared.sources.Source.{Ghosts as SourceGhosts}
 use Rattle.elf_outside.specs.declared.sinks.Sink.{Ghosts as SinkGhosts}
 use Rattle.elf_outside.specs.declared.file_sets.Files.{Ghosts as FilesGhosts}
 use Rattle.elf_object.specs.Object.{Object}
-use Rattle.unstrip_join.specs.elf_descriptor.State.{State}
+use Rattle.rebuild_join.specs.elf_descriptor.State.{State}
 use Rattle.tool_output.specs.declared.stops.Stop.{Stop}
 use Rattle.tool_output.specs.declared.outputs.Outputs.{Outputs}
 use Rattle.tool_output.specs.Names.{file_name}
 use Rattle.tool_output.specs.Made.{Done, Complaint, complaint, of_file}
-use Rattle.strip_tool.specs.object_output.Images.{file_object}
-use Rattle.strip_tool.specs.object_output.Refusals.{Refuses}
-use Rattle.strip_tool.proofs.object_writing.WriteLemmas.{DoesHere, refused_does, refused_leaves}
+use Rattle.strip_tool.specs.tool_objects.Images.{file_object}
+use Rattle.strip_tool.specs.tool_objects.Refusals.{ReportsRefusal}
+use Rattle.strip_tool.proofs.tool_files.elf_images.WriteLemmas.{DoesHere, refused_does, refused_leaves}
 use Rattle.unstrip_tool.specs.Joins.{held_object, WritesBeside}
 use Rattle.unstrip_tool.proofs.CauseLemmas.{rose_some}
 
@@ -57,7 +57,7 @@ module _ {S F D O E : Type 0} (g : SourceGhosts S) (f : FilesGhosts F D) (o : Si
       (s t : Outputs O E) → Asks {T = Object} g (Err d) src after n
       → IfSome (g.holds src) (λ bytes. Follows {T = Object} (Err d) (file_object bytes))
       → (0 < g.faults after → causes)
-      → Refuses o e (codes "unstrip") (file_name file) d r s t
+      → ReportsRefusal o e (codes "unstrip") (file_name file) d r s t
       → WritesBeside f o e opens causes known (stated (g.holds src)) r a a s t
   begun_refused after n d r a s t asks answer cause h = record {
     does = λ tells k.

@@ -11,12 +11,12 @@ use Rattle.tool_output.specs.declared.outputs.Outputs.{Outputs}
 use Rattle.tool_output.specs.Files.{LeavesFilesBy}
 use Rattle.tool_output.specs.Steps.{Writes, LeavesOutputs}
 use Rattle.tool_output.proofs.FileLemmas.{totals_then}
-use Rattle.strip_tool.proofs.object_output.SourceSteps.{leaves_then}
-use Rattle.strip_tool.proofs.object_files.WriteLemmas.{images_unput, first_stopped, both_done, second_stopped, order_none, order_first, order_second, order_done}
-use Rattle.debug_contents.specs.image_ranges.Ranges.{KeptSource}
-use Rattle.debug_contents.proofs.image_ranges.RangeLaws.{kept_same}
-use Rattle.debug_contents.specs.strip_contents.declared.plans.RangedPlan.{RangedPlan}
-use Rattle.strip_tool.specs.Copies.{MakesPlan, text_with, plan_text, unrefused}
+use Rattle.strip_tool.proofs.tool_objects.SourceSteps.{leaves_then}
+use Rattle.strip_tool.proofs.tool_files.WriteLemmas.{images_unput, first_stopped, both_done, second_stopped, order_none, order_first, order_second, order_done}
+use Rattle.rebuild_debug.specs.rebuild_image.Ranges.Ranges.{KeptSource}
+use Rattle.rebuild_debug.proofs.rebuild_image.ranges.RangeLaws.{kept_same}
+use Rattle.rebuild_debug.specs.rebuild_plan.declared.plans.RangedPlan.{RangedPlan}
+use Rattle.strip_tool.specs.Copies.{MakesPlan, text_with, plan_text, refuses_nothing}
 use Rattle.strip_tool.proofs.CopyLemmas.{put_left, made_left}
 use Rattle.unstrip_tool.specs.declared.names.HalfNames.{HalfNames}
 use Rattle.unstrip_tool.specs.declared.plans.SplitPlans.{SplitPlans}
@@ -88,7 +88,7 @@ module _ {S F D O E : Type 0} (g : SourceGhosts S) (f : FilesGhosts F D) (o : Si
       (l : LeavesOutputs {T = Unit {0}} o e ⊥ (Ok tt) s t) (next : S) (b : F) where
     -- the first is not made
     by_first : (r : Result (Unit {0}) Stop) → StopsFirst g f names plans r src next a b
-        → Halves (unrefused r) next b
+        → Halves (refuses_nothing r) next b
     by_first (Ok x) stops = absurd stops.stopped
     by_first (Err stop) stops =
         let first = stops.first in
@@ -119,7 +119,7 @@ module _ {S F D O E : Type 0} (g : SourceGhosts S) (f : FilesGhosts F D) (o : Si
 
         both_left : (q : Result (Unit {0}) Stop)
             → MakesSecond g f names plans q src next a b
-            → LeavesFilesBy f o e (Rose (g.faults src) (g.faults next)) (unrefused q) a b s t
+            → LeavesFilesBy f o e (Rose (g.faults src) (g.faults next)) (refuses_nothing q) a b s t
         both_left (Ok x) made = record {
           totals = totals_then f o e a made.files b made.first.makes.totals
               made.second.makes.totals;
@@ -152,7 +152,7 @@ module _ {S F D O E : Type 0} (g : SourceGhosts S) (f : FilesGhosts F D) (o : Si
         }
 
     by_second : (r : Result (Unit {0}) Stop) → MakesSecond g f names plans r src next a b
-        → Halves (unrefused r) next b
+        → Halves (refuses_nothing r) next b
     by_second (Ok x) both = record {
       does = λ told.
           both_done f o e (tt {0}) a both.files s t names.stripped.now names.debug.now
@@ -178,11 +178,11 @@ module _ {S F D O E : Type 0} (g : SourceGhosts S) (f : FilesGhosts F D) (o : Si
       leaves = both_left (Err stop) both (Err stop) both;
     }
 
-    pub halves_made : (r : Result (Unit {0}) Stop) (q : Result Bool Stop) → q ≡ unrefused r
+    pub halves_made : (r : Result (Unit {0}) Stop) (q : Result Bool Stop) → q ≡ refuses_nothing r
         → MakesBoth g f names plans r src next a b → Halves q next b
     halves_made r q is made =
         subst (λ (x : Result Bool Stop). Halves x next b) (sym is) (by made)
       where
-        by : MakesBoth g f names plans r src next a b → Halves (unrefused r) next b
+        by : MakesBoth g f names plans r src next a b → Halves (refuses_nothing r) next b
         by (inl stops) = by_first r stops
         by (inr both) = by_second r both

@@ -6,17 +6,17 @@ use Rattle.elf_types.specs.Answers.{stated_refusal, ◌>>=◌}
 use Rattle.elf_types.specs.Text.{error_text}
 use Rattle.elf_outside.specs.Names.{Map}
 use Rattle.elf_object.specs.Object.{Object}
-use Rattle.command_objects.specs.Arranged.{Rebuilt}
-use Rattle.command_objects.specs.Files.{file_of}
-use Rattle.command_objects.specs.Split.{unstripped, or_elf, UnstripFault}
-use Rattle.command_objects.specs.Split.{UnstripFault as stated}
-use Rattle.strip_tool.specs.command_outcomes.Files.{bytes_named, object_named}
-use Rattle.strip_tool.specs.command_outcomes.Strip.{unstrip_complaint, or_complaint, unstrip_done, unstrip_outcome}
+use Rattle.rebuild_model.specs.Arranged.{Rebuilt}
+use Rattle.rebuild_model.specs.Files.{file_of}
+use Rattle.rebuild_model.specs.Split.{unstripped, or_elf, UnstripFault}
+use Rattle.rebuild_model.specs.Split.{UnstripFault as stated}
+use Rattle.strip_tool.specs.elfkit_outcomes.Files.{bytes_named, object_named}
+use Rattle.strip_tool.specs.elfkit_outcomes.Strip.{unstrip_complaint, or_complaint, unstrip_done, unstrip_outcome}
 use Rattle.tool_output.specs.Outcomes.{write_of}
-use Rattle.tool_output.specs.Made.{Done, Complaint, made, complaint, of_file, written_outcome}
-use Rattle.strip_tool.proofs.object_writing.NamedLemmas.{unwritten}
-use Rattle.join_contents.specs.Joining.{file_joined}
-use Rattle.unstrip_join.specs.Answers.{UnstripAnswers}
+use Rattle.tool_output.specs.Made.{Done, Complaint, made_file_alone, complaint, of_file, written_outcome}
+use Rattle.strip_tool.proofs.tool_files.elf_images.NamedLemmas.{unwritten}
+use Rattle.rebuild_join.specs.Joining.{file_joined}
+use Rattle.rebuild_join.specs.Joined.Answers.{UnstripAnswers}
 use Rattle.unstrip_tool.specs.declared.names.HalfNames.{HalfNames}
 use Rattle.unstrip_tool.specs.Joins.{joined_done, objects_done, held_object, debug_done, halves_joined}
 
@@ -26,12 +26,12 @@ use Rattle.unstrip_tool.specs.Joins.{joined_done, objects_done, held_object, deb
 abbrev pub bytes_done : List ℕ → HalfNames → Result (List ℕ) UnstripFault → Result Done Complaint
 bytes_done out names r =
     or_complaint (unstrip_complaint names.stripped.now names.debug.now) r
-    >>= λ bytes. Ok (made out bytes)
+    >>= λ bytes. Ok (made_file_alone out bytes)
 
 module _ (out : List ℕ) (names : HalfNames) where
   -- what the update refuses is refused of the stripped half
   update_is : (q : Result (List ℕ) ElfError)
-      → (of_file names.stripped.now q >>= λ bytes. Ok (made out bytes))
+      → (of_file names.stripped.now q >>= λ bytes. Ok (made_file_alone out bytes))
       ≡ bytes_done out names (or_elf q)
   unfolding unstrip_complaint
   update_is (Ok bytes) = refl

@@ -9,26 +9,26 @@ use Rattle.elf_outside.specs.Counts.{Rose}
 use Rattle.elf_outside.specs.declared.sources.Source.{Ghosts as SourceGhosts}
 use Rattle.elf_outside.specs.declared.sinks.Sink.{Ghosts as SinkGhosts}
 use Rattle.elf_outside.specs.declared.file_sets.Files.{Ghosts as FilesGhosts}
-use Rattle.unstrip_join.specs.elf_descriptor.State.{State}
-use Rattle.command_objects.specs.Arranged.{Rebuilt}
-use Rattle.command_objects.specs.Split.{unstripped, UnstripFault as Stated}
+use Rattle.rebuild_join.specs.elf_descriptor.State.{State}
+use Rattle.rebuild_model.specs.Arranged.{Rebuilt}
+use Rattle.rebuild_model.specs.Split.{unstripped, UnstripFault as Stated}
 use Rattle.tool_output.specs.declared.stops.Stop.{Stop}
 use Rattle.tool_output.specs.declared.outputs.Outputs.{Outputs}
 use Rattle.tool_output.specs.Names.{file_name}
 use Rattle.tool_output.specs.Outcomes.{Does}
-use Rattle.tool_output.specs.Made.{Done, Complaint, complaint, made, made_file, outcome_with, written_outcome}
+use Rattle.tool_output.specs.Made.{Done, Complaint, complaint, made_file_alone, made_file, outcome_with, written_outcome}
 use Rattle.tool_output.specs.Reports.{Report, no_report}
 use Rattle.tool_output.specs.Statuses.{refused_status}
 use Rattle.tool_output.proofs.UnderWayLemmas.{shown_none}
-use Rattle.strip_tool.specs.object_output.Refusals.{Refuses}
-use Rattle.strip_tool.proofs.object_writing.WriteLemmas.{DoesHere, outputs_leave, said_done, refused_does, refused_leaves}
-use Rattle.debug_contents.specs.image_ranges.Ranges.{bytes_of_source}
-use Rattle.debug_contents.specs.strip_contents.declared.plans.RangedPlan.{RangedPlan}
-use Rattle.debug_contents.specs.strip_contents.Plans.{CopiesAs}
+use Rattle.strip_tool.specs.tool_objects.Refusals.{ReportsRefusal}
+use Rattle.strip_tool.proofs.tool_files.elf_images.WriteLemmas.{DoesHere, outputs_leave, said_done, refused_does, refused_leaves}
+use Rattle.rebuild_debug.specs.rebuild_image.Ranges.Ranges.{bytes_of_source}
+use Rattle.rebuild_debug.specs.rebuild_plan.declared.plans.RangedPlan.{RangedPlan}
+use Rattle.rebuild_debug.specs.rebuild_plan.Plans.{CopiesAs}
 use Rattle.strip_tool.specs.Copies.{IsOverSource}
-use Rattle.unstrip_join.specs.declared.faults.UnstripFault.{UnstripFault}
-use Rattle.unstrip_join.specs.declared.faults.UnstripFault.TheVariants as faults
-use Rattle.join_contents.specs.Joining.{file_joined, PlansJoined}
+use Rattle.rebuild_join.specs.declared.joined.faults.UnstripFault.{UnstripFault}
+use Rattle.rebuild_join.specs.declared.joined.faults.UnstripFault.TheVariants as faults
+use Rattle.rebuild_join.specs.Joining.{file_joined, PlansJoined}
 use Rattle.unstrip_tool.specs.declared.names.HalfNames.{HalfNames}
 use Rattle.unstrip_tool.specs.Copies.{WritesPair}
 use Rattle.unstrip_tool.specs.Refusing.{RefusesFault}
@@ -59,7 +59,7 @@ module _ {S T F D O E : Type 0} (g : SourceGhosts S) (h : SourceGhosts T) (f : F
   -- a file alone
   file_here : (bytes : List ℕ) (r : Result Bool Stop) (a b : F) (s t : Outputs O E)
       → Does f o e refused_status (outcome_with no_report (made_file out bytes ∷ [])) r a b s t
-      → Here (Ok (made out bytes)) r a b s t
+      → Here (Ok (made_file_alone out bytes)) r a b s t
   unfolding written_outcome
   file_here bytes r a b s t h =
       subst (λ (x : Report).
@@ -98,7 +98,7 @@ module _ {S T F D O E : Type 0} (g : SourceGhosts S) (h : SourceGhosts T) (f : F
         → (Known → IfSome (stated_refusal c) (λ d.
         bytes_done out names (file_joined joined) ≡ Err (complaint file (error_text d))))
         → ReadRose {T = Unit {0}} (Err c) 0 0
-        → Refuses o e (codes "unstrip") (file_name file) c r s t → Joins r a a s t
+        → ReportsRefusal o e (codes "unstrip") (file_name file) c r s t → Joins r a a s t
     refused c file is read told = record {
       does = λ tells known.
           refused_does f o e (codes "unstrip") file c (joined_done out names joined) r a s t tells

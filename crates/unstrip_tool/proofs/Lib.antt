@@ -1,11 +1,11 @@
-pub mod AllocatedLemmas
-pub mod CauseLemmas
-pub mod SplitLemmas
-pub mod CopyLemmas
-pub mod PairLemmas
-pub mod WriteLemmas
-pub mod DoneLemmas
-pub mod BesideLemmas
-pub mod OpenedLemmas
-pub mod JoinLemmas
-pub mod EndLemmas
+mod AllocatedLemmas
+mod CauseLemmas
+mod SplitLemmas
+mod CopyLemmas
+mod PairLemmas
+mod WriteLemmas
+mod DoneLemmas
+mod BesideLemmas
+mod OpenedLemmas
+mod JoinLemmas
+mod EndLemmas

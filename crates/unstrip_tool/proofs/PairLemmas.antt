@@ -5,15 +5,15 @@ use Rattle.elf_outside.specs.Counts.{Rose}
 use Rattle.elf_outside.specs.declared.sources.Source.{Ghosts as SourceGhosts}
 use Rattle.elf_outside.specs.declared.sinks.Sink.{Ghosts as SinkGhosts}
 use Rattle.elf_outside.specs.declared.file_sets.Files.{Ghosts as FilesGhosts}
-use Rattle.source_pair.specs.Pairs.{bytes_of_pair, IsPair}
-use Rattle.source_pair.proofs.LeaveLaws.{pair_leaves}
-use Rattle.unstrip_join.specs.elf_descriptor.State.{State}
-use Rattle.unstrip_join.specs.elf_descriptor.Views.{source_bytes}
-use Rattle.debug_contents.specs.image_ranges.Images.{ranged_text}
-use Rattle.debug_contents.specs.image_ranges.Ranges.{KeptSource, bytes_of_source, kept_of_source}
-use Rattle.debug_contents.proofs.image_ranges.RangeLaws.{bytes_long}
-use Rattle.debug_contents.specs.strip_contents.declared.plans.RangedPlan.{RangedPlan}
-use Rattle.debug_contents.specs.strip_contents.Plans.{CopiesAs, kept_with}
+use Rattle.rebuild_join.specs.Pair.Pairs.{bytes_of_pair, IsPair}
+use Rattle.rebuild_join.proofs.pair.LeaveLaws.{pair_leaves}
+use Rattle.rebuild_join.specs.elf_descriptor.State.{State}
+use Rattle.rebuild_join.specs.elf_descriptor.Views.{source_bytes}
+use Rattle.rebuild_debug.specs.rebuild_image.Ranges.Images.{ranged_text}
+use Rattle.rebuild_debug.specs.rebuild_image.Ranges.Ranges.{KeptSource, bytes_of_source, kept_of_source}
+use Rattle.rebuild_debug.proofs.rebuild_image.ranges.RangeLaws.{bytes_long}
+use Rattle.rebuild_debug.specs.rebuild_plan.declared.plans.RangedPlan.{RangedPlan}
+use Rattle.rebuild_debug.specs.rebuild_plan.Plans.{CopiesAs, kept_with}
 use Rattle.strip_tool.specs.Copies.{IsOverSource, WritesImage, text_with, plan_text}
 use Rattle.tool_output.specs.declared.stops.Stop.{Stop}
 use Rattle.tool_output.specs.declared.outputs.Outputs.{Outputs}

@@ -7,23 +7,23 @@ use Rattle.elf_types.specs.Answers.{answered, ◌>>=◌}
 use Rattle.elf_outside.specs.declared.sources.Source.{Ghosts}
 use Rattle.elf_outside.proofs.AskLemmas.{read_rose_on}
 use Rattle.elf_object.specs.Object.{Object}
-use Rattle.unstrip_join.specs.elf_descriptor.State.{State}
-use Rattle.command_objects.specs.Arranged.{Rebuilt}
-use Rattle.command_objects.specs.Files.{file_of}
-use Rattle.command_objects.specs.Rebuilt.{rebuilt}
-use Rattle.command_objects.specs.Split.{debug_half, debug_refusal, debug_of}
-use Rattle.unstrip_join.specs.object_making.Refused.{RefusedBy}
-use Rattle.unstrip_join.proofs.strip_rebuild.AskLaws.{asks_as, asks_stop}
-use Rattle.unstrip_join.proofs.strip_rebuild.MakeLaws.{refused_quiet, quiet_rose}
-use Rattle.debug_contents.specs.strip_contents.declared.arranged.Arranged.{Arranged}
-use Rattle.debug_contents.specs.strip_contents.declared.contents.Contents.{Contents}
-use Rattle.debug_contents.specs.strip_contents.declared.plans.RangedPlan.{RangedPlan}
-use Rattle.debug_contents.specs.strip_contents.Plans.{IsRangedBy, PlansCopied, FileAnswers, ArrangedAnswers, ArrangesRebuilt, stream_due}
-use Rattle.debug_contents.proofs.strip_contents.AnswerLaws.{copied_file}
-use Rattle.debug_contents.specs.Keeping.{KeepsHalf}
-use Rattle.debug_contents.specs.Planning.{PlansHalf}
+use Rattle.rebuild_join.specs.elf_descriptor.State.{State}
+use Rattle.rebuild_model.specs.Arranged.{Rebuilt}
+use Rattle.rebuild_model.specs.Files.{file_of}
+use Rattle.rebuild_model.specs.Rebuilt.{rebuilt}
+use Rattle.rebuild_model.specs.Split.{debug_half, debug_refusal, debug_of}
+use Rattle.rebuild_join.specs.rebuild_making.Refused.{RefusedBy}
+use Rattle.rebuild_join.proofs.rebuild_keep.AskLaws.{asks_as, asks_stop}
+use Rattle.rebuild_join.proofs.rebuild_keep.MakeLaws.{refused_quiet, quiet_rose}
+use Rattle.rebuild_debug.specs.rebuild_plan.declared.arranged.Arranged.{Arranged}
+use Rattle.rebuild_debug.specs.rebuild_plan.declared.contents.Contents.{Contents}
+use Rattle.rebuild_debug.specs.rebuild_plan.declared.plans.RangedPlan.{RangedPlan}
+use Rattle.rebuild_debug.specs.rebuild_plan.Plans.{IsRangedBy, PlansCopied, FileAnswers, ArrangedAnswers, ArrangesRebuilt, stream_due}
+use Rattle.rebuild_debug.proofs.rebuild_plan.AnswerLaws.{copied_file}
+use Rattle.rebuild_debug.specs.Keeping.{KeepsHalf}
+use Rattle.rebuild_debug.specs.Planning.{PlansHalf}
 use Rattle.unstrip_tool.specs.declared.plans.SplitPlans.{SplitPlans}
-use Rattle.unstrip_tool.specs.Splitting.{both_bytes, both_files, split_files, SplitAnswers, PlansBoth, PlansSplit}
+use Rattle.unstrip_tool.specs.Splitting.{both_bytes, both_files, split_file_bytes, SplitAnswers, PlansBoth, PlansSplit}
 
 -- ---- Two files
 
@@ -98,7 +98,7 @@ module _ {S : Type 0} (s : State S) (kept : Arranged) where
 
 not_arranged : (o : Object) (removed : List ℕ) (e : ElfError)
     → ArrangedAnswers o (Err e) (rebuilt o removed)
-    → SplitAnswers o.base (Err e) (split_files o removed)
+    → SplitAnswers o.base (Err e) (split_file_bytes o removed)
 not_arranged o removed Memory is = tt
 not_arranged o removed Read is = tt
 not_arranged o removed Write is = is
@@ -123,7 +123,7 @@ module _ {S : Type 0} (g : Ghosts S) (removed : List ℕ) (old mid : State S) wh
     after q r = r >>= λ half. both_files q half
 
     first_is : (t : IsTrue old.told)
-        → split_files old.o removed ≡ after (first.answer t).0.object (debug_of old.o)
+        → split_file_bytes old.o removed ≡ after (first.answer t).0.object (debug_of old.o)
     first_is t =
         ap (λ (r : Result Rebuilt ElfError).
         r >>= λ r. debug_of old.o >>= λ half. both_files r.object half) (first.answer t).1
@@ -135,7 +135,7 @@ module _ {S : Type 0} (g : Ghosts S) (removed : List ℕ) (old mid : State S) wh
 
     -- the debug half is
     not_halved : (e : ElfError) → RefusedBy (debug_refusal old.o) e → IsTrue old.told
-        → SplitAnswers old.o.base (Err e) (split_files old.o removed)
+        → SplitAnswers old.o.base (Err e) (split_file_bytes old.o removed)
     not_halved Memory by t = tt
     not_halved Read by t = tt
     not_halved Write by t = by

@@ -12,19 +12,19 @@ use Rattle.elf_outside.specs.declared.sinks.Sink.{Ghosts as SinkGhosts}
 use Rattle.elf_outside.specs.declared.file_sets.Files.{Ghosts as FilesGhosts}
 use Rattle.elf_object.specs.Object.{Object}
 use Rattle.elf_object.specs.Words.{Wants, Answers}
-use Rattle.unstrip_join.specs.elf_descriptor.State.{State}
-use Rattle.unstrip_join.specs.elf_descriptor.Reads.{Queries}
-use Rattle.command_objects.specs.Arranged.{Rebuilt}
-use Rattle.command_objects.specs.Files.{file_of}
-use Rattle.command_objects.specs.Rebuilt.{rebuilt}
-use Rattle.command_objects.specs.Split.{debug_of, removed_allocated}
-use Rattle.strip_tool.specs.command_outcomes.Strip.{strip_split, allocated_text}
-use Rattle.unstrip_join.specs.strip_removed.Calls as calls
-use Rattle.debug_contents.specs.image_ranges.Images.{ranged_text}
-use Rattle.debug_contents.specs.image_ranges.Ranges.{KeptSource, kept_of_source}
-use Rattle.debug_contents.specs.strip_contents.declared.plans.RangedPlan.{RangedPlan}
-use Rattle.debug_contents.specs.strip_contents.Plans.{kept_with}
-use Rattle.debug_contents.proofs.strip_contents.RemovedLaws.{set_is, never_refused}
+use Rattle.rebuild_join.specs.elf_descriptor.State.{State}
+use Rattle.rebuild_join.specs.elf_descriptor.Reads.{Queries}
+use Rattle.rebuild_model.specs.Arranged.{Rebuilt}
+use Rattle.rebuild_model.specs.Files.{file_of}
+use Rattle.rebuild_model.specs.Rebuilt.{rebuilt}
+use Rattle.rebuild_model.specs.Split.{debug_of, removed_allocated}
+use Rattle.strip_tool.specs.elfkit_outcomes.Strip.{strip_split, allocated_text}
+use Rattle.rebuild_join.specs.rebuild_select.Calls as calls
+use Rattle.rebuild_debug.specs.rebuild_image.Ranges.Images.{ranged_text}
+use Rattle.rebuild_debug.specs.rebuild_image.Ranges.Ranges.{KeptSource, kept_of_source}
+use Rattle.rebuild_debug.specs.rebuild_plan.declared.plans.RangedPlan.{RangedPlan}
+use Rattle.rebuild_debug.specs.rebuild_plan.Plans.{kept_with}
+use Rattle.rebuild_debug.proofs.rebuild_plan.RemovedLaws.{set_is, never_refused}
 use Rattle.strip_tool.specs.Copies.{IsOverSource, text_with}
 use Rattle.strip_tool.proofs.StripLemmas.{over_stays}
 use Rattle.tool_output.specs.declared.stops.Stop.{Stop}
@@ -36,14 +36,14 @@ use Rattle.tool_output.specs.Reports.{Report, Reports, no_report, refusal_report
 use Rattle.tool_output.specs.Statuses.{refused_status}
 use Rattle.tool_output.specs.Made.{Done, Complaint, made_file, complaint, of_file, outcome_with, written_outcome}
 use Rattle.tool_output.proofs.UnderWayLemmas.{shown_none}
-use Rattle.strip_tool.specs.object_output.Refusals.{Refuses}
-use Rattle.strip_tool.proofs.object_output.SourceSteps.{leaves_then}
-use Rattle.strip_tool.specs.object_writing.Writes.{WritesFile}
-use Rattle.strip_tool.proofs.object_writing.WriteLemmas.{DoesHere, outputs_leave, said_done, refused_writes, written_then}
+use Rattle.strip_tool.specs.tool_objects.Refusals.{ReportsRefusal}
+use Rattle.strip_tool.proofs.tool_objects.SourceSteps.{leaves_then}
+use Rattle.strip_tool.specs.tool_files.ElfImages.Writes.{WritesFile}
+use Rattle.strip_tool.proofs.tool_files.elf_images.WriteLemmas.{DoesHere, outputs_leave, said_done, refused_writes, written_then}
 use Rattle.unstrip_tool.specs.declared.plans.SplitPlans.{SplitPlans}
 use Rattle.unstrip_tool.specs.declared.names.HalfNames.{HalfNames}
 use Rattle.unstrip_tool.specs.Copies.{WritesHalves}
-use Rattle.unstrip_tool.specs.Splitting.{both_bytes, both_files, split_files, SplitAnswers, PlansSplit}
+use Rattle.unstrip_tool.specs.Splitting.{both_bytes, both_files, split_file_bytes, SplitAnswers, PlansSplit}
 use Rattle.unstrip_tool.specs.Writes.{both_made, split_done, object_split}
 use Rattle.unstrip_tool.proofs.CauseLemmas.{leaves_by}
 
@@ -72,7 +72,7 @@ module _ (o : Object) (removed file : List ℕ) (names : HalfNames) where
   -- by the first section that is
   abbrev stated_of : Option ℕ → Result Done Complaint
   stated_of (Some s) = Err (complaint file (allocated_text s))
-  stated_of None = split_done file names (split_files o removed)
+  stated_of None = split_done file names (split_file_bytes o removed)
 
   stated_is : strip_split o removed names.stripped.now names.debug.now file
       ≡ stated_of (removed_allocated o removed)
@@ -90,7 +90,7 @@ module _ (o : Object) (removed file : List ℕ) (names : HalfNames) where
 
   pub split_stated : None ≡ removed_allocated o removed
       → strip_split o removed names.stripped.now names.debug.now file
-      ≡ split_done file names (split_files o removed)
+      ≡ split_done file names (split_file_bytes o removed)
   split_stated none = stated_is ∙ ap stated_of (sym none)
 
   pub lost_stated : (s : ℕ) → Some s ≡ removed_allocated o removed
@@ -140,7 +140,7 @@ module _ {S F D O E : Type 0} (g : SourceGhosts S) (f : FilesGhosts F D) (o : Si
       (r : Result Bool Stop) (a b : F) (s t : Outputs O E) → IsOverSource g old
       → PlansSplit g removed (Ok p) old mid
       → WritesHalves g f o e names p r mid.source next a b s t
-      → Writes (split_done file names (split_files old.o removed)) r old next a b s t
+      → Writes (split_done file names (split_file_bytes old.o removed)) r old next a b s t
   split_written removed old mid next p r a b s t over plans writes = record {
     does = λ tells told.
         let known = plans.answer told in
@@ -180,13 +180,13 @@ module _ {S F D O E : Type 0} (g : SourceGhosts S) (f : FilesGhosts F D) (o : Si
 
   pub split_refused : (removed : List ℕ) (old mid : State S) (d : ElfError)
       (r : Result Bool Stop) (a : F) (s t : Outputs O E) → PlansSplit g removed (Err d) old mid
-      → Refuses o e (codes "strip") (file_name file) d r s t
-      → Writes (split_done file names (split_files old.o removed)) r old mid.source a a s t
+      → ReportsRefusal o e (codes "strip") (file_name file) d r s t
+      → Writes (split_done file names (split_file_bytes old.o removed)) r old mid.source a a s t
   split_refused removed old mid d r a s t first h =
       refused_writes g f o e (codes "strip") file
-      (split_done file names (split_files old.o removed)) old
+      (split_done file names (split_file_bytes old.o removed)) old
       (record old { source = mid.source }) SplitPlans d r a s t
-      (λ tells told. split_fault old.o.base (split_files old.o removed) d (first.answer told))
+      (λ tells told. split_fault old.o.base (split_file_bytes old.o removed) d (first.answer told))
       first.asks.source.leaves first.asks.source.later first.asks.source.read h
 
   -- ---- A section that is lost
@@ -211,7 +211,7 @@ module _ {S F D O E : Type 0} (g : SourceGhosts S) (f : FilesGhosts F D) (o : Si
 
   pub none_lost : (removed : List ℕ) (old : State S) (next : S) (r : Result Bool Stop) (a b : F)
       (s t : Outputs O E) → None ≡ removed_allocated old.o removed
-      → Writes (split_done file names (split_files old.o removed)) r old next a b s t
+      → Writes (split_done file names (split_file_bytes old.o removed)) r old next a b s t
       → Writes (strip_split old.o removed names.stripped.now names.debug.now file) r
       old next a b s t
   none_lost removed old next r a b s t none h =
@@ -258,7 +258,7 @@ module _ {S F D O E : Type 0} (g : SourceGhosts S) (f : FilesGhosts F D) (o : Si
         → Answers {A = List ℕ} old.told wants (Err d)
         ((calls.removed debug_only wanted).answer old.o)
         → Queries {T = List ℕ} g (calls.removed debug_only wanted) [] (Err d) old mid
-        → Refuses o e (codes "strip") (file_name file) d r s t
+        → ReportsRefusal o e (codes "strip") (file_name file) d r s t
         → Writes (object_split debug_only wanted names file old.o) r old mid.source a a s t
     removed_refused d r a s t came queries h =
         let stated : Result Done Complaint =

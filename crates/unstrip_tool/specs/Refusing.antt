@@ -9,9 +9,9 @@ use Rattle.tool_output.specs.declared.outputs.Outputs.{Outputs}
 use Rattle.tool_output.specs.Names.{file_name}
 use Rattle.tool_output.specs.Reports.{Reports, refusal_report}
 use Rattle.tool_output.specs.Steps.{LeavesOutputs}
-use Rattle.strip_tool.specs.object_output.Refusals.{Refuses}
-use Rattle.unstrip_join.specs.declared.faults.UnstripFault.{UnstripFault}
-use Rattle.unstrip_join.specs.declared.faults.UnstripFault.TheVariants as faults
+use Rattle.strip_tool.specs.tool_objects.Refusals.{ReportsRefusal}
+use Rattle.rebuild_join.specs.declared.joined.faults.UnstripFault.{UnstripFault}
+use Rattle.rebuild_join.specs.declared.joined.faults.UnstripFault.TheVariants as faults
 use Rattle.unstrip_tool.specs.declared.names.HalfNames.{HalfNames}
 
 -- a text is told of a file
@@ -36,8 +36,8 @@ RefusesUnopened o e name opening.Memory result old new = StopsBy Memory result o
 abbrev pub RefusesFault : {O E : Type 0} → Ghosts O → Ghosts E → HalfNames → UnstripFault
     → Result Bool Stop → Outputs O E → Outputs O E → Type 0
 RefusesFault o e names (faults.Elf c) result old new =
-    Refuses o e (codes "unstrip") (file_name names.stripped.now) c result old new
+    ReportsRefusal o e (codes "unstrip") (file_name names.stripped.now) c result old new
 RefusesFault o e names (faults.Debug c) result old new =
-    Refuses o e (codes "unstrip") (file_name names.debug.now) c result old new
+    ReportsRefusal o e (codes "unstrip") (file_name names.debug.now) c result old new
 RefusesFault o e names faults.Mismatch result old new =
     RefusesWith o e names.stripped.now (codes "files do not match") result old new

@@ -6,13 +6,13 @@ use Rattle.elf_types.specs.Answers.{◌>>=◌}
 use Rattle.elf_outside.specs.Asks.{ReadRose}
 use Rattle.elf_outside.specs.declared.sources.Source.{Ghosts}
 use Rattle.elf_object.specs.Object.{Object}
-use Rattle.unstrip_join.specs.elf_descriptor.State.{State}
-use Rattle.command_objects.specs.Files.{file_of}
-use Rattle.command_objects.specs.Rebuilt.{rebuilt}
-use Rattle.command_objects.specs.Split.{debug_half, debug_of}
-use Rattle.unstrip_join.specs.strip_rebuild.Makes.{AsksFor}
-use Rattle.debug_contents.specs.strip_contents.declared.arranged.Arranged.{Arranged}
-use Rattle.debug_contents.specs.strip_contents.Plans.{CopiesAs, IsRangedBy, stream_due}
+use Rattle.rebuild_join.specs.elf_descriptor.State.{State}
+use Rattle.rebuild_model.specs.Files.{file_of}
+use Rattle.rebuild_model.specs.Rebuilt.{rebuilt}
+use Rattle.rebuild_model.specs.Split.{debug_half, debug_of}
+use Rattle.rebuild_join.specs.rebuild_keep.Makes.{AsksFor}
+use Rattle.rebuild_debug.specs.rebuild_plan.declared.arranged.Arranged.{Arranged}
+use Rattle.rebuild_debug.specs.rebuild_plan.Plans.{CopiesAs, IsRangedBy, stream_due}
 use Rattle.unstrip_tool.specs.declared.plans.SplitPlans.{SplitPlans}
 
 -- the bytes of two files, or the first refusal
@@ -25,8 +25,8 @@ abbrev pub both_files : Object → Object → Result (List ℕ × List ℕ) ElfE
 both_files stripped half = both_bytes (file_of stripped) (file_of half)
 
 -- of both halves: each is made first, and then each is written
-abbrev pub split_files : Object → List ℕ → Result (List ℕ × List ℕ) ElfError
-split_files o removed =
+abbrev pub split_file_bytes : Object → List ℕ → Result (List ℕ × List ℕ) ElfError
+split_file_bytes o removed =
     rebuilt o removed >>= λ r. debug_of o >>= λ half. both_files r.object half
 
 -- the plans of stated files, or their refusal; or memory is wanted, or a read failed
@@ -53,5 +53,5 @@ pub record PlansBoth {S : Type 0} (s : State S) (x : Arranged) (result : Result 
 pub record PlansSplit {S : Type 0} (g : Ghosts S) (removed : List ℕ)
     (result : Result SplitPlans ElfError) (old new : State S) : Type 0 where
   pub answer : IsTrue old.told
-      → SplitAnswers old.o.base result (split_files old.o removed)
+      → SplitAnswers old.o.base result (split_file_bytes old.o removed)
   pub asks : AsksFor g result old new (stream_due old.o removed)

@@ -3,8 +3,8 @@ use Rattle.std.specs.Prelude.{ℕ, Bool, List, [], ◌∷◌, Result, Ok}
 use Rattle.elf_types.specs.declared.errors.ElfError.{ElfError}
 use Rattle.elf_types.specs.Answers.{◌>>=◌}
 use Rattle.elf_object.specs.Object.{Object}
-use Rattle.command_objects.specs.Removed.{removed_sections}
-use Rattle.strip_tool.specs.command_outcomes.Strip.{strip_split}
+use Rattle.rebuild_model.specs.Removed.{removed_sections}
+use Rattle.strip_tool.specs.elfkit_outcomes.Strip.{strip_split}
 use Rattle.tool_output.specs.Made.{Done, Complaint, made_file, of_file}
 use Rattle.unstrip_tool.specs.declared.names.HalfNames.{HalfNames}
 

@@ -1,9 +1,9 @@
 //! A section that is removed and would be in neither half.
 
 ghost use Rattle.std.specs.Prelude.{◌≡◌, ◌<◌, length, codes};
-ghost use Rattle.command_objects.specs.Split.{removed_allocated};
-ghost use Rattle.strip_tool.specs.command_outcomes.Strip.{allocated_text};
-ghost use Rattle.unstrip_join.specs.strip_removed.Steps.{IsRemovable};
+ghost use Rattle.rebuild_model.specs.Split.{removed_allocated};
+ghost use Rattle.strip_tool.specs.elfkit_outcomes.Strip.{allocated_text};
+ghost use Rattle.rebuild_join.specs.rebuild_select.Steps.{IsRemovable};
 ghost use Rattle.tool_output.specs.Names.{file_name};
 ghost use Rattle.tool_output.specs.Reports.{Reports, refusal_report};
 ghost use Rattle.tool_output.specs.Steps.{LeavesOutputs};
@@ -11,8 +11,8 @@ ghost use Rattle.unstrip_tool.specs.Allocated.{is_lost};
 
 use elf_outside::{Sink, Source};
 use elf_types::{ElfError, Octets, ScnId, put_numbered};
+use rebuild_join::prelude::{Elf, SectionSet, is_header_allocated};
 use tool_output::{FileName, Line, Message, Outputs, Stop};
-use unstrip_join::prelude::{Elf, SectionSet, strip_removed_is_allocated as is_allocated};
 
 /// Whether a section that is there is removed and allocated.
 #[tactic(auto, unfolding(crate::specs::Allocated::is_lost))]
@@ -20,7 +20,7 @@ fn is_lost<S: Source>(elf: &Elf<S>, removed: &SectionSet, s: ScnId) -> bool
     requires { s.0 < length elf.now.o.sections }
     ensures { result ≡ is_lost elf.now.o removed.now s.0 }
 {
-    removed.contains(s.0) && is_allocated(&elf.section_header(s))
+    removed.contains(s.0) && is_header_allocated(&elf.section_header(s))
 }
 
 /// The first section that is removed and allocated, of those that may be removed. It looks at each
@@ -52,7 +52,7 @@ impl Line for AllocatedSection {
     }
 }
 
-/// Refuses a file of which a section is removed that is allocated.
+/// Rejects a file of which a section is removed that is allocated.
 pub(crate) fn refuse_allocated<O: Sink, E: Sink>(
     file: &[u8],
     section: u32,

@@ -6,11 +6,11 @@ ghost use Rattle.unstrip_tool.specs.Writes.{object_split};
 use crate::names::HalfNames;
 use crate::writing::write_halves;
 use elf_outside::{Files, Sink, Source};
+use rebuild_join::prelude::Elf;
 use std::alloc::Global;
 use strip_tool::prelude::ImageCommand;
 use tool_output::{Outputs, Stop};
 use tool_text::Args;
-use unstrip_join::prelude::Elf;
 
 /// What is removed, and the names of the files that are made.
 #[derive(Clone, Copy)]

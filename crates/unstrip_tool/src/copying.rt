@@ -5,9 +5,9 @@ ghost use Rattle.unstrip_tool.specs.Copies.{MakesBoth, WritesHalves, WritesPair}
 
 use crate::names::HalfNames;
 use crate::plans::SplitPlans;
-use debug_contents::prelude::RangedPlan;
 use elf_outside::{Files, Sink, Source};
-use source_pair::SourcePair;
+use rebuild_debug::prelude::RangedPlan;
+use rebuild_join::pair::SourcePair;
 use std::alloc::Global;
 use strip_tool::{make_plan, not_refused, write_plan};
 use tool_output::{Outputs, Stop};
@@ -31,7 +31,7 @@ fn make_both<S: Source, F: Files>(
 }
 
 /// Writes the images of two plans to two new files, the debug half last, copied out of a source,
-/// and hands that back. What waits for the outputs is put before. It refuses nothing. While the
+/// and hands that back. What waits for the outputs is put before. It rejects nothing. While the
 /// first is made the name of the second holds what it held, and while the second is made the first
 /// holds its image.
 pub(crate) fn write_plans<S: Source, F: Files, O: Sink, E: Sink>(
@@ -53,8 +53,8 @@ pub(crate) fn write_plans<S: Source, F: Files, O: Sink, E: Sink>(
 }
 
 /// Writes the image of a plan to the new file `out`, copied out of the bytes of one source and
-/// behind them those of another, and hands both back. What waits for the outputs is put before. It
-/// refuses nothing, and stops as `write_plan` does.
+/// after them those of another, and hands both back. What waits for the outputs is put before. It
+/// rejects nothing, and stops as `write_plan` does.
 pub(crate) fn write_pair<S: Source, T: Source, F: Files, O: Sink, E: Sink>(
     alloc: Global,
     stripped: S,

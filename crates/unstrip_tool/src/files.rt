@@ -5,25 +5,25 @@ ghost use Rattle.elf_outside.specs.Asks.{Leaves};
 ghost use Rattle.elf_outside.specs.Counts.{Rose};
 ghost use Rattle.elf_object.specs.Object.{is_dirty};
 ghost use Rattle.elf_object.specs.Valid.{IsTied};
-ghost use Rattle.debug_contents.specs.strip_laws.Made.{FitsClass};
+ghost use Rattle.rebuild_debug.specs.law_rebuild.Strip.Made.{FitsClass};
 ghost use Rattle.strip_tool.specs.Copies.{IsOverSource};
 ghost use Rattle.tool_output.specs.Files.{LeavesFiles};
 ghost use Rattle.tool_output.specs.Outcomes.{Does};
 ghost use Rattle.tool_output.specs.Statuses.{refused_status};
-ghost use Rattle.strip_tool.specs.command_outcomes.Strip.{unstrip_outcome};
+ghost use Rattle.strip_tool.specs.elfkit_outcomes.Strip.{unstrip_outcome};
 ghost use Rattle.unstrip_tool.specs.Joins.{debug_done, halves_joined, WritesBeside};
 
 use crate::joining::join_debug;
 use crate::names::HalfNames;
 use crate::refusing::{refuse_half, refuse_unopened};
 use elf_outside::{Files, Sink, Source};
+use rebuild_join::prelude::Elf;
 use std::alloc::Global;
 use strip_tool::prelude::begin_image;
 use tool_output::{Outputs, Stop};
-use unstrip_join::prelude::Elf;
 
 /// Opens the file of the debug half, joins it to the object of the other half, in which nothing is
-/// dirty, and closes it; only then is the answer looked at. The other file is handed back.
+/// dirty, and closes it; only then is the result looked at. The other file is handed back.
 fn join_named<S: Source, F: Files, O: Sink, E: Sink>(
     alloc: Global,
     stripped: Elf<S>,
@@ -59,9 +59,9 @@ fn join_named<S: Source, F: Files, O: Sink, E: Sink>(
     }
 }
 
-/// The same with the file of the stripped half, which is open, and is handed back. What has no
-/// front of an image, and an archive, has the message that says why: then the other file is not
-/// opened.
+/// Joins the file of the stripped half, which is open and is handed back, to that of the debug
+/// half. What has no headers of an image, and an archive, has the message that says why: then the
+/// other file is not opened.
 fn join_stripped<S: Source, F: Files, O: Sink, E: Sink>(
     alloc: Global,
     src: S,
@@ -92,13 +92,13 @@ fn join_stripped<S: Source, F: Files, O: Sink, E: Sink>(
 
 /// Opens the two files of the halves of a program, the stripped half first, and writes the image of
 /// what they are halves of to the new file `out`, while both are open; then it closes them. The
-/// first of them that is not there, or has no front of an image, or is an archive, has its message;
-/// then files that do not match, and what `unstrip` and the update refuse. Then no file is made.
-/// The answer tells whether it was refused. The new file has a name of its own.
+/// first of them that is not there, or has no headers of an image, or is an archive, has its
+/// message; then files that do not match, and what `unstrip` and the update reject. Then no file is
+/// made. It returns whether it was rejected. The new file has a name of its own.
 ///
 /// It stops by `Read` where a file was not handed out or a read of one failed, by `Write` where a
 /// put or a write of the new file failed, and by `Memory`. Then its name holds what it held or a
-/// front of the image.
+/// prefix of the image.
 ///
 /// Source: eu-unstrip(1).
 pub fn join_files<F: Files, O: Sink, E: Sink>(

@@ -4,7 +4,7 @@ ghost use Rattle.std.specs.Prelude.{◌≡◌, ◌⊎◌, ◌<◌, false, IsTrue
 ghost use Rattle.elf_outside.specs.Asks.{Leaves};
 ghost use Rattle.elf_object.specs.Object.{is_dirty};
 ghost use Rattle.elf_object.specs.Valid.{IsTied};
-ghost use Rattle.debug_contents.specs.strip_laws.Made.{FitsClass};
+ghost use Rattle.rebuild_debug.specs.law_rebuild.Strip.Made.{FitsClass};
 ghost use Rattle.strip_tool.specs.Copies.{IsOverSource};
 ghost use Rattle.unstrip_tool.specs.Joins.{objects_done, debug_done, WritesBeside};
 
@@ -12,16 +12,16 @@ use crate::copying::write_pair;
 use crate::names::HalfNames;
 use crate::refusing::{refuse_fault, refuse_half};
 use elf_outside::{Files, Sink, Source};
-use join_contents::plan_joined;
+use rebuild_join::plan_joined;
+use rebuild_join::prelude::Elf;
 use std::alloc::Global;
 use strip_tool::prelude::begin_image;
 use tool_output::{Outputs, Stop};
-use unstrip_join::prelude::Elf;
 
 /// Writes the image of what two objects, in which nothing is dirty, are halves of to the new file
 /// `out`, range by range of their files, and hands the sources back. Where they are not joined, and
-/// where the update is refused, the message says why, and no file is made. The answer tells whether
-/// it was refused.
+/// where the update is rejected, the message says why, and no file is made. It returns whether it
+/// was rejected.
 fn write_joined<S: Source, T: Source, F: Files, O: Sink, E: Sink>(
     alloc: Global,
     stripped: Elf<S>,
@@ -58,8 +58,8 @@ fn write_joined<S: Source, T: Source, F: Files, O: Sink, E: Sink>(
     }
 }
 
-/// The same with the file of the debug half, which is open. What has no front of an image, and an
-/// archive, has the message that says why: then no file is made.
+/// Joins an object to the file of the debug half, which is open. What has no headers of an image,
+/// and an archive, has the message that says why: then no file is made.
 pub(crate) fn join_debug<S: Source, T: Source, F: Files, O: Sink, E: Sink>(
     alloc: Global,
     stripped: Elf<S>,

@@ -1,8 +1,8 @@
 //! The command by the name of its file.
 
 ghost use Rattle.std.specs.Prelude.{◌≡◌, ℕ, List, None, IsTrue, codes};
-ghost use Rattle.strip_tool.specs.object_output.Images.{file_object};
-ghost use Rattle.strip_tool.specs.object_writing.Writes.{image_done, named_done};
+ghost use Rattle.strip_tool.specs.tool_objects.Images.{file_object};
+ghost use Rattle.strip_tool.specs.tool_files.ElfImages.Writes.{image_done, named_done};
 ghost use Rattle.tool_output.specs.Files.{LeavesFiles};
 ghost use Rattle.tool_output.specs.Made.{written_outcome};
 ghost use Rattle.tool_output.specs.Outcomes.{write_of, Does};
@@ -16,8 +16,8 @@ use strip_tool::prelude::edit_named;
 use tool_output::{Outputs, Stop};
 
 /// Opens a file, does the command with its image and closes it; a name that is not there, and what
-/// is no image, has its message. The files that are made have other names. The answer tells whether
-/// it was refused.
+/// is no image, has its message. The files that are made have other names. It returns whether it
+/// was rejected.
 pub fn split_named<F: Files, O: Sink, E: Sink>(
     alloc: Global,
     command: &SplitCommand<'_>,

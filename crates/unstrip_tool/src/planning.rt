@@ -1,24 +1,22 @@
 //! An image is split: the plans of its two halves.
 
-ghost use Rattle.std.specs.Prelude.{◌≡◌, false, None, IsTrue};
+ghost use Rattle.std.specs.Prelude.{◌≡◌, false, None};
 ghost use Rattle.elf_object.specs.Object.{is_dirty};
-ghost use Rattle.elf_object.specs.Valid.{IsObject, IsTied};
-ghost use Rattle.command_objects.specs.Split.{debug_refusal};
-ghost use Rattle.debug_contents.specs.strip_laws.Made.{FitsClass};
-ghost use Rattle.unstrip_join.specs.strip_removed.Steps.{IsRemovable};
-ghost use Rattle.debug_contents.specs.strip_contents.Plans.{IsListable};
-ghost use Rattle.debug_contents.specs.Keeping.{HasHalf};
+ghost use Rattle.rebuild_model.specs.Split.{debug_refusal};
+ghost use Rattle.rebuild_join.specs.rebuild_select.Steps.{IsRemovable};
+ghost use Rattle.rebuild_debug.specs.rebuild_plan.Plans.{IsListable};
+ghost use Rattle.rebuild_debug.specs.Keeping.{HasHalf, IsHalfRead};
 ghost use Rattle.unstrip_tool.specs.Splitting.{PlansBoth, PlansSplit};
 
 use crate::plans::SplitPlans;
-use debug_contents::prelude::{Arranged, Contents, arrange_rebuilt, plan_arranged};
-use debug_contents::{keep_half, plan_half};
 use elf_outside::Source;
 use elf_types::ElfError;
+use rebuild_debug::prelude::{Arranged, Contents, arrange_rebuilt, plan_arranged};
+use rebuild_debug::{keep_half, plan_half};
+use rebuild_join::prelude::{Elf, SectionSet};
 use std::alloc::Global;
-use unstrip_join::prelude::{Elf, SectionSet};
 
-/// The plans of what was arranged, and of what the debug half has. It refuses as the update of the
+/// The plans of what was arranged, and of what the debug half has. It fails as the update of the
 /// first half, and then as that of the second.
 fn plan_both<S: Source>(
     alloc: Global,
@@ -26,10 +24,10 @@ fn plan_both<S: Source>(
     kept: Arranged,
     half: Contents,
 ) -> Result<SplitPlans, ElfError>
-    requires object { IsObject elf.now.o }
-    requires fits { FitsClass elf.now.o }
+    requires clean { is_dirty elf.now.o ≡ false }
     requires listable { IsListable kept }
     requires half { HasHalf elf.now half }
+    requires read { IsHalfRead elf.now.o half }
     requires passed { debug_refusal elf.now.o ≡ None }
     ensures { PlansBoth elf.now kept result }
 {
@@ -44,9 +42,9 @@ fn plan_both<S: Source>(
 }
 
 /// The plans of the halves of an object in which nothing is dirty: without the removed sections,
-/// and with all of them but without the bytes that are loaded. It refuses as `arrange_rebuilt`,
-/// then as `keep_half`, and then as the updates of the two; and `Memory` and `Read`. It asks for
-/// what `arrange_rebuilt` asks for.
+/// and with all of them but without the bytes that are loaded. It fails as `arrange_rebuilt` does,
+/// then as `keep_half`, and then as the updates of the two; and `Memory` and `Read`. It reads what
+/// `arrange_rebuilt` reads.
 ///
 /// Source: eu-strip(1) with -f.
 pub(crate) fn plan_split<S: Source>(
@@ -55,8 +53,6 @@ pub(crate) fn plan_split<S: Source>(
     removed: &SectionSet,
 ) -> Result<SplitPlans, ElfError>
     requires clean { is_dirty elf.old.o ≡ false }
-    requires tied { IsTrue elf.old.told → IsTied elf.old.o }
-    requires fits { FitsClass elf.old.o }
     requires removable { IsRemovable elf.old.o removed.now }
     ensures { PlansSplit S.Source removed.now result elf.old elf.new }
 {
@@ -64,7 +60,6 @@ pub(crate) fn plan_split<S: Source>(
         Ok(kept) => kept,
         Err(e) => return Err(e),
     };
-    let _sound = elf.dirty();
     match keep_half(alloc, elf) {
         Ok(half) => plan_both(alloc, elf, kept, half),
         Err(e) => Err(e),

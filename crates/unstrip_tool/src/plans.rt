@@ -1,12 +1,12 @@
 //! The plans of the two halves of an image.
 
-use debug_contents::prelude::RangedPlan;
+use rebuild_debug::prelude::RangedPlan;
 
-/// Where the bytes of the two halves of an image are, and where their parts stand.
+/// Where the bytes of the two halves of an image are, and where their parts are.
 #[derive(Drop)]
 pub struct SplitPlans {
     /// The plan of what is kept.
     pub stripped: RangedPlan,
-    /// That of the debug half.
+    /// The plan of the debug half.
     pub debug: RangedPlan,
 }

@@ -2,17 +2,17 @@
 
 ghost use Rattle.std.specs.Prelude.{codes};
 ghost use Rattle.tool_output.specs.Names.{file_name};
-ghost use Rattle.strip_tool.specs.object_output.Refusals.{Refuses};
+ghost use Rattle.strip_tool.specs.tool_objects.Refusals.{ReportsRefusal};
 ghost use Rattle.unstrip_tool.specs.Refusing.{RefusesWith, RefusesUnopened, RefusesFault};
 
 use crate::names::HalfNames;
 use elf_outside::{OpenFault, Sink};
 use elf_types::ElfError;
+use rebuild_join::joined::UnstripFault;
 use strip_tool::prelude::refuse_for;
 use tool_output::{FileName, Message, Outputs, Stop};
-use unstrip_join::UnstripFault;
 
-/// Refuses a file by a text.
+/// Rejects a file by a text.
 fn refuse_with<O: Sink, E: Sink>(
     name: &str,
     text: &str,
@@ -28,19 +28,19 @@ fn refuse_with<O: Sink, E: Sink>(
     })
 }
 
-/// Refuses a file for an error of the library, or stops where the error is no refusal.
+/// Rejects a file for an error of the library, or stops where the error is no refusal.
 pub(crate) fn refuse_half<O: Sink, E: Sink>(
     name: &str,
     e: ElfError,
     outputs: &mut Outputs<'_, O, E>,
 ) -> Result<bool, Stop>
-    ensures { Refuses O.Sink E.Sink (codes "unstrip") (file_name name.now) e result
+    ensures { ReportsRefusal O.Sink E.Sink (codes "unstrip") (file_name name.now) e result
         outputs.old outputs.new }
 {
     refuse_for("unstrip", name.as_bytes(), e, outputs)
 }
 
-/// Refuses a file that is not there, or stops where it was not handed out.
+/// Rejects a file that is not there, or stops where it was not handed out.
 pub(crate) fn refuse_unopened<O: Sink, E: Sink>(
     name: &str,
     fault: OpenFault,
@@ -55,7 +55,7 @@ pub(crate) fn refuse_unopened<O: Sink, E: Sink>(
     }
 }
 
-/// Refuses two files that are not joined, under the name of the one that the fault is of: what is
+/// Rejects two files that are not joined, under the name of the one that the fault is of: what is
 /// wrong with what is made, and files that do not match, under that of the stripped half.
 pub(crate) fn refuse_fault<O: Sink, E: Sink>(
     names: &HalfNames<'_>,

@@ -1,15 +1,13 @@
 //! The two files of the halves of an image.
 
-ghost use Rattle.std.specs.Prelude.{◌≡◌, false, IsTrue, codes};
+ghost use Rattle.std.specs.Prelude.{◌≡◌, false, codes};
 ghost use Rattle.elf_object.specs.Object.{is_dirty};
-ghost use Rattle.elf_object.specs.Valid.{IsTied};
-ghost use Rattle.strip_tool.specs.command_outcomes.Strip.{strip_split};
-ghost use Rattle.debug_contents.specs.strip_laws.Made.{FitsClass};
+ghost use Rattle.strip_tool.specs.elfkit_outcomes.Strip.{strip_split};
 ghost use Rattle.tool_output.specs.Made.{written_outcome};
-ghost use Rattle.strip_tool.specs.object_writing.Writes.{WritesFile};
-ghost use Rattle.unstrip_join.specs.strip_removed.Steps.{IsRemovable};
+ghost use Rattle.strip_tool.specs.tool_files.ElfImages.Writes.{WritesFile};
+ghost use Rattle.rebuild_join.specs.rebuild_select.Steps.{IsRemovable};
 ghost use Rattle.strip_tool.specs.Copies.{IsOverSource};
-ghost use Rattle.unstrip_tool.specs.Splitting.{split_files};
+ghost use Rattle.unstrip_tool.specs.Splitting.{split_file_bytes};
 ghost use Rattle.unstrip_tool.specs.Writes.{split_done, object_split};
 
 use crate::allocated::{first_allocated, refuse_allocated};
@@ -18,13 +16,13 @@ use crate::copying::write_plans;
 use crate::names::HalfNames;
 use crate::planning::plan_split;
 use elf_outside::{Files, Sink, Source};
+use rebuild_join::prelude::{Elf, SectionSet, removed};
 use std::alloc::Global;
 use strip_tool::prelude::refuse_for;
 use tool_output::{Outputs, Stop};
-use unstrip_join::prelude::{Elf, SectionSet, removed};
 
-/// Splits an image, and writes its halves to two new files; what is not made anew is copied range
-/// by range. Where a half or its update is refused, the message says so, and neither file is made.
+/// Splits an image, and writes its halves to two new files; what is not rebuilt is copied range by
+/// range. Where a half or its update is rejected, the message says so, and neither file is made.
 fn write_split<S: Source, F: Files, O: Sink, E: Sink>(
     alloc: Global,
     elf: Elf<S>,
@@ -36,12 +34,10 @@ fn write_split<S: Source, F: Files, O: Sink, E: Sink>(
 ) -> (S, Result<bool, Stop>)
     requires over { IsOverSource S.Source elf }
     requires clean { is_dirty elf.o ≡ false }
-    requires tied { IsTrue elf.told → IsTied elf.o }
-    requires fits { FitsClass elf.o }
     requires removable { IsRemovable elf.o removed.now }
     ensures { WritesFile S.Source F.Files O.Sink E.Sink
         (written_outcome (codes "strip")
-        (split_done file.now names.now (split_files elf.o removed.now)))
+        (split_done file.now names.now (split_file_bytes elf.o removed.now)))
         result.1 elf (record elf { source = result.0 }) files.old files.new
         outputs.old outputs.new }
 {
@@ -55,8 +51,8 @@ fn write_split<S: Source, F: Files, O: Sink, E: Sink>(
     }
 }
 
-/// The same, or the message of the first section that is removed and allocated: its bytes would be
-/// in neither half.
+/// Splits an image and writes its halves, or shows the message of the first section that is removed
+/// and allocated: its bytes would be in neither half.
 fn write_unless_lost<S: Source, F: Files, O: Sink, E: Sink>(
     alloc: Global,
     elf: Elf<S>,
@@ -68,8 +64,6 @@ fn write_unless_lost<S: Source, F: Files, O: Sink, E: Sink>(
 ) -> (S, Result<bool, Stop>)
     requires over { IsOverSource S.Source elf }
     requires clean { is_dirty elf.o ≡ false }
-    requires tied { IsTrue elf.told → IsTied elf.o }
-    requires fits { FitsClass elf.o }
     requires removable { IsRemovable elf.o removed.now }
     ensures { WritesFile S.Source F.Files O.Sink E.Sink
         (written_outcome (codes "strip") (strip_split elf.o removed.now
@@ -86,8 +80,8 @@ fn write_unless_lost<S: Source, F: Files, O: Sink, E: Sink>(
     }
 }
 
-/// Does the command with the object of the file `file`, of which nothing is dirty and whose base
-/// is that file, and hands the source back. What is refused has the message that says why: then no
+/// Does the command with the object of the file `file`, of which nothing is dirty and whose base is
+/// that file, and hands the source back. What is rejected has the message that says why: then no
 /// file is made. It stops by `Read` only where a read of the source failed.
 pub(crate) fn write_halves<S: Source, F: Files, O: Sink, E: Sink>(
     command: &SplitCommand<'_>,
@@ -99,8 +93,6 @@ pub(crate) fn write_halves<S: Source, F: Files, O: Sink, E: Sink>(
 ) -> (S, Result<bool, Stop>)
     requires over { IsOverSource S.Source elf }
     requires clean { is_dirty elf.o ≡ false }
-    requires tied { IsTrue elf.told → IsTied elf.o }
-    requires fits { FitsClass elf.o }
     ensures { WritesFile S.Source F.Files O.Sink E.Sink
         (written_outcome (codes "strip") (object_split command.now.debug_only
         command.now.names.now command.now.halves.now file.now elf.o))

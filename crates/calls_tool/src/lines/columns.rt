@@ -1,25 +1,25 @@
-//! Columns of a text and a number, and bytes, in the lines of answers. Each call refuses `Memory`
-//! alone; what the page held then still stands, some bytes behind it.
+//! Columns of a text and a number, and bytes, in the lines of results. Each call fails with
+//! `Memory` alone; what the buffer held then stays, with some bytes after it.
 
 ghost use Rattle.std.specs.Prelude.{◌≡◌, ◌++◌, flat_map, OnOk, IfErr};
 ghost use Rattle.elf_types.specs.Writers.{WantsMemory};
 ghost use Rattle.calls_tool.specs.Lines.{number_text, column_text, bytes_text};
 
 use elf_types::{ElfError, Octets, put_decimal, put_hex, put_signed, put_text};
-use number_columns::put_hex_pairs;
+use tool_output::columns::put_hex_pairs;
 
 /// A number, by the way it is written.
 #[derive(Clone, Copy)]
 pub enum Number {
     /// In decimal.
     Decimal(u64),
-    /// In hexadecimal, behind `0x`.
+    /// In hexadecimal, after `0x`.
     Hex(u64),
     /// With its sign, in decimal.
     Signed(i64),
 }
 
-/// A text, and the number behind it.
+/// A text, and the number after it.
 pub(super) type Column = (&'static str, Number);
 
 /// Appends a number.

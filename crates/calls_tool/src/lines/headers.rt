@@ -1,9 +1,9 @@
-//! The lines of headers. Each call refuses `Memory` alone; what the page held then still stands,
-//! some bytes behind it.
+//! The lines of headers. Each call fails with `Memory` alone; what the buffer held then stays, with
+//! some bytes after it.
 
 ghost use Rattle.std.specs.Prelude.{◌≡◌, ◌++◌, OnOk, IfErr};
 ghost use Rattle.elf_types.specs.Writers.{WantsMemory};
-ghost use Rattle.calls_tool.specs.Lines.{class_text, order_text, ehdr_numbers, ehdr_text, phdr_text, shdr_text};
+ghost use Rattle.calls_tool.specs.Lines.{class_text, ehdr_order_text, ehdr_numbers_text, ehdr_text, phdr_text, shdr_text};
 
 use crate::lines::columns::Number::{Decimal, Hex};
 use crate::lines::columns::put_columns;
@@ -21,9 +21,9 @@ fn class_text(class: Class) -> &'static str
 }
 
 /// The text of the byte order.
-#[tactic(auto, unfolding(crate::specs::Lines::order_text))]
+#[tactic(auto, unfolding(crate::specs::Lines::ehdr_order_text))]
 fn order_text(order: Order) -> &'static str
-    ensures { result.now ≡ order_text order }
+    ensures { result.now ≡ ehdr_order_text order }
 {
     match order {
         Order::Least => " order least",
@@ -32,9 +32,9 @@ fn order_text(order: Order) -> &'static str
 }
 
 /// Appends the numbers of the ELF header.
-#[tactic(auto, unfolding(crate::specs::Lines::ehdr_numbers))]
+#[tactic(auto, unfolding(crate::specs::Lines::ehdr_numbers_text))]
 fn put_ehdr_numbers(page: &mut Octets, h: &Ehdr) -> Result<(), ElfError>
-    ensures ok { OnOk result (page.new ≡ page.old ++ ehdr_numbers h.now) }
+    ensures ok { OnOk result (page.new ≡ page.old ++ ehdr_numbers_text h.now) }
     ensures err { IfErr result (WantsMemory page.old page.new) }
 {
     put_columns(

@@ -1,5 +1,5 @@
-//! The lines of items. Each call refuses `Memory` alone; what the page held then still stands, some
-//! bytes behind it.
+//! The lines of items. Each call fails with `Memory` alone; what the buffer held then stays, with
+//! some bytes after it.
 
 ghost use Rattle.std.specs.Prelude.{◌≡◌, ◌++◌, OnOk, IfErr};
 ghost use Rattle.elf_types.specs.Writers.{WantsMemory};
@@ -7,7 +7,7 @@ ghost use Rattle.calls_tool.specs.Lines.{sym_text, rel_text, rela_place, rela_te
 
 use crate::lines::columns::Number::{Decimal, Hex, Signed};
 use crate::lines::columns::{put_column, put_columns};
-use calls_apply::Item;
+use elf_calls_apply::PieceItem;
 use elf_types::{Dyn, ElfError, Octets, Rel, Rela, Sym};
 
 /// Appends a symbol.
@@ -82,18 +82,18 @@ fn put_dyn(page: &mut Octets, d: &Dyn) -> Result<(), ElfError>
 
 /// Appends an item.
 #[tactic(auto, unfolding(crate::specs::Lines::item_text))]
-pub(super) fn put_item(page: &mut Octets, item: &Item) -> Result<(), ElfError>
+pub(super) fn put_item(page: &mut Octets, item: &PieceItem) -> Result<(), ElfError>
     ensures ok { OnOk result (page.new ≡ page.old ++ item_text item.now) }
     ensures err { IfErr result (WantsMemory page.old page.new) }
 {
     match item {
-        Item::Byte(n) => put_column(page, "byte ", Hex(u64::from(*n))),
-        Item::Half(n) => put_column(page, "half ", Hex(u64::from(*n))),
-        Item::Word(n) => put_column(page, "word ", Hex(u64::from(*n))),
-        Item::Addr(n) => put_column(page, "addr ", Hex(*n)),
-        Item::Sym(s) => put_sym(page, s),
-        Item::Rel(r) => put_rel(page, r),
-        Item::Rela(r) => put_rela(page, r),
-        Item::Dyn(d) => put_dyn(page, d),
+        PieceItem::Byte(n) => put_column(page, "byte ", Hex(u64::from(*n))),
+        PieceItem::Half(n) => put_column(page, "half ", Hex(u64::from(*n))),
+        PieceItem::Word(n) => put_column(page, "word ", Hex(u64::from(*n))),
+        PieceItem::Addr(n) => put_column(page, "addr ", Hex(*n)),
+        PieceItem::Sym(s) => put_sym(page, s),
+        PieceItem::Rel(r) => put_rel(page, r),
+        PieceItem::Rela(r) => put_rela(page, r),
+        PieceItem::Dyn(d) => put_dyn(page, d),
     }
 }

@@ -1,4 +1,4 @@
-//! Where a section or a piece is, and how a call is refused where it is not.
+//! Where a section or a piece is, and how a call is rejected where it is not.
 
 ghost use Rattle.std.specs.Prelude.{◌≡◌, ◌<◌, length, None, OnOk, IfErr, IfSome};
 ghost use Rattle.elf_types.specs.Answers.{answered, IsRefusal};

@@ -1,4 +1,4 @@
-//! Whether a part of the front is the one that stands in the image.
+//! Whether a part of the front is the one that is in the image.
 
 ghost use Rattle.std.specs.Prelude.{◌≡◌, ◌↔◌, ◌+◌, ◌<◌, ℕ, List, Option, None, not, true, length, slice_get, Some, IsTrue};
 ghost use Rattle.section_table.specs.elf_layout.declared.parts.Places.{Places as ThePlaces};
@@ -15,10 +15,10 @@ ghost use Rattle.elf_descriptor.specs.Views.{HasCounts, object_of, scn_at};
 use crate::body::places::place_of;
 use crate::body::{Body, Written};
 use elf_types::{Ehdr, Part, Phdr, Shdr};
+use law_object::prelude::sizes_are_lengths;
 use section_table::prelude::{
     Places, ehdr_both_ways, phdr_both_ways, shdr_both_ways, written_header,
 };
-use writing_laws::prelude::sizes_are_lengths;
 
 /// Whether two ELF headers are the same. The first is in the range of its type.
 fn same_ehdr(one: Ehdr, other: Ehdr) -> bool
@@ -28,7 +28,7 @@ fn same_ehdr(one: Ehdr, other: Ehdr) -> bool
     one == other
 }
 
-/// The same of two program headers.
+/// Whether two program headers are the same. The first is in the range of its type.
 fn same_phdr(one: Phdr, other: Phdr) -> bool
     ensures same { IsTrue result ↔ (one ≡ other) }
     ensures ranged { IsPhdr one }
@@ -36,7 +36,7 @@ fn same_phdr(one: Phdr, other: Phdr) -> bool
     one == other
 }
 
-/// The same of two section headers.
+/// Whether two section headers are the same. The first is in the range of its type.
 fn same_shdr(one: Shdr, other: Shdr) -> bool
     ensures same { IsTrue result ↔ (one ≡ other) }
     ensures ranged { IsShdr one }
@@ -44,7 +44,7 @@ fn same_shdr(one: Shdr, other: Shdr) -> bool
     one == other
 }
 
-/// Whether two extents are alike: empty ones are, wherever they stand.
+/// Whether two extents are alike: empty ones are, wherever they are.
 #[tactic(auto, unfolding(section_table::specs::Passed::same_extent))]
 fn same_extent(a: u64, m: u64, b: u64, n: u64) -> bool
     ensures value { result ≡ same_extent a m b n }
@@ -92,7 +92,7 @@ fn same_phdrs(ones: &[Phdr], others: &[Phdr]) -> bool
 }
 
 impl Body {
-    /// Whether the ELF header, as it is written, is the one that stands in the image.
+    /// Whether the ELF header, as it is written, is the one that is in the image.
     fn same_header(&self, front: &Written, h: &Ehdr) -> bool
         requires { HasNarrowCounts h.now }
         ensures { TellsHeader result h.now self.now.pad front.now }
@@ -103,7 +103,7 @@ impl Body {
         same && alike
     }
 
-    /// Whether the program header table, with that place, is the one that stands in the image.
+    /// Whether the program header table, with that place, is the one that is in the image.
     fn same_segments(&self, front: &Written, at: u64) -> bool
         ensures { TellsSegments result at self.now.phdrs front.now }
     {
@@ -146,7 +146,7 @@ impl Body {
     }
 
     /// Whether the section header table, with the place that an ELF header gives it, is the one
-    /// that stands in the image.
+    /// that is in the image.
     fn same_table(&self, front: &Written, places: &Places, h: &Ehdr) -> bool
         requires counts { HasCounts self.now }
         requires places { HasPlaces places.now (length self.now.sections) }
@@ -161,8 +161,7 @@ impl Body {
         self.same_shdrs(places, h, front.shdrs.as_slice())
     }
 
-    /// Whether a part of the front, with places and sizes stored, is the one that stands in the
-    /// image.
+    /// Whether a part of the front, with places and sizes stored, is the one that is in the image.
     fn same_front(&self, front: &Written, part: Part, places: &Places) -> bool
         requires counts { HasCounts self.now }
         requires places { HasPlaces places.now (length self.now.sections) }

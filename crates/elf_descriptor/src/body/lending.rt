@@ -47,8 +47,8 @@ impl Body {
     }
 
     /// Makes a piece of a kind own and marked with its items; the home is read and translated at
-    /// first use. It refuses in this order: `NoSection`, `NoData`, `WrongKind`, and for the clean
-    /// home piece `OutOfFile` and `Ragged`; then `Memory` or `Read`.
+    /// first use. It fails with, in this order: `NoSection`, `NoData`, `WrongKind`, and for the
+    /// clean home piece `OutOfFile` and `Ragged`; then `Memory` or `Read`.
     #[tactic(auto, unfolding(crate::specs::Bodies::no_list_in))]
     pub fn own<S: Source>(&mut self, src: &mut S, d: DataId, kind: Kind) -> Result<(), ElfError>
         requires counts { HasCounts self.old }

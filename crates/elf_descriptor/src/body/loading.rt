@@ -19,8 +19,8 @@ use elf_types::{DataId, ElfError, Kind};
 use section_table::prelude::Source;
 
 impl Body {
-    /// Reads the home of a section that is there, where its bytes are not held. It refuses in this
-    /// order: `OutOfFile`, then `Memory` or `Read`.
+    /// Reads the home of a section that is there, where its bytes are not held. It fails with, in
+    /// this order: `OutOfFile`, then `Memory` or `Read`.
     fn load_there<S: Source>(&mut self, src: &mut S, s: u32) -> Result<(), ElfError>
         requires there { s < length self.old.sections }
         requires lies { LiesIn (scn_at self.old s).cell (S.size src.old) }
@@ -36,8 +36,8 @@ impl Body {
         cell.load(src)
     }
 
-    /// Reads a section's home where its bytes are not held. It refuses in this order: `NoSection`,
-    /// `OutOfFile`, then `Memory` or `Read`.
+    /// Reads a section's home where its bytes are not held. It fails with, in this order:
+    /// `NoSection`, `OutOfFile`, then `Memory` or `Read`.
     #[tactic(auto, unfolding(crate::specs::Bodies::no_raw_in))]
     pub fn load<S: Source>(&mut self, src: &mut S, s: u32) -> Result<(), ElfError>
         requires counts { HasCounts self.old }
@@ -82,8 +82,8 @@ impl Body {
         cell.prepare(src, d.piece, class, order)
     }
 
-    /// Makes a piece hold its items. It refuses in this order: `NoSection`, `NoData`, and for the
-    /// clean home piece `OutOfFile` and `Ragged`; then `Memory` or `Read`.
+    /// Makes a piece hold its items. It fails with, in this order: `NoSection`, `NoData`, and for
+    /// the clean home piece `OutOfFile` and `Ragged`; then `Memory` or `Read`.
     #[tactic(auto, unfolding(crate::specs::Bodies::no_items_in))]
     pub fn prepare<S: Source>(&mut self, src: &mut S, d: DataId) -> Result<(), ElfError>
         requires counts { HasCounts self.old }
@@ -109,7 +109,7 @@ impl Body {
         self.prepare_there(src, d)
     }
 
-    /// Makes each item of a piece of a kind, in a section that is there, be at hand.
+    /// Makes sure that each item of a piece of a kind, in a section that is there, is in memory.
     fn fetch_there<S: Source>(&mut self, src: &mut S, d: DataId, kind: Kind) -> Result<(), ElfError>
         requires there { d.section < length self.old.sections }
         requires lies { LiesIn (scn_at self.old d.section).cell (S.size src.old) }
@@ -130,9 +130,9 @@ impl Body {
         fetch_list(cell, src, d.piece, kind, class)
     }
 
-    /// Makes each item of a piece of a kind be at hand: it is own, or its home is loaded. It
-    /// refuses in this order: `NoSection`, `NoData`, `WrongKind`, and for the clean home piece
-    /// `OutOfFile` and `Ragged`; then `Memory` or `Read`.
+    /// Makes sure that each item of a piece of a kind is in memory: it is own, or its home is
+    /// loaded. It fails with, in this order: `NoSection`, `NoData`, `WrongKind`, and for the clean
+    /// home piece `OutOfFile` and `Ragged`; then `Memory` or `Read`.
     #[tactic(auto, unfolding(crate::specs::Bodies::no_list_in))]
     pub fn fetch<S: Source>(&mut self, src: &mut S, d: DataId, kind: Kind) -> Result<(), ElfError>
         requires counts { HasCounts self.old }

@@ -13,7 +13,7 @@ use section_table::prelude::Front;
 use section_table::{HeaderTable, Sections};
 use std::alloc::Global;
 
-/// The header with its counts and its string index as they stand in the image.
+/// The header with its counts and its string index as they are in the image.
 #[tactic(auto, unfolding(section_table::specs::Passed::standing_header))]
 fn as_written(front: &Front) -> Ehdr
     ensures value { result ≡ standing_header front.now }
@@ -27,7 +27,7 @@ fn as_written(front: &Front) -> Ehdr
     }
 }
 
-/// A front as it stands in the image, and its section headers for the sections. It refuses `Memory`
+/// A front as it is in the image, and its section headers for the sections. It fails with `Memory`
 /// alone.
 fn standing(alloc: Global, front: Front) -> Result<(Written, HeaderTable), ElfError>
     ensures front { IfOk result (λ p. p.0 ≡ standing_front front) }
@@ -71,8 +71,8 @@ fn with_parts(header: Ehdr, written: Written, phdrs: Phdrs, sections: Sections, 
 
 impl Body {
     /// The object that a front begins over a source of `size` bytes: nothing is read of a section,
-    /// and nothing is marked. The section headers are held once, by the front that stands in the
-    /// image and by the sections together. It refuses `Memory` alone.
+    /// and nothing is marked. The section headers are held once, by the front that is in the image
+    /// and by the sections together. It fails with `Memory` alone.
     pub fn opened(alloc: Global, front: Front, size: u64) -> Result<Body, ElfError>
         requires { IsCounted front }
         ensures opened { IfOk result (IsOpened front size) }

@@ -30,7 +30,7 @@ fn size_to_store(header: &Shdr, cell: &Cell, class: Class) -> u64
     }
 }
 
-/// The header of a section with a number, which stands at a place and has so many bytes.
+/// The header of a section with a number, which is at a place and has so many bytes.
 fn shdr_to_store(h: &Ehdr, s: u32, at: u64, size: u64, header: &Shdr) -> Shdr
     ensures { result ≡ shdr_to_store h.now s at size header.now }
 {
@@ -57,7 +57,7 @@ impl Body {
         size_to_store(self.header_at(s), at.cell(), class)
     }
 
-    /// The header of the section with a number, which stands at a place.
+    /// The header of the section with a number, which is at a place.
     pub(super) fn stored_shdr(&self, h: &Ehdr, s: u32, at: u64) -> Shdr
         requires { s < length self.now.sections }
         ensures { result ≡ stored_shdr h.now s at (scn_at self.now s) }

@@ -1,4 +1,4 @@
-//! Memory is kept aside for a home's bytes, and what was read is let go.
+//! Memory is reserved for a home's bytes, and what was read is freed.
 
 ghost use Rattle.std.specs.Prelude.{◌≡◌, ◌<◌, ◌||◌, true, false, length, IsTrue, IfErr, OnOk, OnErr};
 ghost use Rattle.elf_types.specs.declared.errors.ElfError.TheVariants.{Read};
@@ -19,7 +19,7 @@ use elf_types::ElfError;
 use section_table::prelude::Source;
 
 impl Body {
-    /// Keeps memory aside for the home of a section that is there. It refuses in this order:
+    /// Reserves memory for the home of a section that is there. It fails with, in this order:
     /// `OutOfFile`, `Memory`.
     fn reserve_there(&mut self, s: u32) -> Result<(), ElfError>
         requires { s < length self.old.sections }
@@ -32,8 +32,8 @@ impl Body {
         cell.reserve()
     }
 
-    /// Keeps memory aside for a section's home, where that is not loaded. It refuses in this order:
-    /// `NoSection`, `OutOfFile`, `Memory`.
+    /// Reserves memory for a section's home, where that is not loaded. It fails with, in this
+    /// order: `NoSection`, `OutOfFile`, `Memory`.
     #[tactic(auto, unfolding(crate::specs::Bodies::no_raw_in))]
     pub fn reserve_home(&mut self, s: u32) -> Result<(), ElfError>
         requires { HasCounts self.old }
@@ -49,8 +49,8 @@ impl Body {
         self.reserve_there(s)
     }
 
-    /// Reads the home of a section that is there into the memory that is kept aside for it, where
-    /// it is not loaded. It refuses `Read` alone.
+    /// Reads the home of a section that is there into the memory that is reserved for it, where it
+    /// is not loaded. It fails with `Read` alone.
     pub fn load_home<S: Source>(&mut self, src: &mut S, s: u32) -> Result<(), ElfError>
         requires there { s < length self.old.sections }
         requires lies { LiesIn (scn_at self.old s).cell (S.size src.old) }
@@ -77,7 +77,7 @@ impl Body {
         can_forget(at.cell(), base)
     }
 
-    /// Lets go of what is held of a home whose piece is untouched.
+    /// Frees what is held of a home whose piece is untouched.
     fn let_go(&mut self, s: u32, base: u64)
         requires there { s < length self.old.sections }
         requires again { can_let_go self.old base s ≡ true }
@@ -87,7 +87,7 @@ impl Body {
         cell.unload();
     }
 
-    /// Lets go of what is held of a section's home where it can be read again of a base of so many
+    /// Frees what is held of a section's home where it can be read again of a base of so many
     /// bytes; else `NoSection`.
     pub fn unload(&mut self, s: u32, base: u64) -> Result<(), ElfError>
         requires { HasCounts self.old }

@@ -61,7 +61,7 @@ impl Body {
         }
     }
 
-    /// Makes the front as it is written the one that stands, in the spare memory.
+    /// Makes the front as it is written the present one, in the spare memory.
     fn write_front(&mut self)
         requires { IsTrue (ready_of self.old) }
         ensures rest { self.new

@@ -32,7 +32,7 @@ impl Body {
         }
     }
 
-    /// Makes spare memory for a front, as long as the object's lists, over a source. It refuses
+    /// Makes spare memory for a front, as long as the object's lists, over a source. It fails with
     /// `Memory` alone.
     fn make_spare(&mut self, alloc: Global) -> Result<(), ElfError>
         requires counts { HasCounts self.old }
@@ -48,8 +48,8 @@ impl Body {
         Ok(())
     }
 
-    /// Makes spare memory for a front, as long as the object's lists. It refuses `Memory` alone, and
-    /// of an object whose base is its own it always does.
+    /// Makes spare memory for a front, as long as the object's lists. It fails with `Memory` alone,
+    /// and of an object whose base is its own it always does.
     pub fn reserve(&mut self, alloc: Global) -> Result<(), ElfError>
         requires { HasCounts self.old }
         ensures ok { OnOk result (IsReserved self.old self.new) }

@@ -10,8 +10,8 @@ use elf_types::{DataId, ElfError};
 use section_table::prelude::Storable;
 
 impl Body {
-    /// Whether item `i` of a piece of the item's kind can be given that value. It refuses in this
-    /// order: `NoSection`, `NoData`, `WrongKind`, for the clean home piece `OutOfFile` and
+    /// Whether item `i` of a piece of the item's kind can be given that value. It fails with, in
+    /// this order: `NoSection`, `NoData`, `WrongKind`, for the clean home piece `OutOfFile` and
     /// `Ragged`, `NoEntry`, `Unfit`. It reads nothing.
     #[tactic(auto, unfolding(crate::specs::Stores::no_store_in))]
     pub fn check_store<T: Storable>(&self, d: DataId, i: u64, item: &T) -> Result<(), ElfError>

@@ -20,8 +20,8 @@ fn copy_range(bytes: &[u8], at: u64, buf: &mut [u8])
 
 impl<S: Source> Elf<S> {
     /// Copies base bytes, those of the image as opened or last settled, from the place `at` on into
-    /// the whole of `buf`; the range lies in the base. It refuses `Read` alone and takes no memory.
-    /// It loads no section.
+    /// the whole of `buf`; the range lies in the base. It fails with `Read` alone and takes no
+    /// memory. It loads no section.
     pub fn copy_base(&mut self, at: u64, buf: &mut [u8]) -> Result<(), ElfError>
         requires { at + length buf.old ≤ length self.old.o.base }
         ensures bytes { IsTrue self.old.told

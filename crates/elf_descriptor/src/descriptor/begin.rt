@@ -13,13 +13,13 @@ ghost use Rattle.elf_descriptor.specs.Begun.{BegunIsSound};
 use crate::body::Body;
 use crate::descriptor::Elf;
 use elf_types::ElfError;
+use law_object::prelude::{beginnings_are_tied, begun_fits};
+use law_object::writing::based::beginnings_are_based;
 use section_table::prelude::{Front, Source, read_front};
 use std::alloc::Global;
-use writing_laws::based::beginnings_are_based;
-use writing_laws::prelude::{beginnings_are_tied, begun_fits};
 
 /// What a front begins is an object; over bytes that are told, and that have this front, what is
-/// not dirty stands in them.
+/// not dirty is in them.
 fn begun_is_sound()
     ensures { BegunIsSound }
 {
@@ -33,7 +33,7 @@ impl<S: Source> Elf<S> {
 
     /// Begins over a source whose front was read by `read_front` of elf_ident: nothing is read.
     /// Where the source does not tell its bytes, they count as zeros in the object that contracts
-    /// speak of. It refuses `Memory` alone, and then hands the source back.
+    /// speak of. It fails with `Memory` alone, and then hands the source back.
     ///
     /// Source: elf_begin of elf(3E).
     pub fn begin_with(alloc: Global, src: S, front: Front) -> Result<Elf<S>, (S, ElfError)>
@@ -52,15 +52,15 @@ impl<S: Source> Elf<S> {
         }
     }
 
-    /// Begins over a source: it reads the front, and nothing of a section. Where the source does
+    /// Begins over a source: it reads the headers, and nothing of a section. Where the source does
     /// not tell its bytes, they count as zeros in the object that contracts speak of.
     ///
-    /// It refuses what `read_front` refuses, in its order: `Short`, `Magic`, `Class`, `Order`,
-    /// `Version`, `TooLarge`, `ShTable`, `PhTable`, `TooMany`. `Read` may come at each read, and
-    /// `Memory` where none of these comes. With a refusal it hands the source back.
+    /// It fails as `read_front` does, in its order: `Short`, `Magic`, `Class`, `Order`, `Version`,
+    /// `TooLarge`, `ShTable`, `PhTable`, `TooMany`. `Read` may come at each read, and `Memory`
+    /// where none of these comes. With a refusal it hands the source back.
     ///
-    /// It asks for at most one header and one section header, and for the two tables where nothing
-    /// is refused, in at most five reads, and one more for each 1,024 section headers after the first
+    /// It reads at most one header and one section header, and the two tables where nothing is
+    /// rejected, in at most five reads, and one more for each 1,024 section headers after the first
     /// 1,024.
     ///
     /// Source: elf_begin of elf(3E).

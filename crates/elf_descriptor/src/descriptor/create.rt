@@ -1,18 +1,18 @@
 //! How a descriptor is created over nothing that was read.
 
 ghost use Rattle.std.specs.Prelude.{[]};
-ghost use Rattle.writing_laws.specs.object_laws.Laws.{BeginningsAre, BeginningsAreTied};
-ghost use Rattle.writing_laws.specs.Based.{BeginningsAreBased};
+ghost use Rattle.law_object.specs.Laws.{BeginningsAre, BeginningsAreTied};
+ghost use Rattle.law_object.specs.Writing.Based.{BeginningsAreBased};
 
 use crate::body::Body;
 use crate::descriptor::Elf;
 use elf_types::{Class, Octets, Order, bytes_are_ranged};
+use law_object::prelude::{beginnings_are, beginnings_are_tied};
+use law_object::writing::based::beginnings_are_based;
 use section_table::prelude::NoSource;
 use std::alloc::Global;
-use writing_laws::based::beginnings_are_based;
-use writing_laws::prelude::{beginnings_are, beginnings_are_tied};
 
-/// What is created is an object, of which what is not dirty stands in its base.
+/// What is created is an object, of which what is not dirty is in its base.
 fn creating_is_sound()
     ensures object { BeginningsAre }
     ensures tied { BeginningsAreTied }
@@ -27,7 +27,7 @@ impl Elf<NoSource> {
     ghost use Rattle.elf_descriptor.specs.Created.{IsCreated};
 
     /// An object of that class and order: its header has version 1 and 0 in every other field, it
-    /// has no program headers, no sections and no base bytes, and its header is dirty. It refuses
+    /// has no program headers, no sections and no base bytes, and its header is dirty. It rejects
     /// nothing and takes no memory.
     ///
     /// Source: elf_begin with ELF_C_WRITE, and gelf_newehdr, of elf(3E) and gelf(3E).
@@ -37,8 +37,8 @@ impl Elf<NoSource> {
         Elf::create_over(alloc, class, order, Octets::new(alloc))
     }
 
-    /// The same over these base bytes, which count with `LAYOUT` alone. It refuses nothing and
-    /// takes no memory.
+    /// An object as `create` makes it, over these base bytes, which count with `LAYOUT` alone. It
+    /// rejects nothing and takes no memory.
     ///
     /// Source: elf_begin with ELF_C_WRITE, and gelf_newehdr, of elf(3E) and gelf(3E).
     pub fn create_over(alloc: Global, class: Class, order: Order, base: Octets) -> Elf<NoSource>

@@ -13,7 +13,7 @@ impl<D: Device> Elf<D> {
 
     /// Puts `buf` over the bytes of the device from the place `at` on; the range lies in the
     /// device, and the object is ready. No home that shares a place with it rests on the base: it
-    /// is loaded, and each piece of its section is marked, as the object is. It refuses `Write`
+    /// is loaded, and each piece of its section is marked, as the object is. It fails with `Write`
     /// alone; then each byte of the range is the old one or the new one. It reads nothing and takes
     /// no memory.
     pub fn write_base(&mut self, at: u64, buf: &[u8]) -> Result<(), ElfError>
@@ -31,7 +31,7 @@ impl<D: Device> Elf<D> {
     }
 
     /// Cuts the device to `n` bytes, or lengthens it to `n` by zero bytes; the object is ready. No
-    /// home that passes the new end rests on the base, as for `write_base`. It refuses `Write`
+    /// home that passes the new end rests on the base, as for `write_base`. It fails with `Write`
     /// alone; then the device is as long as before or has that length. It reads nothing and takes
     /// no memory.
     pub fn size_base(&mut self, n: u64) -> Result<(), ElfError>

@@ -5,16 +5,16 @@ ghost use Rattle.std.specs.Borrow.{sem};
 ghost use Rattle.section_table.specs.elf_xlate.Headers.{IsEhdr, IsShdr};
 ghost use Rattle.section_table.specs.elf_object.Words.{handing_back, result_map, Edits, EditsWith};
 ghost use Rattle.section_table.specs.elf_object.Calls as calls;
-ghost use Rattle.writing_laws.specs.object_laws.Laws.{EveryStepKeeps, EveryStepKeepsTied};
-ghost use Rattle.writing_laws.specs.Based.{EveryStepKeepsBased};
+ghost use Rattle.law_object.specs.Laws.{EveryStepKeeps, EveryStepKeepsTied};
+ghost use Rattle.law_object.specs.Writing.Based.{EveryStepKeepsBased};
 
 use crate::descriptor::Elf;
 use elf_types::{DataId, Ehdr, ElfError, Part, Phdr, ScnId, Shdr};
+use law_object::prelude::{every_step_keeps, every_step_keeps_tied};
+use law_object::writing::based::every_step_keeps_based;
 use section_table::prelude::{Items, Source};
-use writing_laws::based::every_step_keeps_based;
-use writing_laws::prelude::{every_step_keeps, every_step_keeps_tied};
 
-/// Every edit leaves an object, of which what is not dirty stands in the base.
+/// Every edit leaves an object, of which what is not dirty is in the base.
 pub(super) fn every_step_is_sound()
     ensures object { EveryStepKeeps }
     ensures tied { EveryStepKeepsTied }
@@ -45,8 +45,8 @@ impl<S: Source> Elf<S> {
     ghost use Rattle.elf_descriptor.specs.LentSegments.{LendsSegments};
 
     /// Stores a header's `osabi`, `abiversion`, `etype`, `machine`, `entry`, `phoff`, `shoff`,
-    /// `flags` and `shstrndx`, and marks the header dirty. It looks at no other field. It refuses
-    /// in this order: `NoSection` where `shstrndx` is neither 0 nor below the section count,
+    /// `flags` and `shstrndx`, and marks the header dirty. It looks at no other field. It fails
+    /// with, in this order: `NoSection` where `shstrndx` is neither 0 nor below the section count,
     /// `Unfit`. It reads nothing and takes no memory.
     ///
     /// Source: gelf_update_ehdr of gelf(3E).
@@ -60,7 +60,7 @@ impl<S: Source> Elf<S> {
         self.body.update_ehdr(h)
     }
 
-    /// Stores a program header, and marks the program headers dirty. It refuses in this order:
+    /// Stores a program header, and marks the program headers dirty. It fails with, in this order:
     /// `NoEntry`, `Unfit`. It reads nothing and takes no memory.
     ///
     /// Source: gelf_update_phdr of gelf(3E).
@@ -73,7 +73,7 @@ impl<S: Source> Elf<S> {
         self.body.update_phdr(i, p)
     }
 
-    /// Stores a section's header, and marks the section dirty. It refuses in this order:
+    /// Stores a section's header, and marks the section dirty. It fails with, in this order:
     /// `NoSection`, `Reserved` for section 0, `Unfit`. It reads nothing and takes no memory.
     ///
     /// Source: gelf_update_shdr of gelf(3E).
@@ -88,7 +88,8 @@ impl<S: Source> Elf<S> {
     }
 
     /// Gives the object so many program headers of zeros in place of those that it has, and marks
-    /// them dirty. It refuses in this order: `TooMany` above 65,534, `Memory`. It reads nothing.
+    /// them dirty. It fails with, in this order: `TooMany` above 65,534, `Memory`. It reads
+    /// nothing.
     ///
     /// Source: gelf_newphdr of gelf(3E).
     pub fn newphdr(&mut self, n: u32) -> Result<(), ElfError>
@@ -99,7 +100,7 @@ impl<S: Source> Elf<S> {
         self.body.newphdr(self.alloc, n)
     }
 
-    /// The program headers, lent for writing, and marked dirty. It refuses nothing, reads nothing
+    /// The program headers, lent for writing, and marked dirty. It rejects nothing, reads nothing
     /// and takes no memory. Whether what is left fits the class is looked at by an update.
     ///
     /// Source: gelf_getphdr and gelf_update_phdr of gelf(3E), on all of them.
@@ -112,7 +113,7 @@ impl<S: Source> Elf<S> {
     }
 
     /// Adds a section at the end, whose header is zeros, which has no piece and is marked dirty,
-    /// and answers it. An object without sections gets section 0 before it. It refuses in this
+    /// and returns it. An object without sections gets section 0 before it. It fails with, in this
     /// order: `TooMany` at 2^20 sections, `Memory`. It reads nothing.
     ///
     /// Source: elf_newscn of elf(3E).
@@ -125,8 +126,8 @@ impl<S: Source> Elf<S> {
     }
 
     /// Gives an object without sections section 0, whose header is zeros and which is marked dirty;
-    /// where there are sections it changes nothing, refuses nothing and takes no memory. It refuses
-    /// `Memory` alone. It reads nothing.
+    /// where there are sections it changes nothing, rejects nothing and takes no memory. It fails
+    /// with `Memory` alone. It reads nothing.
     ///
     /// Source: gABI chapter 4, "Sections", on section 0.
     pub fn newnull(&mut self) -> Result<(), ElfError>
@@ -138,11 +139,11 @@ impl<S: Source> Elf<S> {
         self.body.newnull(self.alloc)
     }
 
-    /// Adds a piece with these items to a section, with that alignment in it, and answers the
-    /// piece; it is own and marked. It refuses in this order: `NoSection`, `Reserved` for section
-    /// 0, `TooMany` at 2^20 pieces, `BadAlign` where the alignment is no power of two or is greater
-    /// than 2^20, `Unfit` with the new piece's number, `Memory`, and hands the items back. It reads
-    /// nothing. The section's `sh_addralign` stays.
+    /// Adds a piece with these items to a section, with that alignment in it, and returns the
+    /// piece; it is own and marked. It fails with, in this order: `NoSection`, `Reserved` for
+    /// section 0, `TooMany` at 2^20 pieces, `BadAlign` where the alignment is no power of two or is
+    /// greater than 2^20, `Unfit` with the new piece's number, `Memory`, and hands the items back.
+    /// It reads nothing. The section's `sh_addralign` stays.
     ///
     /// Source: elf_newdata of elf(3E).
     pub fn newdata_aligned(
@@ -159,7 +160,8 @@ impl<S: Source> Elf<S> {
         self.body.newdata(s.0, items, align)
     }
 
-    /// Adds a piece with these items and alignment 1 to a section; it refuses as `newdata_aligned`.
+    /// Adds a piece with these items and alignment 1 to a section; it fails as `newdata_aligned`
+    /// does.
     ///
     /// Source: elf_newdata of elf(3E).
     pub fn newdata(&mut self, s: ScnId, items: Items) -> Result<DataId, (Items, ElfError)>
@@ -171,7 +173,7 @@ impl<S: Source> Elf<S> {
     }
 
     /// Gives a piece other items, of any kind; it becomes own and marked, and keeps its alignment.
-    /// It refuses in this order: `NoSection`, `Reserved` for section 0, `NoData`, `Unfit`, and
+    /// It fails with, in this order: `NoSection`, `Reserved` for section 0, `NoData`, `Unfit`, and
     /// hands the items back. It reads nothing and takes no memory.
     ///
     /// Source: elf_newdata of elf(3E), for data that takes the place of other data.
@@ -185,10 +187,10 @@ impl<S: Source> Elf<S> {
         self.body.replace(d, items)
     }
 
-    /// Sets or clears the flags of a part that `bits` has, and answers those that the part has
+    /// Sets or clears the flags of a part that `bits` has, and returns those that the part has
     /// then. `LAYOUT` counts for the object alone, and the section header table stands for the
-    /// object; other bits are not looked at. It refuses in this order: `NoSection`, `NoData`,
-    /// `FlagKept` where `DIRTY` is to be cleared. It reads nothing and takes no memory.
+    /// object; other bits are not looked at. It fails with, in this order: `NoSection`, `NoData`,
+    /// `FlagKept` where `DIRTY` would be cleared. It reads nothing and takes no memory.
     ///
     /// Source: elf_flagelf, elf_flagehdr, elf_flagphdr, elf_flagscn, elf_flagshdr and elf_flagdata
     /// of elf(3E).
@@ -201,7 +203,7 @@ impl<S: Source> Elf<S> {
         self.body.flag(part, set, bits)
     }
 
-    /// Stores the fill byte, the byte of gaps. It marks nothing, refuses nothing, reads nothing and
+    /// Stores the fill byte, the byte of gaps. It marks nothing, rejects nothing, reads nothing and
     /// takes no memory.
     ///
     /// Source: elf_fill of elf(3E).

@@ -14,9 +14,9 @@ use elf_types::{DataId, ElfError};
 use section_table::prelude::{Item, Source};
 
 impl<S: Source> Elf<S> {
-    /// Makes each item of a piece of the item's kind be at hand: it is own, or its home is loaded.
-    /// It refuses in this order: `NoSection`, `NoData`, `WrongKind`, and for the clean home piece
-    /// `OutOfFile` and `Ragged`; then `Memory` or `Read`.
+    /// Makes sure that each item of a piece of the item's kind is in memory: it is own, or its home
+    /// is loaded. It fails with, in this order: `NoSection`, `NoData`, `WrongKind`, and for the
+    /// clean home piece `OutOfFile` and `Ragged`; then `Memory` or `Read`.
     fn fetch<T: Item>(&mut self, d: DataId) -> Result<(), ElfError>
         ensures answer { (i : ℕ) → Answers true
             (wanted (entry T.kind T.list_of d.section d.piece i) self.old) result
@@ -29,7 +29,7 @@ impl<S: Source> Elf<S> {
         self.body.fetch(&mut self.src, d, T::kind())
     }
 
-    /// Item `i` of a piece of the item's kind that is at hand; else `NoEntry`.
+    /// Item `i` of a piece of the item's kind that is in memory; else `NoEntry`.
     fn entry<T: Item>(&self, d: DataId, i: u64) -> Result<T, ElfError>
         requires passed { lend_refusal self.now.o T.kind d.section d.piece ≡ None }
         requires hand { IsTrue (is_some (piece_at self.now.o d.section d.piece).own
@@ -60,7 +60,7 @@ impl<S: Source> Elf<S> {
         }
     }
 
-    /// Item `i` of a piece, whose home is read where it is not loaded; it refuses as `item`.
+    /// Item `i` of a piece, whose home is read where it is not loaded; it fails as `item` does.
     #[inline(never)]
     fn fetch_item<T: Item>(&mut self, d: DataId, i: u64) -> Result<T, ElfError>
         ensures answer { Answers self.old.told
@@ -75,7 +75,7 @@ impl<S: Source> Elf<S> {
         }
     }
 
-    /// Item `i` of a piece that holds items of the item's kind. It refuses in this order:
+    /// Item `i` of a piece that holds items of the item's kind. It fails with, in this order:
     /// `NoSection`, `NoData`, `WrongKind` with the kind that the piece holds, and for the clean
     /// home piece `OutOfFile` and `Ragged`; then `Memory` or `Read` where its home is not loaded,
     /// and `NoEntry` exactly where the index is not below the number of items. The home is read at

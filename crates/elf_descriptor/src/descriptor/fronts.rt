@@ -13,7 +13,7 @@ impl<S: Source> Elf<S> {
     ghost use Rattle.elf_descriptor.specs.Places.{PartsFitAt};
 
     /// Takes the memory that `settle` needs; the object is ready until one of its lists changes.
-    /// The source begins with the base. It refuses `Memory` alone, which it always does of an
+    /// The source begins with the base. It fails with `Memory` alone, which it always does of an
     /// object whose base is its own, and then all is as before. It reads nothing.
     pub fn reserve(&mut self) -> Result<(), ElfError>
         ensures ok { OnOk result (self.new ≡ record self.old { ready = true }) }
@@ -27,9 +27,9 @@ impl<S: Source> Elf<S> {
     /// Whether the ELF header, the program header table or the section header table has another
     /// place or other bytes than in the image as opened or last settled, once these places, the
     /// sizes and the derived values are stored; a part that was in no image differs where it has
-    /// bytes. The object may be dirty or not: an update of it would not be refused for its
+    /// bytes. The object may be dirty or not: an update of it would not be rejected for its
     /// contents, and each part fits the class at its place. It compares each record of the part
-    /// once. It refuses nothing, reads nothing and takes no memory.
+    /// once. It rejects nothing, reads nothing and takes no memory.
     ///
     /// Source: elf_update of elf(3E); gABI chapter 4, "ELF Header" and "Section Header", chapter 5,
     /// "Program Header".

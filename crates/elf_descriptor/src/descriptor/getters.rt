@@ -22,7 +22,7 @@ impl<S: Source> Elf<S> {
         self.alloc
     }
 
-    /// The ELF header, with its true counts and its true string index. It refuses nothing and takes
+    /// The ELF header, with its true counts and its true string index. It rejects nothing and takes
     /// no memory.
     ///
     /// Source: gelf_getehdr of gelf(3E).
@@ -32,7 +32,7 @@ impl<S: Source> Elf<S> {
         self.body.ehdr()
     }
 
-    /// The number of program headers. It refuses nothing and takes no memory.
+    /// The number of program headers. It rejects nothing and takes no memory.
     ///
     /// Source: elf_getphdrnum of elf(3E).
     #[tactic(auto, unfolding(crate::specs::Views::object_of))]
@@ -42,7 +42,7 @@ impl<S: Source> Elf<S> {
         self.body.header.phnum
     }
 
-    /// The number of sections. It refuses nothing and takes no memory.
+    /// The number of sections. It rejects nothing and takes no memory.
     ///
     /// Source: elf_getshdrnum of elf(3E).
     #[tactic(auto, using(crate::proofs::Objects::section_count_is))]
@@ -52,7 +52,7 @@ impl<S: Source> Elf<S> {
         self.body.header.shnum
     }
 
-    /// The number of the section that holds the sections' names, 0 where there is none. It refuses
+    /// The number of the section that holds the sections' names, 0 where there is none. It rejects
     /// nothing and takes no memory.
     ///
     /// Source: elf_getshdrstrndx of elf(3E).
@@ -63,7 +63,7 @@ impl<S: Source> Elf<S> {
         self.body.header.shstrndx
     }
 
-    /// A program header. It refuses `NoEntry`, and takes no memory.
+    /// A program header. It fails with `NoEntry`, and takes no memory.
     ///
     /// Source: gelf_getphdr of gelf(3E).
     pub fn phdr(&self, i: u32) -> Result<Phdr, ElfError>
@@ -72,7 +72,7 @@ impl<S: Source> Elf<S> {
         self.body.phdr(i)
     }
 
-    /// The present header of a section. It refuses `NoSection`, and takes no memory.
+    /// The present header of a section. It fails with `NoSection`, and takes no memory.
     ///
     /// Source: gelf_getshdr of gelf(3E).
     pub fn shdr(&self, s: ScnId) -> Result<Shdr, ElfError>
@@ -81,7 +81,7 @@ impl<S: Source> Elf<S> {
         self.body.shdr(s.0)
     }
 
-    /// The number of a section's pieces. It refuses `NoSection`, and takes no memory.
+    /// The number of a section's pieces. It fails with `NoSection`, and takes no memory.
     pub fn pieces(&self, s: ScnId) -> Result<u32, ElfError>
         ensures { result ≡ (calls.pieces s.0).answer self.now.o }
     {
@@ -89,7 +89,7 @@ impl<S: Source> Elf<S> {
     }
 
     /// The place and the length of a section's home, the extent in bytes that its header gave it
-    /// when the image was opened. It refuses `NoSection`, and takes no memory.
+    /// when the image was opened. It fails with `NoSection`, and takes no memory.
     ///
     /// Source: gABI chapter 4, "Section Header".
     pub fn home(&self, s: ScnId) -> Result<(u64, u64), ElfError>
@@ -98,16 +98,16 @@ impl<S: Source> Elf<S> {
         self.body.home(s.0)
     }
 
-    /// The kind that a piece holds; for the clean home piece that is its home's. It refuses in this
-    /// order: `NoSection`, `NoData`. It takes no memory.
+    /// The kind that a piece holds; for the clean home piece that is its home's. It fails with, in
+    /// this order: `NoSection`, `NoData`. It takes no memory.
     pub fn piece_kind(&self, d: DataId) -> Result<Kind, ElfError>
         ensures { result ≡ (calls.piece_kind d.section d.piece).answer self.now.o }
     {
         self.body.piece_kind(d)
     }
 
-    /// The alignment of a piece in its section, in bytes. It refuses in this order: `NoSection`,
-    /// `NoData`. It takes no memory.
+    /// The alignment of a piece in its section, in bytes. It fails with, in this order:
+    /// `NoSection`, `NoData`. It takes no memory.
     pub fn piece_align(&self, d: DataId) -> Result<u64, ElfError>
         ensures { result ≡ (calls.piece_align d.section d.piece).answer self.now.o }
     {
@@ -115,8 +115,8 @@ impl<S: Source> Elf<S> {
     }
 
     /// The flags of a part: `DIRTY` for its dirty mark, `LAYOUT` for the object and the section
-    /// header table where it is set. It refuses in this order: `NoSection`, `NoData`. It takes no
-    /// memory.
+    /// header table where it is set. It fails with, in this order: `NoSection`, `NoData`. It takes
+    /// no memory.
     ///
     /// Source: elf_flagelf and its like of elf(3E).
     pub fn flags(&self, part: Part) -> Result<u32, ElfError>
@@ -125,7 +125,7 @@ impl<S: Source> Elf<S> {
         self.body.flags(part)
     }
 
-    /// The fill byte, the byte of gaps. It refuses nothing and takes no memory.
+    /// The fill byte, the byte of gaps. It rejects nothing and takes no memory.
     ///
     /// Source: elf_fill of elf(3E).
     #[tactic(auto, unfolding(crate::specs::Views::object_of))]
@@ -135,7 +135,7 @@ impl<S: Source> Elf<S> {
         self.body.fill
     }
 
-    /// Whether something is dirty. It refuses nothing and takes no memory. What stands in the
+    /// Whether something is dirty. It rejects nothing and takes no memory. What is in the
     /// descriptor is an object; where nothing is dirty and the source tells its bytes, it is the
     /// object of its base. Where nothing is dirty the source is the base and no more.
     pub fn dirty(&self) -> bool
@@ -147,7 +147,7 @@ impl<S: Source> Elf<S> {
         self.body.dirty()
     }
 
-    /// Bytes 9 to 15 of the identification. It refuses nothing and takes no memory.
+    /// Bytes 9 to 15 of the identification. It rejects nothing and takes no memory.
     ///
     /// Source: gABI chapter 4, "ELF Identification".
     #[tactic(auto, unfolding(crate::specs::Views::object_of))]
@@ -157,7 +157,7 @@ impl<S: Source> Elf<S> {
         self.body.pad
     }
 
-    /// The number of base bytes, those of the image as opened or last settled. It refuses nothing
+    /// The number of base bytes, those of the image as opened or last settled. It rejects nothing
     /// and takes no memory.
     #[tactic(auto, unfolding(crate::specs::Views::object_of))]
     pub fn base_len(&self) -> u64
@@ -167,7 +167,7 @@ impl<S: Source> Elf<S> {
     }
 
     /// The number of bytes of the source: after a failed update in place it may be longer than the
-    /// base. It refuses nothing and takes no memory.
+    /// base. It rejects nothing and takes no memory.
     pub fn source_len(&self) -> u64
         ensures { result ≡ S.size self.now.source }
     {
@@ -175,8 +175,8 @@ impl<S: Source> Elf<S> {
     }
 
     /// What is held of a piece: its items exactly where it is own, else the home's bytes in file
-    /// form exactly where the section is loaded. It refuses in this order: `NoSection`, `NoData`.
-    /// It reads nothing and takes no memory.
+    /// form exactly where the section is loaded. It fails with, in this order: `NoSection`,
+    /// `NoData`. It reads nothing and takes no memory.
     pub fn held(&self, d: DataId) -> Result<Held<'_>, ElfError>
         ensures refusal { err_of result ≡ piece_refusal self.now.o d.section d.piece }
         ensures held { IfOk result (λ held. IsHeld self.now d.section d.piece held) }

@@ -11,7 +11,7 @@ impl<S: Source> Elf<S> {
     ghost use Rattle.elf_descriptor.specs.Sound.{IsSound};
 
     /// Whether a section's home is out of the file: it is not empty and passes the end of the image
-    /// as opened. It refuses `NoSection`, reads nothing and takes no memory. What stands in the
+    /// as opened. It fails with `NoSection`, reads nothing and takes no memory. What is in the
     /// descriptor is an object, so a home that is in the file has as many bytes as it is long.
     ///
     /// Source: gABI chapter 4, "Section Header".

@@ -23,7 +23,7 @@ mod kinds;
 impl<S: Source> Elf<S> {
     ghost use Rattle.elf_descriptor.specs.Lends.{ReadsToOwn, LendsItems, LendsOwnItems, LendAnswers};
 
-    /// Makes a piece of the list's kind own and marked with its items. It refuses as `lend`.
+    /// Makes a piece of the list's kind own and marked with its items. It fails as `lend` does.
     fn own<T: Listed>(&mut self, d: DataId) -> Result<(), ElfError>
         ensures answer { Answers true
             (wanted (calls.lend d.section d.piece (T.variant [])) self.old) result
@@ -58,10 +58,10 @@ impl<S: Source> Elf<S> {
 
     /// The list in a piece's items, of the list's kind, lent for writing. The piece becomes own and
     /// marked, and what the borrower leaves, of any length, is what it holds; it keeps its
-    /// alignment. It refuses in this order: `NoSection`, `NoData`, `WrongKind` with the kind that
-    /// the piece holds, and for the clean home piece `OutOfFile` and `Ragged`; then `Memory` or
-    /// `Read` where the piece does not hold its items. The home is read and translated at the first
-    /// use. A refusal leaves the object.
+    /// alignment. It fails with, in this order: `NoSection`, `NoData`, `WrongKind` with the kind
+    /// that the piece holds, and for the clean home piece `OutOfFile` and `Ragged`; then `Memory`
+    /// or `Read` where the piece does not hold its items. The home is read and translated at the
+    /// first use. A refusal leaves the object.
     ///
     /// Source: elf_getdata and elf_flagdata of elf(3E).
     pub fn lend<T: Listed>(&mut self, d: DataId) -> Result<&mut List<T>, ElfError>

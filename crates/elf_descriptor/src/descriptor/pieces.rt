@@ -15,7 +15,7 @@ use section_table::prelude::{FirstPieces, Source};
 
 impl<S: Source> Elf<S> {
     /// Notes where the pieces of a section that hold bytes end, so that `first_pieces` finds them
-    /// in few steps. It changes no answer. It refuses nothing: where there is no such section it
+    /// in few steps. It changes no result. It rejects nothing: where there is no such section it
     /// notes nothing, and where there is no memory it notes less.
     #[inline(always)]
     pub fn note_pieces(&mut self, s: ScnId)
@@ -40,7 +40,7 @@ impl<S: Source> Elf<S> {
     }
 
     /// Looks for the last NUL of a home that is loaded, where that was not done yet, so that
-    /// `ended_bytes` tells of it. It changes no answer but that one. It refuses nothing, and takes
+    /// `ended_bytes` tells of it. It changes no result but that one. It rejects nothing, and takes
     /// no memory: where there is no such section, or it is not loaded, nothing is done.
     #[inline(always)]
     pub fn note_end(&mut self, s: ScnId)
@@ -63,7 +63,7 @@ impl<S: Source> Elf<S> {
     /// Whether a section is one table of strings whose bytes are held, and an offset lies in them:
     /// it is of type `SHT_STRTAB` and in the file, its one piece is the clean home piece, which
     /// holds bytes, and its home is loaded and longer than the offset. It is told only where a NUL
-    /// is the last of `ended_bytes`, as it is once `note_end` found one. It refuses nothing, reads
+    /// is the last of `ended_bytes`, as it is once `note_end` found one. It rejects nothing, reads
     /// nothing and takes no memory.
     ///
     /// Source: gABI chapter 4, "String Table".

@@ -1,4 +1,4 @@
-//! Where the parts of a descriptor's image stand, and how long its sections are.
+//! Where the parts of a descriptor's image are, and how long its sections are.
 
 ghost use Rattle.std.specs.Prelude.{◌≡◌, ◌-◌, ◌^◌, min, true, None};
 ghost use Rattle.elf_types.specs.Answers.{answered};
@@ -11,14 +11,14 @@ ghost use Rattle.section_table.specs.elf_object.Refusal.{refusal};
 use crate::descriptor::Elf;
 use crate::descriptor::edits::every_step_is_sound;
 use elf_types::{ElfError, ScnId};
+use law_object::prelude::sizes_are_lengths;
 use section_table::prelude::{Places, Source};
-use writing_laws::prelude::sizes_are_lengths;
 
 impl<S: Source> Elf<S> {
-    /// The size of a section's data: where its last piece ends, each piece standing at a multiple
-    /// of its alignment, and 2^64 - 1 where that is more. A clean home piece counts as long as its
-    /// home, and not at all where the home is out of the file. It refuses `NoSection`, reads
-    /// nothing and takes no memory.
+    /// The size of a section's data: where its last piece ends, each piece at a multiple of its
+    /// alignment, and 2^64 - 1 where that is more. A clean home piece counts as long as its home,
+    /// and not at all where the home is out of the file. It fails with `NoSection`, reads nothing
+    /// and takes no memory.
     ///
     /// Source: gABI chapter 4, "Sections", and elf_newdata of elf(3E).
     pub fn data_size(&self, s: ScnId) -> Result<u64, ElfError>
@@ -29,7 +29,7 @@ impl<S: Source> Elf<S> {
     }
 
     /// Stores places, sizes and derived values in the headers; the marks stay. Something is dirty,
-    /// an update is not refused, and the places are those of the object. It refuses nothing, reads
+    /// an update is not rejected, and the places are those of the object. It rejects nothing, reads
     /// nothing and takes no memory.
     ///
     /// Source: elf_update with ELF_C_NULL of elf(3E).

@@ -17,8 +17,8 @@ use section_table::prelude::{Items, Source};
 impl<S: Source> Elf<S> {
     ghost use Rattle.elf_descriptor.specs.Rests.{Rests, GivesRaw, GivesItems};
 
-    /// Reads a section's home where its bytes are not held. It refuses in this order: `NoSection`,
-    /// `OutOfFile`, then `Memory` or `Read`.
+    /// Reads a section's home where its bytes are not held. It fails with, in this order:
+    /// `NoSection`, `OutOfFile`, then `Memory` or `Read`.
     fn load(&mut self, s: u32) -> Result<(), ElfError>
         ensures answer { Answers true (wanted (calls.raw s) self.old) result
             (answered (raw_refusal self.old.o s) tt) }
@@ -37,9 +37,9 @@ impl<S: Source> Elf<S> {
         self.body.held_cell(s).bytes()
     }
 
-    /// A home's bytes in file form, whatever was edited; a new section has none. It refuses in this
-    /// order: `NoSection`, `OutOfFile`, then `Memory` or `Read` where the section is not loaded. It
-    /// reads the home at the first use.
+    /// A home's bytes in file form, whatever was edited; a new section has none. It fails with, in
+    /// this order: `NoSection`, `OutOfFile`, then `Memory` or `Read` where the section is not
+    /// loaded. It reads the home at the first use.
     ///
     /// Source: elf_rawdata of elf(3E).
     pub fn raw(&mut self, s: ScnId) -> Result<&[u8], ElfError>
@@ -55,8 +55,8 @@ impl<S: Source> Elf<S> {
         }
     }
 
-    /// Makes a piece hold its items. It refuses in this order: `NoSection`, `NoData`, and for the
-    /// clean home piece `OutOfFile` and `Ragged`; then `Memory` or `Read`.
+    /// Makes a piece hold its items. It fails with, in this order: `NoSection`, `NoData`, and for
+    /// the clean home piece `OutOfFile` and `Ragged`; then `Memory` or `Read`.
     fn prepare(&mut self, d: DataId) -> Result<(), ElfError>
         ensures answer { Answers true (wanted (calls.section_data d.section d.piece) self.old)
             result (answered (data_refusal self.old.o d.section d.piece) tt) }
@@ -81,7 +81,7 @@ impl<S: Source> Elf<S> {
         self.body.held_cell(d.section).items(d.piece)
     }
 
-    /// A piece's items. It refuses in this order: `NoSection`, `NoData`, and for the clean home
+    /// A piece's items. It fails with, in this order: `NoSection`, `NoData`, and for the clean home
     /// piece `OutOfFile` where its home passes the end of the image and `Ragged` where the size of
     /// an item does not divide the home's length; then `Memory` or `Read` where the piece does not
     /// hold its items. The home is read and translated at the first use.

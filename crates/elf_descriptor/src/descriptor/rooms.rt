@@ -1,5 +1,5 @@
-//! Memory is kept aside for a home's bytes, so that they can be read without more, and what was
-//! read is let go.
+//! Memory is reserved for a home's bytes, so that they can be read without more, and what was read
+//! is freed.
 
 ghost use Rattle.std.specs.Prelude.{◌≡◌, [], true, IsTrue, OnOk, IfErr};
 ghost use Rattle.elf_types.specs.Answers.{answered};
@@ -16,8 +16,8 @@ impl<S: Source> Elf<S> {
     ghost use Rattle.elf_descriptor.specs.Rooms.{with_room_for, has_room_for, reads_home, unloaded};
     ghost use Rattle.elf_descriptor.specs.Reads.{Queries};
 
-    /// Keeps memory aside for the bytes of a section's home where they are not held, so that
-    /// `load_home` takes none. It changes no answer of another call. It refuses in this order:
+    /// Reserves memory for the bytes of a section's home where they are not held, so that
+    /// `load_home` takes none. It changes no result of another call. It fails with, in this order:
     /// `NoSection`, `OutOfFile`, `Memory`. It reads nothing.
     pub fn reserve_home(&mut self, s: ScnId) -> Result<(), ElfError>
         ensures edits { Edits result self.old self.new (answered (raw_refusal self.old.o s.0) tt)
@@ -27,9 +27,9 @@ impl<S: Source> Elf<S> {
         self.body.reserve_home(s.0)
     }
 
-    /// Reads a section's home where its bytes are not held, into the memory that is kept aside for
-    /// them; it is loaded, or `reserve_home` made room for it. It refuses `Read` alone, and takes
-    /// no memory.
+    /// Reads a section's home where its bytes are not held, into the memory that is reserved for
+    /// them; it is loaded, or `reserve_home` made room for it. It fails with `Read` alone, and
+    /// takes no memory.
     pub fn load_home(&mut self, s: ScnId) -> Result<(), ElfError>
         requires room { IsTrue (has_room_for self.old s.0) }
         ensures answer { Answers true (reads_home s.0 self.old) result
@@ -41,9 +41,9 @@ impl<S: Source> Elf<S> {
         self.body.load_home(&mut self.src, s.0)
     }
 
-    /// Lets go of the bytes and the items that are held of a section's home, where they can be read
+    /// Frees the bytes and the items that are held of a section's home, where they can be read
     /// again: the home piece is clean and not marked, and the home lies in the base. Then the
-    /// section is no longer loaded; else nothing changes. The object is the same. It refuses
+    /// section is no longer loaded; else nothing changes. The object is the same. It fails with
     /// `NoSection`, reads nothing and takes no memory.
     pub fn unload(&mut self, s: ScnId) -> Result<(), ElfError>
         ensures answer { result ≡ answered (no_section self.old.o s.0) tt }

@@ -8,12 +8,11 @@ ghost use Rattle.section_table.specs.elf_object.Refusal.{refusal};
 ghost use Rattle.elf_descriptor.specs.Settling.{SettlingIsSound};
 
 use crate::descriptor::Elf;
+use law_object::prelude::{updates_keep, updates_tie};
+use law_object::writing::based::updates_keep_based;
 use section_table::prelude::Device;
-use writing_laws::based::updates_keep_based;
-use writing_laws::prelude::{updates_keep, updates_tie};
 
-/// What is settled is an object; over a source that tells its bytes, what is not dirty stands in
-/// them.
+/// What is settled is an object; over a source that tells its bytes, what is not dirty is in them.
 fn settling_is_sound()
     ensures { SettlingIsSound }
 {
@@ -27,8 +26,8 @@ impl<D: Device> Elf<D> {
 
     /// Makes the object that of the image that was written: each section has one clean piece, whose
     /// home is where its header places it; nothing is marked, and nothing is held. The object is
-    /// ready and something is dirty, an update is not refused, its places are stored, and the
-    /// device is as long as the image and, where it tells its bytes, holds it. It refuses nothing,
+    /// ready and something is dirty, an update is not rejected, its places are stored, and the
+    /// device is as long as the image and, where it tells its bytes, holds it. It rejects nothing,
     /// reads nothing and takes no memory.
     ///
     /// Source: elf_update with ELF_C_WRITE of elf(3E).

@@ -12,7 +12,7 @@ use elf_types::{DataId, ElfError};
 use section_table::prelude::{Source, Storable};
 
 impl<S: Source> Elf<S> {
-    /// Whether item `i` of a piece of the item's kind can be given that value; it refuses as
+    /// Whether item `i` of a piece of the item's kind can be given that value; it fails as
     /// `update_item` but for `Memory` and `Read`. It reads nothing.
     fn check_store<T: Storable>(&self, d: DataId, i: u64, item: &T) -> Result<(), ElfError>
         ensures answer { result ≡ answered (update_item_refusal self.now.o T.kind d.section
@@ -23,12 +23,12 @@ impl<S: Source> Elf<S> {
     }
 
     /// Gives item `i` of a piece of the item's kind that value. The piece becomes own and marked,
-    /// and keeps its alignment. It refuses in this order: `NoSection`, `NoData`, `WrongKind` with
-    /// the kind that the piece holds, for the clean home piece `OutOfFile` and `Ragged`, `NoEntry`
-    /// exactly where the index is not below the number of items, and `Unfit` where the value does
-    /// not fit the class; then `Memory` or `Read` where the piece does not hold its items. The home
-    /// is read and translated at the first use; on an own piece the item is stored in place. A
-    /// refusal leaves the object.
+    /// and keeps its alignment. It fails with, in this order: `NoSection`, `NoData`, `WrongKind`
+    /// with the kind that the piece holds, for the clean home piece `OutOfFile` and `Ragged`,
+    /// `NoEntry` exactly where the index is not below the number of items, and `Unfit` where the
+    /// value does not fit the class; then `Memory` or `Read` where the piece does not hold its
+    /// items. The home is read and translated at the first use; on an own piece the item is stored
+    /// in place. A refusal leaves the object.
     ///
     /// Source: gelf_update_sym of gelf(3E) and its like.
     pub fn update_item<T: Storable>(&mut self, d: DataId, i: u64, item: T) -> Result<(), ElfError>

@@ -1,4 +1,4 @@
-//! What stands at an index that is there.
+//! What is at an index that is there.
 
 ghost use Rattle.std.specs.Prelude.{◌≡◌, ◌<◌, length, slice_index_or};
 ghost use Rattle.section_table.specs.elf_object.Object.{section_at};

@@ -32,7 +32,7 @@ impl Calls {
         self.bad.as_slice().contains(&self.made)
     }
 
-    /// Counts a call, and refuses it where it is to fail, with one fault more.
+    /// Counts a call, and rejects it where it is to fail, with one fault more.
     pub fn next(&mut self, faults: &mut u64) -> Result<(), Failed>
         ensures number { self.new.made ≡ next_count self.old.made }
         ensures same { self.new.bad ≡ self.old.bad }

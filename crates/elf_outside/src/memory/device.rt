@@ -33,7 +33,7 @@ pub struct MemDevice {
 }
 
 impl MemDevice {
-    /// A device with a copy of the bytes, whose counts are 0. It refuses `Memory` alone.
+    /// A device with a copy of the bytes, whose counts are 0. It fails with `Memory` alone.
     pub fn new(
         alloc: Global,
         bytes: &[u8],

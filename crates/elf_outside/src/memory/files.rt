@@ -68,7 +68,7 @@ impl MemFiles {
     }
 
     /// Sets a name's bytes, and the failing reads and writes of each file that is opened under it.
-    /// It refuses `Memory` alone, and then the map is as before.
+    /// It fails with `Memory` alone, and then the map is as before.
     pub fn add(
         &mut self,
         name: &str,
@@ -183,7 +183,7 @@ impl Files for MemFiles {
     }
 }
 
-/// A file of what is kept of its name. It refuses `Memory` alone.
+/// A file of what is kept of its name. It fails with `Memory` alone.
 fn file_of(alloc: Global, room: u64, kept: &Kept) -> Result<MemDevice, OpenFault>
     ensures ok { IfOk result (IsFileOf room kept.now) }
     ensures err { IfErr result (λ e. e ≡ OpenFault.Memory) }
@@ -197,7 +197,7 @@ fn file_of(alloc: Global, room: u64, kept: &Kept) -> Result<MemDevice, OpenFault
     }
 }
 
-/// A copy of a list of numbers. It refuses `Memory` alone.
+/// A copy of a list of numbers. It fails with `Memory` alone.
 fn copy_of(alloc: Global, numbers: &Addrs) -> Result<Addrs, OpenFault>
     ensures ok { IfOk result (λ copy. copy ≡ numbers.now) }
     ensures err { IfErr result (λ e. e ≡ OpenFault.Memory) }
@@ -208,7 +208,7 @@ fn copy_of(alloc: Global, numbers: &Addrs) -> Result<Addrs, OpenFault>
     }
 }
 
-/// An empty file, as `create` makes it. It refuses `Memory` alone.
+/// An empty file, as `create` makes it. It fails with `Memory` alone.
 fn new_file(alloc: Global, room: u64, bad_writes: &Addrs) -> Result<MemDevice, OpenFault>
     ensures bytes { IfOk result (λ f. f.bytes.items ≡ []) }
     ensures room { IfOk result (λ f. f.room ≡ room) }
@@ -223,8 +223,8 @@ fn new_file(alloc: Global, room: u64, bad_writes: &Addrs) -> Result<MemDevice, O
     }
 }
 
-/// Sets a name to the empty text, and leaves the failing calls of a name that is there. It refuses
-/// `Memory` alone, and then every name is as before.
+/// Sets a name to the empty text, and leaves the failing calls of a name that is there. It fails
+/// with `Memory` alone, and then every name is as before.
 fn set_empty(names: &mut BTreeMap<String, Kept>, alloc: Global, name: &str) -> Result<(), OpenFault>
     ensures ok { OnOk result
         (SetsKept names.old names.new name.now (Some (emptied (kept names.old name.now)))) }

@@ -23,7 +23,7 @@ pub struct MemSink {
 }
 
 impl MemSink {
-    /// An empty sink, whose count of faults is 0. It refuses `Memory` alone.
+    /// An empty sink, whose count of faults is 0. It fails with `Memory` alone.
     pub fn new(alloc: Global, room: u64, bad_puts: Addrs) -> Result<MemSink, ElfError>
         ensures bytes { IfOk result (λ s. s.bytes.items ≡ []) }
         ensures room { IfOk result (λ s. s.room ≡ room) }

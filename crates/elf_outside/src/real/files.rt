@@ -29,18 +29,18 @@ const NEW_MODE: u32 = 0o666;
 /// its end at once where it is no regular file or tells the length 0, as a pipe or a file of /proc
 /// does; so to open a directory fails.
 ///
-/// A regular file that was handed out before is not made anew, under whatever name, open or not:
-/// that would take the bytes from under those who read it, or undo what was made. `create` then
-/// answers `Failed`, and the file is as it was. Such a file is known by its device and its number
-/// there. Where somebody else removes one meanwhile, and a new file gets its number, `create`
-/// refuses that one too, so nothing is lost by it.
+/// A regular file that was handed out before is not created again, under whatever name, open or
+/// not: that would take the bytes from under those who read it, or undo what was made. `create`
+/// then returns `Failed`, and the file is as it was. Such a file is known by its device and its
+/// number there. Where somebody else removes one meanwhile, and a new file gets its number,
+/// `create` rejects that one too, so nothing is lost by it.
 ///
 /// A file that was not there gets the permissions of the file that was opened first of those that
 /// are open, as the umask leaves them, so that what is made of a program can be run; one that was
 /// there keeps its own.
 ///
 /// None gets the descriptor of a standard stream: where the system gives it one, since the program
-/// was started with a stream closed, the call that would hand it out answers `Failed`.
+/// was started with a stream closed, the call that would hand it out returns `Failed`.
 ///
 /// They keep what the system said of the last call that failed. Of the calls on a file they know
 /// once it was closed.
@@ -94,7 +94,7 @@ impl<R: rt::Files<File = File>> RealFiles<R> {
         self.last.as_ref()
     }
 
-    /// Hands out a file that was opened. An error is want of memory.
+    /// Hands out a file that was opened. An error means out of memory.
     fn count_in(&mut self, file: RealFile) -> Result<RealFile, OpenFault>
         ensures file { IfOk result (λ f. f ≡ file) }
         ensures refused { ¬ IsErrOf result OpenFault.Failed }
@@ -265,7 +265,7 @@ fn refused(name: String, attempt: Attempt, why: Error) -> Refusal {
     Refusal::Failed(Failure { name, attempt, why })
 }
 
-/// What was opened, with its length, or with its bytes where they are to be held.
+/// What was opened, with its length, or with its bytes where they must be held.
 fn take_in(alloc: Global, name: String, file: File, writes: bool) -> Result<RealFile, Refusal>
     requires { pos 3 ≤ℤ file_raw_fd file }
     ensures faults { IfOk result (λ f. (f.faults ≡ 0) × (f.inner.write_faults ≡ 0)) }
@@ -281,7 +281,7 @@ fn take_in(alloc: Global, name: String, file: File, writes: bool) -> Result<Real
     }
 }
 
-/// The length of a file that was opened, after which one it is and its bytes where they are to be
+/// The length of a file that was opened, after which one it is and its bytes where they must be
 /// held.
 fn length_of(
     alloc: Global,

@@ -64,7 +64,7 @@ impl OpenFiles {
         }
     }
 
-    /// Notes a file that is handed out. An error is want of memory, and then it is not open.
+    /// Notes a file that is handed out. An error means out of memory, and then it is not open.
     pub fn add(&mut self, file: OpenFile) -> Result<(), AllocError>
         ensures noted { OnOk result (IsNoted self.new file) }
         ensures known { KeepsKnown self.old self.new }
@@ -80,7 +80,7 @@ impl OpenFiles {
         }
     }
 
-    /// Notes that a file was handed out. An error is want of memory.
+    /// Notes that a file was handed out. An error means out of memory.
     fn know(&mut self, inode: Inode) -> Result<(), AllocError>
         ensures noted { OnOk result (knows self.new inode ≡ true) }
         ensures known { KeepsKnown self.old self.new }

@@ -25,7 +25,7 @@ const LOOKED_BACK: u64 = 16384;
 /// back at, and they are not read twice.
 ///
 /// It counts the bytes that its callers asked for and the reads of theirs that failed, and not the
-/// reads of the window: where the window can't be filled, for want of memory or since the inner
+/// reads of the window: where the window can't be filled, for lack of memory or since the inner
 /// source failed, the range asked for is read alone.
 #[derive(Drop)]
 pub struct ReadAhead<S: Source> {
@@ -134,7 +134,7 @@ impl<S: Source> ReadAhead<S> {
         true
     }
 
-    /// Whether the window holds the range, once it was moved there where it has to be.
+    /// Whether the window holds the range, once it was moved there where it must be.
     fn reach(&mut self, at: u64, n: usize) -> bool
         requires { at + n ≤ S.size self.old.inner }
         ensures leaves { LeavesBy S.size S.holds S.rest self.old.inner self.new.inner }

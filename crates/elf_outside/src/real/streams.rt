@@ -30,7 +30,7 @@ pub fn take_streams<R: rt::Files<File = File>>(system: &R) -> io::Result<()> {
     Ok(())
 }
 
-/// Opens a file, and refuses one that gets the descriptor of a standard stream.
+/// Opens a file, and rejects one that gets the descriptor of a standard stream.
 pub(super) fn open_apart<R: rt::Files<File = File>>(
     system: &R,
     how: &OpenOptions,

@@ -1,11 +1,11 @@
 //! copy: the image of a file with changes, and the new file of it.
 
 ghost use Rattle.std.specs.Prelude.{◌≢◌, IsTrue};
-ghost use Rattle.elfkit_words.specs.copy_changes.Names.{HasNames};
+ghost use Rattle.elfkit_words.specs.rebuild_changes.Names.{HasNames};
 ghost use Rattle.tool_output.specs.Files.{LeavesFiles};
 ghost use Rattle.tool_output.specs.Statuses.{refused_status};
 ghost use Rattle.tool_output.specs.Outcomes.{Does};
-ghost use Rattle.selftest_tool.specs.command_outcomes.Copy.{copy_outcome};
+ghost use Rattle.selftest_tool.specs.elfkit_outcomes.Copy.{copy_outcome};
 
 use copy_tool::copy_file;
 use elf_outside::{Files, Sink};
@@ -16,8 +16,8 @@ use tool_text::Text;
 
 /// The command copy: the files of `-u` and then those of `-a` are read, and the image with the
 /// changes is written to a new file while the old one is open. Where a file is not there or
-/// something is refused, the message says so, and no file is made. The answer tells whether it was
-/// refused.
+/// something is rejected, the message says so, and no file is made. It returns whether it was
+/// rejected.
 pub fn copy<F: Files, O: Sink, E: Sink>(
     alloc: Global,
     changes: &CopyChanges,

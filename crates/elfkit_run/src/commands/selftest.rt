@@ -4,7 +4,7 @@ ghost use Rattle.std.specs.Prelude.{◌≤◌, IsTrue};
 ghost use Rattle.tool_output.specs.Files.{LeavesFiles};
 ghost use Rattle.tool_output.specs.Outcomes.{Does};
 ghost use Rattle.tool_output.specs.Statuses.{refused_status};
-ghost use Rattle.selftest_tool.specs.command_outcomes.Selftest.{selftest_outcome};
+ghost use Rattle.selftest_tool.specs.elfkit_outcomes.Selftest.{selftest_outcome};
 
 use elf_outside::{Files, Sink};
 use selftest_tool::write_and_tell;
@@ -13,8 +13,8 @@ use tool_output::{Outputs, Stop};
 use tool_text::Text;
 
 /// The command selftest: the image of so many sections, each with a symbol, is written to a file,
-/// which is opened again and told of in five lines. The answer tells whether the file was refused
-/// then, as where somebody else changed it.
+/// which is opened again and told of in five lines. It returns whether the file was rejected then,
+/// as where somebody else changed it.
 pub fn selftest<F: Files, O: Sink, E: Sink>(
     alloc: Global,
     out: &Text,

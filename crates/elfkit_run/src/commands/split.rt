@@ -5,7 +5,7 @@ ghost use Rattle.elfkit_words.specs.Forms.{ThreeDiffer};
 ghost use Rattle.tool_output.specs.Files.{LeavesFiles};
 ghost use Rattle.tool_output.specs.Statuses.{refused_status};
 ghost use Rattle.tool_output.specs.Outcomes.{Does};
-ghost use Rattle.selftest_tool.specs.command_outcomes.Strip.{strip_outcome};
+ghost use Rattle.selftest_tool.specs.elfkit_outcomes.Strip.{strip_outcome};
 
 use crate::commands::strip::strip;
 use elf_outside::{Files, Sink};
@@ -18,7 +18,7 @@ use unstrip_tool::{HalfNames, SplitCommand, split_named};
 /// The command strip with `-f`: the image without what is removed, and its debug half, are written
 /// to new files while the old one is open, the debug half last, and what stays as it is is copied
 /// range by range. Where a section is removed that is allocated, and where a half or its update is
-/// refused, the message says so, and neither file is made. The answer tells whether it was refused.
+/// rejected, the message says so, and neither file is made. It returns whether it was rejected.
 fn split<F: Files, O: Sink, E: Sink>(
     alloc: Global,
     options: &StripOptions,

@@ -4,7 +4,7 @@ ghost use Rattle.std.specs.Prelude.{◌≡◌, ◌≢◌, None, IsTrue};
 ghost use Rattle.tool_output.specs.Files.{LeavesFiles};
 ghost use Rattle.tool_output.specs.Statuses.{refused_status};
 ghost use Rattle.tool_output.specs.Outcomes.{Does};
-ghost use Rattle.selftest_tool.specs.command_outcomes.Strip.{strip_outcome};
+ghost use Rattle.selftest_tool.specs.elfkit_outcomes.Strip.{strip_outcome};
 
 use elf_outside::{Files, Sink};
 use elfkit_words::prelude::StripOptions;
@@ -14,8 +14,8 @@ use tool_output::{Outputs, Stop};
 use tool_text::Text;
 
 /// The command strip without `-f`: the image without what is removed is written to a new file while
-/// the old one is open, and what stays as it is is copied range by range. Where it is refused, the
-/// message says why, and no file is made. The answer tells whether it was refused.
+/// the old one is open, and what stays as it is is copied range by range. Where it is rejected, the
+/// message says why, and no file is made. It returns whether it was rejected.
 pub fn strip<F: Files, O: Sink, E: Sink>(
     alloc: Global,
     options: &StripOptions,

@@ -5,7 +5,7 @@ ghost use Rattle.elfkit_words.specs.Forms.{ThreeDiffer};
 ghost use Rattle.tool_output.specs.Files.{LeavesFiles};
 ghost use Rattle.tool_output.specs.Statuses.{refused_status};
 ghost use Rattle.tool_output.specs.Outcomes.{Does};
-ghost use Rattle.selftest_tool.specs.command_outcomes.Strip.{unstrip_outcome};
+ghost use Rattle.selftest_tool.specs.elfkit_outcomes.Strip.{unstrip_outcome};
 
 use elf_outside::{Files, Sink};
 use std::alloc::Global;
@@ -14,10 +14,10 @@ use tool_text::Text;
 use unstrip_tool::{HalfNames, join_files};
 
 /// The command unstrip: the image of what two files are halves of is written to a new file while
-/// both are open. The first of them that is not there or is refused, files that do not match, and
-/// what the join or the update refuses have their message, and no file is made. The answer tells
-/// whether it was refused.
-pub fn unstrip<F: Files, O: Sink, E: Sink>(
+/// both are open. The first of them that is not there or is rejected, files that do not match, and
+/// what the join or the update rejects have their message, and no file is made. It returns whether
+/// it was rejected.
+pub fn run_unstrip<F: Files, O: Sink, E: Sink>(
     alloc: Global,
     out: &Text,
     stripped: &Text,

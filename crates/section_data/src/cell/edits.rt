@@ -72,7 +72,8 @@ impl Cell {
     }
 
     /// Gives a piece other items, of any kind; it becomes own and marked, and keeps its alignment.
-    /// It refuses in this order: `NoData`, `Unfit`, and hands the items back. It takes no memory.
+    /// It fails with, in this order: `NoData`, `Unfit`, and hands the items back. It takes no
+    /// memory.
     ///
     /// Source: elf_newdata of elf(3E), for data that takes the place of other data.
     pub fn replace(&mut self, p: u32, class: Class, items: Items) -> Result<(), (Items, ElfError)>
@@ -89,10 +90,10 @@ impl Cell {
         Ok(())
     }
 
-    /// Adds an own marked piece with that alignment in the section, and answers its number. It
-    /// refuses in this order: `TooMany` where there are 2^20 pieces, `BadAlign` where the alignment
-    /// is no power of two or above 2^20, `Unfit` with the new piece's number, `Memory`, and hands
-    /// the items back; then the cell is as before.
+    /// Adds an own marked piece with that alignment in the section, and returns its number. It
+    /// fails with, in this order: `TooMany` where there are 2^20 pieces, `BadAlign` where the
+    /// alignment is no power of two or above 2^20, `Unfit` with the new piece's number, `Memory`,
+    /// and hands the items back; then the cell is as before.
     ///
     /// Source: elf_newdata of elf(3E).
     pub fn append(

@@ -27,8 +27,8 @@ impl Cell {
     }
 
     /// Item `i` of a piece of the item's kind that is own, or whose home is loaded and has whole
-    /// items: the home is not translated. It refuses `NoEntry` exactly where the index is not below
-    /// the number of items, and takes no memory.
+    /// items: the home is not translated. It fails with `NoEntry` exactly where the index is not
+    /// below the number of items, and takes no memory.
     ///
     /// Source: gelf_getsym of gelf(3E) and its like.
     pub fn item<T: Item>(&self, p: u32, i: u64, class: Class, order: Order) -> Result<T, ElfError>

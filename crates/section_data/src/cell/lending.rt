@@ -35,9 +35,9 @@ impl Cell {
         }
     }
 
-    /// Whether items of a kind can be handed out. It refuses in this order: `NoData`, `WrongKind`
-    /// with the kind that the piece holds, and for the clean home piece `OutOfFile` and `Ragged`.
-    /// It takes no memory.
+    /// Whether items of a kind can be handed out. It fails with, in this order: `NoData`,
+    /// `WrongKind` with the kind that the piece holds, and for the clean home piece `OutOfFile` and
+    /// `Ragged`. It takes no memory.
     #[tactic(auto, unfolding(crate::specs::Refused::kind_refused))]
     pub fn check_lend(&self, p: u32, kind: Kind, class: Class) -> Result<(), ElfError>
         ensures answer { result ≡ answered (kind_refused class self.now kind p) tt }
@@ -52,7 +52,7 @@ impl Cell {
     }
 
     /// Makes a piece that holds its items own and marked with them. Afterwards the clean home piece
-    /// holds none. It refuses nothing and takes no memory.
+    /// holds none. It rejects nothing and takes no memory.
     #[tactic(auto, unfolding(crate::specs::Held::ready))]
     pub fn claim(&mut self, p: u32)
         requires piece { p < length self.old.pieces }
@@ -68,7 +68,7 @@ impl Cell {
     }
 
     /// Makes a piece of a kind own and marked with its items; the home is read and translated at
-    /// first use. It refuses as `lend`.
+    /// first use. It fails as `lend` does.
     pub fn own<S: Source>(
         &mut self,
         p: u32,
@@ -101,10 +101,10 @@ impl Cell {
 
     /// The items of a piece that holds that kind, lent for writing. The home is read and translated
     /// at first use, and the piece becomes own and marked; what the borrower leaves is what it
-    /// holds. It refuses in this order: `NoData`, `WrongKind` with the kind that the piece holds,
-    /// for the clean home piece `OutOfFile` and `Ragged`, and then `Memory` or `Read` where the
-    /// piece does not hold its items. It reads nothing where it is refused, the piece is own or the
-    /// section is loaded.
+    /// holds. It fails with, in this order: `NoData`, `WrongKind` with the kind that the piece
+    /// holds, for the clean home piece `OutOfFile` and `Ragged`, and then `Memory` or `Read` where
+    /// the piece does not hold its items. It reads nothing where it is rejected, the piece is own
+    /// or the section is loaded.
     ///
     /// Source: elf_getdata and elf_flagdata of elf(3E).
     pub fn lend<S: Source>(

@@ -36,7 +36,7 @@ fn read_home<S: Source>(alloc: Global, src: &mut S, home: Home) -> Result<Octets
     read_range(alloc, src, home.at, home.len)
 }
 
-/// The items that a home's bytes hold. It refuses `Memory` alone.
+/// The items that a home's bytes hold. It fails with `Memory` alone.
 fn translated(
     alloc: Global,
     kind: Kind,
@@ -83,9 +83,9 @@ impl Cell {
         Ok(())
     }
 
-    /// Reads the home's bytes where they are not held. It refuses in this order: `OutOfFile`
+    /// Reads the home's bytes where they are not held. It fails with, in this order: `OutOfFile`
     /// exactly where the home passes the end of the image, then `Memory` or `Read`, and then the
-    /// cell is as before. It reads nothing where it is refused or the section is loaded.
+    /// cell is as before. It reads nothing where it is rejected or the section is loaded.
     pub fn load<S: Source>(&mut self, src: &mut S) -> Result<(), ElfError>
         requires { LiesIn self.old (S.size src.old) }
         ensures answer { Answers true (loading (load_due self.old)) result
@@ -130,7 +130,7 @@ impl Cell {
     }
 
     /// Looks for the last NUL of the home's bytes, where they are held and that was not done yet.
-    /// It changes no answer but that of `ended_bytes`, and takes no memory.
+    /// It changes no result but that of `ended_bytes`, and takes no memory.
     #[inline(always)]
     pub fn note_end(&mut self)
         ensures value { self.new ≡ self.old }
@@ -176,8 +176,8 @@ impl Cell {
         Ok(())
     }
 
-    /// Whether a piece has items that can be told. It refuses in this order: `NoData`, and for the
-    /// clean home piece `OutOfFile` and `Ragged`. It takes no memory.
+    /// Whether a piece has items that can be told. It fails with, in this order: `NoData`, and for
+    /// the clean home piece `OutOfFile` and `Ragged`. It takes no memory.
     #[tactic(auto, unfolding(crate::specs::Refused::items_refused))]
     pub fn check(&self, p: u32, class: Class) -> Result<(), ElfError>
         ensures answer { result ≡ answered (items_refused class self.now p) tt }
@@ -189,8 +189,8 @@ impl Cell {
         self.check_home(p, class)
     }
 
-    /// Loads the home of a piece that is not own. It refuses as `load`, and nothing for an own
-    /// piece, whose cell stays as it is.
+    /// Loads the home of a piece that is not own. It fails as `load`, and nothing for an own piece,
+    /// whose cell stays as it is.
     pub fn fetch<S: Source>(&mut self, src: &mut S, p: u32) -> Result<(), ElfError>
         requires piece { p < length self.old.pieces }
         requires lies { LiesIn self.old (S.size src.old) }
@@ -222,7 +222,8 @@ impl Cell {
         self.is_own(p) || self.kept.holds_items()
     }
 
-    /// Translates a home that is loaded. It refuses `Memory` alone, and then the cell is as before.
+    /// Translates a home that is loaded. It fails with `Memory` alone, and then the cell is as
+    /// before.
     fn translate(&mut self, class: Class, order: Order) -> Result<(), ElfError>
         requires loaded { IsTrue (cell_is_loaded self.old) }
         requires whole { IsTrue (is_whole self.old.home.kind class self.old.home.len) }
@@ -237,8 +238,8 @@ impl Cell {
         self.kept.keep_items(self.alloc, items)
     }
 
-    /// Makes room for a copy of a home that is loaded, of bytes and not empty. It refuses `Memory`
-    /// alone, and then the cell is as before.
+    /// Makes room for a copy of a home that is loaded, of bytes and not empty. It fails with
+    /// `Memory` alone, and then the cell is as before.
     #[tactic(auto, using(crate::proofs::Loading::held_bytes))]
     fn keep_room(&mut self) -> Result<(), ElfError>
         requires loaded { IsTrue (cell_is_loaded self.old) }
@@ -255,8 +256,8 @@ impl Cell {
         self.kept.keep_copy(self.alloc)
     }
 
-    /// Holds the items of a home that is loaded and has whole items. It refuses `Memory` alone, and
-    /// then the cell is as before.
+    /// Holds the items of a home that is loaded and has whole items. It fails with `Memory` alone,
+    /// and then the cell is as before.
     fn hold(&mut self, class: Class, order: Order) -> Result<(), ElfError>
         requires loaded { IsTrue (cell_is_loaded self.old) }
         requires whole { IsTrue (is_whole self.old.home.kind class self.old.home.len) }
@@ -275,7 +276,7 @@ impl Cell {
     }
 
     /// Reads a home that lies in the file and has whole items, where it is not read, and translates
-    /// it. It refuses `Memory` and `Read`.
+    /// it. It fails with `Memory` and `Read`.
     fn warm<S: Source>(&mut self, src: &mut S, class: Class, order: Order) -> Result<(), ElfError>
         requires lies { LiesIn self.old (S.size src.old) }
         requires inside { self.old.home.out ≡ false }
@@ -296,9 +297,9 @@ impl Cell {
 
     /// Makes a piece hold its items, so that they can be handed out and claimed: the home is read
     /// and translated at the first use, and room is made for a copy where it is of bytes. For an
-    /// own piece the cell stays as it is. It refuses in this order: `NoData`, and for the clean
+    /// own piece the cell stays as it is. It fails with, in this order: `NoData`, and for the clean
     /// home piece `OutOfFile` and `Ragged`; then `Memory` or `Read` where the piece does not hold
-    /// its items. It reads nothing where it is refused, the piece is own or the section is loaded.
+    /// its items. It reads nothing where it is rejected, the piece is own or the section is loaded.
     ///
     /// Source: elf_getdata of elf(3E).
     pub fn prepare<S: Source>(

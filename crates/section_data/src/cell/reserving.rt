@@ -1,4 +1,4 @@
-//! Memory for a home's bytes is kept aside, and what was read is let go.
+//! Memory for a home's bytes is reserved, and what was read is freed.
 
 ghost use Rattle.std.specs.Prelude.{◌≡◌, ◌<◌, true, IsTrue, IfErr, OnOk, OnErr, ◌||◌};
 ghost use Rattle.elf_types.specs.declared.errors.ElfError.TheVariants.{Read};
@@ -15,9 +15,9 @@ use elf_object::prelude::Source;
 use elf_types::ElfError;
 
 impl Cell {
-    /// Keeps memory aside for the home's bytes where they are not held, so that `load_reserved`
-    /// takes none. It refuses in this order: `OutOfFile` exactly where the home passes the end of
-    /// the image, then `Memory`, and then the cell is as before. It reads nothing.
+    /// Reserves memory for the home's bytes where they are not held, so that `load_reserved` takes
+    /// none. It fails with, in this order: `OutOfFile` exactly where the home passes the end of the
+    /// image, then `Memory`, and then the cell is as before. It reads nothing.
     pub fn reserve(&mut self) -> Result<(), ElfError>
         ensures edits { Edits result self.old self.new (answered (home_out self.old) tt)
             (with_room self.old) }
@@ -38,8 +38,8 @@ impl Cell {
         Ok(())
     }
 
-    /// Reads the home's bytes into the memory that is kept aside for them, where they are not held;
-    /// then it is used up. It refuses `Read` alone, and then the cell is as before, so it can be
+    /// Reads the home's bytes into the memory that is reserved for them, where they are not held;
+    /// then it is used up. It fails with `Read` alone, and then the cell is as before, so it can be
     /// tried again. It takes no memory, and reads nothing where the section is loaded.
     pub fn load_reserved<S: Source>(&mut self, src: &mut S) -> Result<(), ElfError>
         requires lies { LiesIn self.old (S.size src.old) }
@@ -66,9 +66,9 @@ impl Cell {
         self.kept.is_untouched()
     }
 
-    /// Lets go of the home's bytes and items where the first piece is the clean home piece and is
-    /// not marked, so that they can be read again; else the cell stays as it is. It reads nothing,
-    /// takes no memory and cannot be refused.
+    /// Frees the home's bytes and items where the first piece is the clean home piece and is not
+    /// marked, so that they can be read again; else the cell stays as it is. It reads nothing,
+    /// takes no memory and cannot be rejected.
     pub fn unload(&mut self)
         ensures value { self.new ≡ unloaded self.old }
         ensures cell { IsCell self.new }

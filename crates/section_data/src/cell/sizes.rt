@@ -26,7 +26,7 @@ fn piece_size(piece: &Piece, class: Class, home_len: u64) -> Option<u64>
     fsize(items.kind(), class, items.count())
 }
 
-/// Where a piece ends that stands next after an end; None exactly where that passes 2^64 - 1.
+/// Where a piece ends that is next after an end; None exactly where that passes 2^64 - 1.
 #[tactic(auto, unfolding(crate::specs::Sizes::piece_end))]
 fn piece_end(piece: &Piece, class: Class, home_len: u64, end: u64) -> Option<u64>
     ensures { SomeIff result (piece_end class home_len end piece.now < 2 ^ 64)
@@ -50,7 +50,7 @@ impl Cell {
     }
 
     /// Notes where the pieces that hold bytes end, so that a place among them is found in few
-    /// steps. It changes no answer. It refuses nothing, and where there is no memory it notes less.
+    /// steps. It changes no result. It rejects nothing, and where there is no memory it notes less.
     #[inline(always)]
     pub fn note_pieces(&mut self)
         ensures value { self.new ≡ self.old }

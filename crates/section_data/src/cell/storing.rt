@@ -24,9 +24,9 @@ impl Cell {
         self.kept.home().len / T::size(class) as u64
     }
 
-    /// Whether item `i` of a piece of the item's kind can be given that value. It refuses in this
-    /// order: `NoData`, `WrongKind` with the kind that the piece holds, for the clean home piece
-    /// `OutOfFile` and `Ragged`, `NoEntry` exactly where the index is not below the number of
+    /// Whether item `i` of a piece of the item's kind can be given that value. It fails with, in
+    /// this order: `NoData`, `WrongKind` with the kind that the piece holds, for the clean home
+    /// piece `OutOfFile` and `Ragged`, `NoEntry` exactly where the index is not below the number of
     /// items, and `Unfit` where the value does not fit the class. It reads nothing and takes no
     /// memory.
     ///

@@ -1,6 +1,6 @@
 use Rattle.std.proofs.Common.{ap}
-use Rattle.copy_changes.specs.declared.options.NamedBits.{NamedBits}
-use Rattle.copy_changes.specs.Stated.{bits_pair}
+use Rattle.rebuild_changes.specs.declared.options.NamedBits.{NamedBits}
+use Rattle.rebuild_changes.specs.Stated.{bits_pair}
 use Rattle.copy_tool.proofs.NameLemmas.{mapped_more}
 use Rattle.copy_tool.proofs.changes.flags_of_each.Goals as goal
 

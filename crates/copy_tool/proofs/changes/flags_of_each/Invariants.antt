@@ -1,5 +1,5 @@
 use Rattle.std.proofs.Common.{◌≡◌, map, take}
-use Rattle.copy_changes.specs.Stated.{bits_pair}
+use Rattle.rebuild_changes.specs.Stated.{bits_pair}
 use Rattle.copy_tool.proofs.changes.flags_of_each.Given as goal
 
 abbrev pub invariant-loop-one : goal.invariant-loop-one

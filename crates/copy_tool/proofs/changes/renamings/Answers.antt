@@ -1,6 +1,6 @@
 use Rattle.std.proofs.Common.{ap}
-use Rattle.copy_changes.specs.declared.options.Renaming.{Renaming}
-use Rattle.copy_changes.specs.Stated.{bytes_pair}
+use Rattle.rebuild_changes.specs.declared.options.Renaming.{Renaming}
+use Rattle.rebuild_changes.specs.Stated.{bytes_pair}
 use Rattle.copy_tool.proofs.NameLemmas.{mapped_more}
 use Rattle.copy_tool.proofs.changes.renamings.Goals as goal
 

@@ -1,5 +1,5 @@
 use Rattle.std.proofs.Common.{Some, true}
-use Rattle.copy_changes.specs.Stated.{stated_changes}
+use Rattle.rebuild_changes.specs.Stated.{stated_changes}
 use Rattle.copy_tool.proofs.CommandLemmas.{copy_done_with, copy_done_without, copy_stopped}
 use Rattle.copy_tool.proofs.ReadLemmas.{left_ok, left_stop, left_then}
 use Rattle.copy_tool.proofs.commands.copy_file.Goals as goal

@@ -1,5 +1,5 @@
-use Rattle.strip_tool.specs.object_output.Images.{file_object}
-use Rattle.copy_changes.specs.Stated.{stated_changes}
+use Rattle.strip_tool.specs.tool_objects.Images.{file_object}
+use Rattle.rebuild_changes.specs.Stated.{stated_changes}
 use Rattle.copy_tool.proofs.WriteLemmas.{copy_unwritten}
 use Rattle.copy_tool.proofs.commands.copy_named.Goals as goal
 

@@ -1,6 +1,6 @@
 use Rattle.std.proofs.Common.{◌++◌, ◌∷◌, []}
-use Rattle.strip_tool.specs.command_outcomes.Files.{bytes_named}
-use Rattle.copy_tool.specs.Files.{length_held, pairs, filled}
+use Rattle.strip_tool.specs.elfkit_outcomes.Files.{bytes_named}
+use Rattle.copy_tool.specs.Files.{length_held, pairs, list_if_all_found}
 use Rattle.copy_tool.proofs.NameLemmas.{put_filled, put_stops, put_names}
 use Rattle.copy_tool.proofs.ReadLemmas.{reads_made, made_none, made_stop}
 use Rattle.copy_tool.proofs.files.add_file.Goals as goal
@@ -13,7 +13,7 @@ returns-in-Ok-Some-clause-reads g c =
     reads_made g.F.Files g.O.Sink g.E.Sink (λ m. bytes_named m each.file)
     (λ m. length_held (m each.file)) c.args.files.now _ c.args.outputs.now _
     (λ bytes. pairs list ++ (each.name, bytes) ∷ []) c.in-Ok-Some.bytes
-    (filled c.put_named.result (pairs next))
+    (list_if_all_found c.put_named.result (pairs next))
     (put_filled list next each.name c.in-Ok-Some.bytes c.put_named.result
     c.put_named.ensures.there c.put_named.ensures.ok)
     (put_stops list next each.name c.in-Ok-Some.bytes c.put_named.result

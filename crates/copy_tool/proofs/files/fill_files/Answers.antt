@@ -1,9 +1,9 @@
 use Rattle.std.proofs.Common.{◌+◌, ◌++◌, List, Ok, Result, Option, sym, ap, ◌∙◌, subst, append-nil}
 use Rattle.std.proofs.lemmas.List.{take_all}
 use Rattle.std.proofs.lemmas.Result.{err_from_is_err_and}
-use Rattle.copy_changes.specs.declared.options.NamedFile.{NamedFile}
+use Rattle.rebuild_changes.specs.declared.options.NamedFile.{NamedFile}
 use Rattle.tool_output.specs.declared.stops.Stop.{Stop}
-use Rattle.copy_tool.specs.Files.{ReadsFiles, pairs, byte_names, file_names, filled}
+use Rattle.copy_tool.specs.Files.{ReadsFiles, pairs, byte_names, file_names, list_if_all_found}
 use Rattle.copy_tool.proofs.ByteLemmas.{NamedPairs, read_upto, due_upto, upto_none}
 use Rattle.copy_tool.proofs.NameLemmas.{filled_true, filled_false, names_more}
 use Rattle.copy_tool.proofs.ReadLemmas.{reads_begin}
@@ -31,7 +31,7 @@ loop-each-preserved g c =
           (filled_true c.in_ok-there.there (pairs c.add_file.new.read) c.if-not-there.false)
           (file_step g.F.Files g.O.Sink g.E.Sink (pairs c.args.read.now) c.args.named.now
           c.loop-each.each-index c.each-item.result c.loop-each-test.true c.each-item.is
-          (pairs c.loop-each.read) (filled (Ok c.in_ok-there.there) (pairs c.add_file.new.read))
+          (pairs c.loop-each.read) (list_if_all_found (Ok c.in_ok-there.there) (pairs c.add_file.new.read))
           c.args.files.now c.loop-each.files c.add_file.new.files c.args.outputs.now
           c.loop-each.outputs c.add_file.new.outputs i.reads step.reads);
       names =
@@ -56,7 +56,7 @@ returns-then-not-there-clause-reads g c =
     let step = c.in_ok-there.ensures in
     left_none g.F.Files g.O.Sink g.E.Sink (pairs c.args.read.now) c.args.named.now
     c.loop-each.each-index c.each-item.result c.loop-each-test.true c.each-item.is
-    (pairs c.loop-each.read) (filled (Ok c.in_ok-there.there) (pairs c.add_file.new.read))
+    (pairs c.loop-each.read) (list_if_all_found (Ok c.in_ok-there.there) (pairs c.add_file.new.read))
     c.args.files.now c.loop-each.files c.add_file.new.files c.args.outputs.now
     c.loop-each.outputs c.add_file.new.outputs
     (filled_false c.in_ok-there.there (pairs c.add_file.new.read) c.if-not-there.true) i.reads

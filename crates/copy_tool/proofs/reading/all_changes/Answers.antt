@@ -1,5 +1,5 @@
 use Rattle.std.proofs.Common.{ap, Some, Ok}
-use Rattle.command_objects.specs.Copied.{Changes}
+use Rattle.rebuild_model.specs.Copied.{Changes}
 use Rattle.copy_tool.proofs.reading.all_changes.Goals as goal
 
 pub returns-in-Ok-clause-ok : goal.returns-in-Ok-clause-ok

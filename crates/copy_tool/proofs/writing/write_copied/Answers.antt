@@ -1,16 +1,10 @@
-use Rattle.copy_changes.specs.Stated.{stated_changes}
+use Rattle.rebuild_changes.specs.Stated.{stated_changes}
 use Rattle.copy_tool.proofs.FaultLemmas.{fault_writes}
 use Rattle.copy_tool.proofs.WriteLemmas.{copied_written}
 use Rattle.copy_tool.proofs.writing.write_copied.Goals as goal
 
 pub plan_copied-requires-clause-clean : goal.plan_copied-requires-clause-clean
 plan_copied-requires-clause-clean g c = c.requires.clean
-
-pub plan_copied-requires-clause-tied : goal.plan_copied-requires-clause-tied
-plan_copied-requires-clause-tied g c = c.requires.tied
-
-pub plan_copied-requires-clause-fits : goal.plan_copied-requires-clause-fits
-plan_copied-requires-clause-fits g c = c.requires.fits
 
 pub plan_copied-requires-clause-plain : goal.plan_copied-requires-clause-plain
 plan_copied-requires-clause-plain g c = c.requires.names

@@ -1,8 +1,8 @@
 use Rattle.elf_object.specs.Sections.{in_turn}
-use Rattle.command_objects.specs.Copied.{with_added}
-use Rattle.copy_changes.specs.Stated.{stated_changes}
-use Rattle.copy_edits.proofs.StepLaws.{alter_then, alter_end}
-use Rattle.copy_names.specs.Stores.{named_by}
+use Rattle.rebuild_model.specs.Copied.{with_added}
+use Rattle.rebuild_changes.specs.Stated.{stated_changes}
+use Rattle.rebuild_edits.proofs.edits.StepLaws.{alter_then, alter_end}
+use Rattle.rebuild_edits.specs.Stores.{named_by}
 use Rattle.elf_copy.proofs.NamingLaws.{table_stays}
 use Rattle.elf_copy.proofs.changing.add_and_name.Goals as goal
 

@@ -1,8 +1,8 @@
 use Rattle.elf_object.specs.Sections.{in_turn}
-use Rattle.command_objects.specs.Copied.{with_section_flags}
-use Rattle.copy_changes.specs.Stated.{stated_changes}
-use Rattle.copy_edits.specs.Names.{names_now}
-use Rattle.copy_edits.proofs.StepLaws.{alter_then, alter_end}
+use Rattle.rebuild_model.specs.Copied.{with_section_flags}
+use Rattle.rebuild_changes.specs.Stated.{stated_changes}
+use Rattle.rebuild_edits.specs.Edits.Names.{names_now}
+use Rattle.rebuild_edits.proofs.edits.StepLaws.{alter_then, alter_end}
 use Rattle.elf_copy.specs.Copies.{added_named}
 use Rattle.elf_copy.proofs.NamingLaws.{table_stays}
 use Rattle.elf_copy.proofs.changing.flag_and_add.Goals as goal

@@ -1,5 +1,5 @@
-use Rattle.copy_changes.specs.Stated.{stated_changes}
-use Rattle.copy_edits.proofs.StepLaws.{told_on}
+use Rattle.rebuild_changes.specs.Stated.{stated_changes}
+use Rattle.rebuild_edits.proofs.edits.StepLaws.{told_on}
 use Rattle.elf_copy.proofs.NamingLaws.{usable_stays}
 use Rattle.elf_copy.proofs.ChangeLaws.{changed_then, changed_end}
 use Rattle.elf_copy.proofs.changing.make_changes.Goals as goal

@@ -1,17 +1,17 @@
 use Rattle.std.proofs.Common.{arith}
-use Rattle.command_objects.specs.Copied.{changes_names}
-use Rattle.copy_changes.specs.Stated.{stated_changes}
-use Rattle.copy_edits.specs.Names.{names_now}
-use Rattle.copy_names.specs.Texts.{all_texts}
+use Rattle.rebuild_model.specs.Copied.{changes_names}
+use Rattle.rebuild_changes.specs.Stated.{stated_changes}
+use Rattle.rebuild_edits.specs.Edits.Names.{names_now}
+use Rattle.rebuild_edits.specs.Texts.{all_texts}
 use Rattle.elf_copy.specs.Copies.{after_names}
-use Rattle.elf_copy.proofs.NamingLaws.{usable_as, table_there, planned}
+use Rattle.elf_copy.proofs.NamingLaws.{usable_as, name_table_there, naming_planned}
 use Rattle.elf_copy.proofs.ChangeLaws.{plan_end}
 use Rattle.elf_copy.proofs.changing.plan_and_flag.Goals as goal
 
 pub flag_and_add-requires : goal.flag_and_add-requires
 flag_and_add-requires c =
     let ch = c.args.changes.now in
-    table_there (changes_names (stated_changes ch)) c.args.renewed
+    name_table_there (changes_names (stated_changes ch)) c.args.renewed
     (all_texts c.args.elf.now.o c.args.marks.now ch) c.in-Ok.naming c.plan_names.new.elf.o
     c.in-Ok.ensures.naming
     (usable_as c.args.elf.now.o c.plan_names.new.elf.o c.args.renewed c.in-Ok.ensures.reads.object
@@ -19,7 +19,7 @@ flag_and_add-requires c =
 
 pub returns-in-Ok : goal.returns-in-Ok
 returns-in-Ok c =
-    planned c.args.changes.now c.args.renewed c.args.marks.now c.in-Ok.naming
+    naming_planned c.args.changes.now c.args.renewed c.args.marks.now c.in-Ok.naming
     c.flag_and_add.result c.args.elf.now c.plan_names.new.elf c.flag_and_add.new.elf
     c.in-Ok.ensures.naming c.in-Ok.ensures.reads.object c.in-Ok.ensures.reads.reads.told
     c.flag_and_add.ensures

@@ -1,4 +1,4 @@
-use Rattle.copy_edits.proofs.StepLaws.{told_on}
+use Rattle.rebuild_edits.proofs.edits.StepLaws.{told_on}
 use Rattle.elf_copy.proofs.NamingLaws.{usable_as}
 use Rattle.elf_copy.proofs.ChangeLaws.{renamed_then, renamed_end}
 use Rattle.elf_copy.proofs.changing.rename_and_plan.Goals as goal

@@ -1,4 +1,4 @@
-use Rattle.copy_changes.specs.Stated.{stated_changes}
+use Rattle.rebuild_changes.specs.Stated.{stated_changes}
 use Rattle.elf_copy.proofs.FinishLaws.{usable_low, changed_placed_then, changed_placed_end}
 use Rattle.elf_copy.proofs.NamingLaws.{usable_stays}
 use Rattle.elf_copy.proofs.copying.change_and_place.Goals as goal

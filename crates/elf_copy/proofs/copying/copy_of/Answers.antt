@@ -1,7 +1,7 @@
 use Rattle.std.proofs.Common.{sym, ap, ◌∙◌, subst}
 use Rattle.elf_object.specs.Object.{Object, is_dirty}
-use Rattle.copy_edits.specs.strip_removed.Steps.{IsRemovable}
-use Rattle.copy_changes.specs.Stated.{stated_changes}
+use Rattle.rebuild_edits.specs.rebuild_select.Steps.{IsRemovable}
+use Rattle.rebuild_changes.specs.Stated.{stated_changes}
 use Rattle.elf_copy.proofs.CopyLaws.{copied_all, copied_stop}
 use Rattle.elf_copy.proofs.copying.copy_of.Goals as goal
 

@@ -1,4 +1,4 @@
-use Rattle.copy_changes.specs.Stated.{stated_changes}
+use Rattle.rebuild_changes.specs.Stated.{stated_changes}
 use Rattle.elf_copy.proofs.CopyLaws.{without_made, without_stop}
 use Rattle.elf_copy.proofs.copying.copy_without.Goals as goal
 

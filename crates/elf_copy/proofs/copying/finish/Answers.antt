@@ -1,5 +1,5 @@
 use Rattle.std.proofs.Common.{inr}
-use Rattle.strip_rebuild.specs.declared.rebuilding.Rebuilt.{Rebuilt}
+use Rattle.rebuild_object.specs.rebuild_keep.declared.rebuilding.Rebuilt.{Rebuilt}
 use Rattle.elf_copy.proofs.FinishLaws.{no_section_unread}
 use Rattle.elf_copy.proofs.copying.finish.Goals as goal
 

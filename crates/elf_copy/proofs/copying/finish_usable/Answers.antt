@@ -1,6 +1,6 @@
 use Rattle.std.proofs.Common.{◌∙◌, inl}
-use Rattle.strip_rebuild.specs.declared.rebuilding.Rebuilt.{Rebuilt}
-use Rattle.copy_edits.proofs.FaultLaws.{unread_on}
+use Rattle.rebuild_object.specs.rebuild_keep.declared.rebuilding.Rebuilt.{Rebuilt}
+use Rattle.rebuild_edits.proofs.edits.FaultLaws.{unread_on}
 use Rattle.elf_copy.proofs.copying.finish_usable.Goals as goal
 
 pub returns-in-Ok : goal.returns-in-Ok

@@ -54,7 +54,7 @@ fn is_laying_out(part: Part, bits: u32) -> bool
     is_whole(part) && has_layout(bits)
 }
 
-/// Whether no dirty mark is to be cleared; else `FlagKept`.
+/// Whether no dirty mark would be cleared; else `FlagKept`.
 fn check_kept(set: bool, bits: u32) -> Result<(), ElfError>
     ensures { result ≡ answered (refused_if (not set && has_dirty bits) FlagKept) tt }
 {
@@ -152,7 +152,7 @@ impl Body {
         check_kept(set, bits)
     }
 
-    /// Sets or clears flags of a part, and answers those that it has then; else `NoSection`,
+    /// Sets or clears flags of a part, and returns those that it has then; else `NoSection`,
     /// `NoData`, then `FlagKept`.
     pub fn flag(&mut self, part: Part, set: bool, bits: u32) -> Result<u32, ElfError>
         requires { HasCounts self.old }

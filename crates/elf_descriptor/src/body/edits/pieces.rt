@@ -41,7 +41,7 @@ impl Body {
         cell.replace(d.piece, class, items)
     }
 
-    /// The same; an update may want memory then.
+    /// Gives a piece other items as `replace_there` does; an update may run out of memory then.
     fn replace_unready(&mut self, d: DataId, items: Items) -> Result<(), (Items, ElfError)>
         requires { d.section < length self.old.sections }
         ensures answer { result ≡ handing_back items (answered (replace_refused
@@ -95,7 +95,7 @@ impl Body {
         }
     }
 
-    /// The same; an update may want memory then.
+    /// Adds a piece as `append_there` does; an update may run out of memory then.
     fn append_unready(
         &mut self,
         s: u32,

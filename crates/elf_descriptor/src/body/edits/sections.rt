@@ -16,7 +16,7 @@ use elf_types::{Class, ElfError, ScnId};
 use section_table::Sections;
 use std::alloc::Global;
 
-/// So many new sections, numbered from 0 on. It refuses `Memory` alone.
+/// So many new sections, numbered from 0 on. It fails with `Memory` alone.
 fn first_scns(alloc: Global, class: Class, count: u32) -> Result<Sections, ElfError>
     requires { count ≤ MAX_SECTIONS }
     ensures ok { IfOk result (λ l. l ≡ new_scns 0 count) }
@@ -42,7 +42,7 @@ impl Body {
         self.ready = false;
     }
 
-    /// Gives an object without sections so many. It refuses `Memory` alone.
+    /// Gives an object without sections so many. It fails with `Memory` alone.
     fn begin_sections(&mut self, alloc: Global, count: u32) -> Result<(), ElfError>
         requires counts { HasCounts self.old }
         requires none { length self.old.sections ≡ 0 }
@@ -60,7 +60,7 @@ impl Body {
         }
     }
 
-    /// Adds a new section at the end. It refuses `Memory` alone.
+    /// Adds a new section at the end. It fails with `Memory` alone.
     fn add_section(&mut self) -> Result<(), ElfError>
         requires counts { HasCounts self.old }
         requires room { length self.old.sections < MAX_SECTIONS }
@@ -90,7 +90,7 @@ impl Body {
         Ok(())
     }
 
-    /// Adds sections 0 and 1 to an object without sections, and answers 1. It refuses `Memory`
+    /// Adds sections 0 and 1 to an object without sections, and returns 1. It fails with `Memory`
     /// alone.
     fn newscn_first(&mut self, alloc: Global) -> Result<u32, ElfError>
         requires counts { HasCounts self.old }
@@ -106,7 +106,7 @@ impl Body {
         }
     }
 
-    /// Adds a section at the end, and answers its number. It refuses `Memory` alone.
+    /// Adds a section at the end, and returns its number. It fails with `Memory` alone.
     fn newscn_next(&mut self) -> Result<u32, ElfError>
         requires counts { HasCounts self.old }
         requires room { length self.old.sections < MAX_SECTIONS }
@@ -122,8 +122,8 @@ impl Body {
         }
     }
 
-    /// Adds a section at the end, and section 0 before it where there is none; it answers the
-    /// section's number. It refuses `Memory` alone.
+    /// Adds a section at the end, and section 0 before it where there is none; it returns the
+    /// section's number. It fails with `Memory` alone.
     #[tactic(auto, using(crate::proofs::EditSections::first_or_next))]
     fn newscn_there(&mut self, alloc: Global) -> Result<u32, ElfError>
         requires counts { HasCounts self.old }
@@ -159,7 +159,7 @@ impl Body {
         }
     }
 
-    /// Adds section 0 to an object without sections; another stays as it is. It refuses `Memory`
+    /// Adds section 0 to an object without sections; another stays as it is. It fails with `Memory`
     /// alone.
     pub fn newnull(&mut self, alloc: Global) -> Result<(), ElfError>
         requires { HasCounts self.old }

@@ -16,7 +16,7 @@ use elf_types::constants::PN_XNUM;
 use elf_types::{ElfError, Phdr, Phdrs};
 use std::alloc::Global;
 
-/// So many program headers of zeros. It refuses `Memory` alone.
+/// So many program headers of zeros. It fails with `Memory` alone.
 fn zeroed(alloc: Global, n: u32) -> Result<Phdrs, ElfError>
     ensures ok { IfOk result (λ l. l ≡ replicate n no_phdr) }
     ensures err { IfErr result (λ e. e ≡ Memory) }
@@ -60,7 +60,7 @@ impl Body {
         self.ready = false;
     }
 
-    /// Gives the object so many program headers of zeros. It refuses `Memory` alone.
+    /// Gives the object so many program headers of zeros. It fails with `Memory` alone.
     fn zero_phdrs(&mut self, alloc: Global, n: u32) -> Result<(), ElfError>
         ensures step { OnOk result (IsStepped (calls.newphdr n).after false self.old self.new) }
         ensures unchanged { OnErr result (self.new ≡ self.old) }

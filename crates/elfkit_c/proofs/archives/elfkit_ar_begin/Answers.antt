@@ -1,7 +1,7 @@
 use Rattle.std.proofs.Common.{inl, inr, Ok, refl, sym, ap, ◌∙◌, subst}
 use Rattle.ar_members.specs.Archives.{begun_walk}
-use Rattle.object_handle.specs.Objects.{IsLentAs}
-use Rattle.archive_handle.specs.declared.opened.OpenArchive.{OpenArchive}
+use Rattle.c_handles.specs.Objects.Objects.{IsLentAs}
+use Rattle.c_handles.specs.declared.archives.opened.OpenArchive.{OpenArchive}
 use Rattle.elfkit_c.proofs.Refusals.{refused}
 use Rattle.elfkit_c.proofs.archives.elfkit_ar_begin.Goals as goal
 
@@ -11,7 +11,7 @@ returns-in-Ok-clause-begins c =
       refl,
       c.put.ensures.0,
       c.in-Ok.ensures.opens ∙ ap (λ (x : OpenArchive). Ok x.ar.walk) (sym c.put.ensures.1),
-      subst (λ (x : OpenArchive). IsLentAs c.args.image x.ar.source.loan) (sym c.put.ensures.1)
+      subst (λ (x : OpenArchive). IsLentAs c.args.image x.ar.source) (sym c.put.ensures.1)
           c.in-Ok.ensures.lent,
     )
 

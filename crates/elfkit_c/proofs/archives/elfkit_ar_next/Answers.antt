@@ -1,7 +1,7 @@
 use Rattle.std.proofs.Common.{◌≡◌, ◌⊎◌, length, ◌∙◌}
-use Rattle.object_handle.specs.Objects.{SameLoan}
-use Rattle.archive_handle.specs.declared.opened.OpenArchive.{OpenArchive}
-use Rattle.c_archives.specs.Steps.{bytes_of, Steps, LiesIn}
+use Rattle.c_handles.specs.Objects.Objects.{SameImage}
+use Rattle.c_handles.specs.declared.archives.opened.OpenArchive.{OpenArchive}
+use Rattle.c_calls.specs.Archives.Steps.{bytes_of, Steps, BodyLiesIn}
 use Rattle.elfkit_c.proofs.ArchiveLaws.{carried}
 use Rattle.elfkit_c.proofs.archives.elfkit_ar_next.Goals as goal
 
@@ -16,7 +16,7 @@ pub returns-clause-lies : goal.returns-clause-lies
 returns-clause-lies c =
     let step = c.next_member-number in
     carried (λ (o n : OpenArchive). (step.new.out ≡ c.args.out.now)
-    ⊎ LiesIn (length (bytes_of o)) step.new.out)
+    ⊎ BodyLiesIn (length (bytes_of o)) step.new.out)
     c.args.h.now c.put.new.self c.as_mut.result.now step.new.archive
     (c.as_mut.ensures.value ∙ c.take-archive.ensures.archive) c.put.ensures step.ensures.lies
 
@@ -25,9 +25,9 @@ returns-clause-walks c =
     let step = c.next_member-number in
     let taken = c.as_mut.ensures.value ∙ c.take-archive.ensures.archive in (
       c.put.ensures.0,
-      carried (λ (o n : OpenArchive). SameLoan o.ar.source.loan n.ar.source.loan)
+      carried (λ (o n : OpenArchive). SameImage o.ar.source n.ar.source)
           c.args.h.now c.put.new.self c.as_mut.result.now step.new.archive taken c.put.ensures
-          step.ensures.loan,
+          step.ensures.image,
       carried (λ (o n : OpenArchive). n.symbols ≡ o.symbols)
           c.args.h.now c.put.new.self c.as_mut.result.now step.new.archive taken c.put.ensures
           step.ensures.symbols,

@@ -1,13 +1,13 @@
 use Rattle.std.proofs.Common.{subst, ◌∙◌}
-use Rattle.archive_handle.specs.declared.opened.OpenArchive.{OpenArchive}
-use Rattle.gelf_records.specs.Gives.{Gives}
-use Rattle.c_archives.specs.Forms.{symbol_record, symbol_at}
+use Rattle.c_handles.specs.declared.archives.opened.OpenArchive.{OpenArchive}
+use Rattle.c_records.specs.Gives.{GivesInCForm}
+use Rattle.c_calls.specs.Archives.Forms.{symbol_record, archive_symbol_at}
 use Rattle.elfkit_c.proofs.ArchiveLaws.{keeps_archive}
 use Rattle.elfkit_c.proofs.archives.elfkit_ar_symbol.Goals as goal
 
 pub returns-clause-gives : goal.returns-clause-gives
 returns-clause-gives c =
-    subst (λ (x : OpenArchive). Gives symbol_record (symbol_at x.symbols c.args.i)
+    subst (λ (x : OpenArchive). GivesInCForm symbol_record (archive_symbol_at x.symbols c.args.i)
     c.give_symbol-number.result c.args.out.now c.give_symbol-number.new.out)
     (c.as_ref.ensures ∙ c.take-archive.ensures.archive) c.give_symbol-number.ensures
 

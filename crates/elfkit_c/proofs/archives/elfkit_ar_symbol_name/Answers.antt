@@ -1,5 +1,5 @@
 use Rattle.std.proofs.Common.{◌≡◌, length, slice_get, IfSome, sym, subst, ◌∙◌}
-use Rattle.archive_handle.specs.declared.opened.OpenArchive.{OpenArchive}
+use Rattle.c_handles.specs.declared.archives.opened.OpenArchive.{OpenArchive}
 use Rattle.elfkit_c.proofs.ArchiveLaws.{keeps_archive}
 use Rattle.elfkit_c.proofs.archives.elfkit_ar_symbol_name.Goals as goal
 

@@ -1,14 +1,14 @@
 use Rattle.std.proofs.Common.{◌∙◌}
 use Rattle.elf_descriptor.specs.State.{State}
-use Rattle.lent_bytes.specs.declared.image.Image.{Image}
-use Rattle.c_editing.specs.Edited.{MakesPiece}
+use Rattle.c_handles.specs.declared.lent.image.LentImage.{LentImage}
+use Rattle.c_calls.specs.Editing.Edited.{MakesPiece}
 use Rattle.elfkit_c.proofs.EditLaws.{left_in}
 use Rattle.elfkit_c.proofs.editing.elfkit_newdata.Goals as goal
 
 pub returns-clause-edits : goal.returns-clause-edits
 returns-clause-edits c =
     let done = c.add_bytes-number in
-    left_in (λ (o n : State Image). MakesPiece c.args.section c.args.bytes.now c.args.align
+    left_in (λ (o n : State LentImage). MakesPiece c.args.section c.args.bytes.now c.args.align
     done.result o n c.args.out.now done.new.out)
     c.args.h.now c.put.new.self c.as_mut.result.now done.new.object
     (c.as_mut.ensures.value ∙ c.take-object.ensures.object) c.put.ensures done.ensures

@@ -1,13 +1,13 @@
 use Rattle.std.proofs.Common.{◌∙◌}
 use Rattle.elf_descriptor.specs.State.{State}
-use Rattle.lent_bytes.specs.declared.image.Image.{Image}
-use Rattle.c_editing.specs.Edited.{MakesSection}
+use Rattle.c_handles.specs.declared.lent.image.LentImage.{LentImage}
+use Rattle.c_calls.specs.Editing.Edited.{MakesSection}
 use Rattle.elfkit_c.proofs.EditLaws.{left_in}
 use Rattle.elfkit_c.proofs.editing.elfkit_newscn.Goals as goal
 
 pub returns-clause-edits : goal.returns-clause-edits
 returns-clause-edits c =
-    let done = c.add_section-number in
-    left_in (λ (o n : State Image). MakesSection done.result o n c.args.out.now done.new.out)
+    let done = c.append_new_section-number in
+    left_in (λ (o n : State LentImage). MakesSection done.result o n c.args.out.now done.new.out)
     c.args.h.now c.put.new.self c.as_mut.result.now done.new.object
     (c.as_mut.ensures.value ∙ c.take-object.ensures.object) c.put.ensures done.ensures

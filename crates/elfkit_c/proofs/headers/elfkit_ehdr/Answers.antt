@@ -1,7 +1,7 @@
 use Rattle.std.proofs.Common.{IfOk, ◌≡◌, subst, ◌∙◌}
 use Rattle.elf_object.specs.Calls as calls
-use Rattle.object_handle.specs.declared.opened.OpenObject.{OpenObject}
-use Rattle.gelf_records.specs.Forms.{ehdr_record}
+use Rattle.c_handles.specs.declared.objects.opened.OpenObject.{OpenObject}
+use Rattle.c_records.specs.Forms.{ehdr_record}
 use Rattle.elfkit_c.proofs.HandleLaws.{keeps}
 use Rattle.elfkit_c.proofs.headers.elfkit_ehdr.Goals as goal
 

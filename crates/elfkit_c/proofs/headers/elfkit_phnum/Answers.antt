@@ -1,6 +1,6 @@
 use Rattle.std.proofs.Common.{ap, ◌∙◌}
 use Rattle.elf_object.specs.Calls as calls
-use Rattle.object_handle.specs.declared.opened.OpenObject.{OpenObject}
+use Rattle.c_handles.specs.declared.objects.opened.OpenObject.{OpenObject}
 use Rattle.elfkit_c.proofs.HandleLaws.{keeps}
 use Rattle.elfkit_c.proofs.headers.elfkit_phnum.Goals as goal
 

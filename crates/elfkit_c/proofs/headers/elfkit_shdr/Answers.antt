@@ -1,14 +1,14 @@
 use Rattle.std.proofs.Common.{subst, ◌∙◌}
 use Rattle.elf_object.specs.Calls as calls
-use Rattle.object_handle.specs.declared.opened.OpenObject.{OpenObject}
-use Rattle.gelf_records.specs.Gives.{Gives}
-use Rattle.gelf_records.specs.Forms.{shdr_record}
+use Rattle.c_handles.specs.declared.objects.opened.OpenObject.{OpenObject}
+use Rattle.c_records.specs.Gives.{GivesInCForm}
+use Rattle.c_records.specs.Forms.{shdr_record}
 use Rattle.elfkit_c.proofs.HandleLaws.{keeps}
 use Rattle.elfkit_c.proofs.headers.elfkit_shdr.Goals as goal
 
 pub returns-clause-gives : goal.returns-clause-gives
 returns-clause-gives c =
-    subst (λ (x : OpenObject). Gives shdr_record ((calls.shdr c.args.section).answer x.elf.o)
+    subst (λ (x : OpenObject). GivesInCForm shdr_record ((calls.shdr c.args.section).answer x.elf.o)
     c.give_shdr-number.result c.args.out.now c.give_shdr-number.new.out)
     (c.as_ref.ensures ∙ c.take-object.ensures.object) c.give_shdr-number.ensures
 

@@ -1,9 +1,9 @@
 use Rattle.std.proofs.Common.{subst, ◌∙◌}
 use Rattle.elf_object.specs.Calls as calls
 use Rattle.elf_descriptor.specs.Reads.{wanted}
-use Rattle.object_handle.specs.declared.opened.OpenObject.{OpenObject}
-use Rattle.gelf_records.specs.Gives.{GivesRead}
-use Rattle.gelf_records.specs.Forms.{rel_record}
+use Rattle.c_handles.specs.declared.objects.opened.OpenObject.{OpenObject}
+use Rattle.c_records.specs.Gives.{GivesRead}
+use Rattle.c_records.specs.Forms.{rel_record}
 use Rattle.elfkit_c.proofs.HandleLaws.{holds}
 use Rattle.elfkit_c.proofs.items.elfkit_rel.Goals as goal
 

@@ -1,7 +1,7 @@
 use Rattle.std.proofs.Common.{inl, inr, Ok, refl, sym, ap, ◌∙◌, subst}
 use Rattle.elf_object.specs.Open.{opened}
-use Rattle.object_handle.specs.Objects.{IsLentAs}
-use Rattle.object_handle.specs.declared.opened.OpenObject.{OpenObject}
+use Rattle.c_handles.specs.Objects.Objects.{IsLentAs}
+use Rattle.c_handles.specs.declared.objects.opened.OpenObject.{OpenObject}
 use Rattle.elfkit_c.proofs.Refusals.{refused}
 use Rattle.elfkit_c.proofs.opening.elfkit_begin.Goals as goal
 
@@ -11,7 +11,7 @@ returns-in-Ok-clause-begins c =
       refl,
       c.put.ensures.0,
       c.in-Ok.ensures.opens ∙ ap (λ (x : OpenObject). Ok x.elf.o) (sym c.put.ensures.1),
-      subst (λ (x : OpenObject). IsLentAs c.args.image x.elf.source.loan) (sym c.put.ensures.1)
+      subst (λ (x : OpenObject). IsLentAs c.args.image x.elf.source) (sym c.put.ensures.1)
           c.in-Ok.ensures.lent,
     )
 

@@ -1,8 +1,8 @@
 use Rattle.std.proofs.Common.{subst, ◌∙◌}
 use Rattle.elf_object.specs.Strings as strings
 use Rattle.elf_descriptor.specs.Reads.{wanted}
-use Rattle.object_handle.specs.declared.opened.OpenObject.{OpenObject}
-use Rattle.gelf_records.specs.Gives.{GivesRead}
+use Rattle.c_handles.specs.declared.objects.opened.OpenObject.{OpenObject}
+use Rattle.c_records.specs.Gives.{GivesRead}
 use Rattle.std.proofs.Common.{ℕ, List, length}
 use Rattle.elfkit_c.proofs.HandleLaws.{holds}
 use Rattle.elfkit_c.proofs.strings.elfkit_string.Goals as goal

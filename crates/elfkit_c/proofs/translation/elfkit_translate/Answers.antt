@@ -1,4 +1,4 @@
-use Rattle.c_translation.specs.Numbers.{kind_from, class_from, order_from}
+use Rattle.c_calls.specs.Translation.Numbers.{kind_from, class_from, order_from}
 use Rattle.elfkit_c.proofs.TranslationLaws.{translated_by}
 use Rattle.elfkit_c.proofs.translation.elfkit_translate.Goals as goal
 

@@ -22,5 +22,5 @@ returns-then-holds_name-clause-answer g c =
 
 pub returns-then-holds_name-clause-queries : goal.returns-then-holds_name-clause-queries
 returns-then-holds_name-clause-queries g c =
-    queries_nothing g.S.Source (names.is_named c.args.s.0 c.args.name.now)
+    queries_nothing g.S.Source (names.is_section_named c.args.s.0 c.args.name.now)
     (Ok c.held_is.result) c.args.elf.now tt

@@ -1,7 +1,7 @@
 use Rattle.std.proofs.Common.{◌+◌, List, ℕ, Option, Ok, Err, refl, sym, ap, ◌∙◌}
 use Rattle.elf_descriptor.specs.elf_object.Strings as strings
 use Rattle.elf_descriptor.specs.Reads.{wanted}
-use Rattle.gelf_view.specs.Records.{front_of}
+use Rattle.gelf_view.specs.Records.{first_bytes_of}
 use Rattle.gelf_view.specs.SectionNames as names
 use Rattle.gelf_view.proofs.FetchLemmas.{queries_nothing}
 use Rattle.gelf_view.proofs.NameCalls.{ok_is, same_name, front_queries, refused_queries, front_answers, front_refused}
@@ -24,7 +24,7 @@ returns-then-holds_name g c =
         answer = (
           refl,
           λ told. ap Ok (sym (c.held_front.ensures told
-              ∙ ap (λ (found : Option (List ℕ)). front_of n found)
+              ∙ ap (λ (found : Option (List ℕ)). first_bytes_of n found)
               (sym (same_name g.S.Source st c.args.s.0 c.shstrndx-names.result c.from-at.result
               (sym (ok_is _ _ c.shstrndx-names.ensures))
               (c.holds_name.ensures.some c.if-holds_name.true)
@@ -46,7 +46,7 @@ returns-in-Ok g c =
             c.section_name.follows.holds-at-none c.in-Ok.name c.front_of_found.result c.in-Ok.is,
       ),
       record {
-        answer = front_answers st.told (wanted (names.section_name s) st) n _
+        answer = front_answers st.told (wanted (names.read_section_name s) st) n _
             (strings.section_name st.o s) _ c.front_of_found.ensures c.in-Ok.ensures.answer;
         rests = tt;
       },
@@ -64,8 +64,8 @@ returns-in-Err g c =
             c.section_name.follows.holds-at-none c.in-Err.e c.in-Err.is,
       ),
       record {
-        answer = front_refused st.told (wanted (names.section_name s) st) c.in-Err.e
-            (strings.section_name st.o s) (front_of n (strings.section_name st.o s))
+        answer = front_refused st.told (wanted (names.read_section_name s) st) c.in-Err.e
+            (strings.section_name st.o s) (first_bytes_of n (strings.section_name st.o s))
             c.in-Err.ensures.answer;
         rests = tt;
       },

@@ -1,5 +1,5 @@
 use Rattle.std.proofs.Common.{◌+◌, List, ℕ, Option, sym, ap, ◌∙◌}
-use Rattle.gelf_view.specs.Records.{front_of}
+use Rattle.gelf_view.specs.Records.{first_bytes_of}
 use Rattle.gelf_view.proofs.EndedStrings.{last_nul}
 use Rattle.gelf_view.proofs.strings.front_of_string.Goals as goal
 
@@ -13,4 +13,4 @@ returns-then-end_in_nul c = c.front_of_ended.ensures
 pub returns : goal.returns
 returns c =
     c.front_of_found.ensures
-    ∙ ap (λ (found : Option (List ℕ)). front_of (c.args.longest + 1) found) c.string_in.ensures
+    ∙ ap (λ (found : Option (List ℕ)). first_bytes_of (c.args.longest + 1) found) c.string_in.ensures

@@ -2,13 +2,13 @@ use Rattle.std.proofs.Common.{◌+◌, ◌-◌, List, ℕ, Option, drop, take, l
 use Rattle.std.proofs.lemmas.List.{take_all, length-drop}
 use Rattle.elf_descriptor.specs.elf_object.Strings.{is_name}
 use Rattle.gelf_view.specs.Records.{string_front}
-use Rattle.gelf_view.proofs.EndedStrings.{no_string, short_name}
+use Rattle.gelf_view.proofs.EndedStrings.{no_string_past_end, short_name}
 use Rattle.gelf_view.proofs.strings.is_string_at.Goals as goal
 
 pub returns-then-bytes-at : goal.returns-then-bytes-at
 returns-then-bytes-at c =
     ap (λ (found : Option (List ℕ)). is_name c.args.name.now found)
-    (no_string c.args.bytes.now c.args.place c.if-bytes-at.true)
+    (no_string_past_end c.args.bytes.now c.args.place c.if-bytes-at.true)
 
 pub returns : goal.returns
 returns c =

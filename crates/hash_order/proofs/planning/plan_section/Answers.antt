@@ -4,7 +4,7 @@ use Rattle.symbol_lookup.specs.elf_object.Answers.{count_at}
 use Rattle.hash_order.specs.declared.nexts.Next.{Next}
 use Rattle.hash_order.specs.declared.nexts.Next.TheVariants as nexts
 use Rattle.hash_order.specs.Kinds.{CanFollow}
-use Rattle.hash_order.specs.Plans.{IsNext, planned_signature}
+use Rattle.hash_order.specs.Plans.{IsStatedNext, planned_signature}
 use Rattle.hash_order.specs.Calls.{all_homes}
 use Rattle.hash_order.proofs.FollowLaws.{by_index, section_passed, follower_passed, follower_moves, follower_home, plan_other, plan_group, plan_kind, linked_is, kind_is}
 use Rattle.hash_order.proofs.PlanLaws.{order_below, signature_next, signature_ready, not_first}
@@ -13,7 +13,7 @@ use Rattle.hash_order.proofs.planning.plan_section.Goals as goal
 
 pub returns-then-header-s-clause-next : goal.returns-then-header-s-clause-next
 returns-then-header-s-clause-next g c =
-    subst (λ (x : Next). IsNext c.args.elf.now.told nexts.Stay x)
+    subst (λ (x : Next). IsStatedNext c.args.elf.now.told nexts.Stay x)
     (sym (plan_other c.args.elf.now.o c.args.s.0 c.args.n c.args.order.now
     c.section_header-header.result c.section_header-header.ensures
     c.if-header-s.true)) tt
@@ -28,7 +28,7 @@ plan_signature-requires-clause-below g c = order_below c.args.order.now _ c.requ
 pub returns-then-is_group-clause-next : goal.returns-then-is_group-clause-next
 returns-then-is_group-clause-next g c =
     rw c.plan_signature.ensures
-    (subst (λ (x : Next). IsNext c.args.elf.now.told
+    (subst (λ (x : Next). IsStatedNext c.args.elf.now.told
     (planned_signature c.args.order.now c.section_header-header.result.info) x)
     (sym (plan_group c.args.elf.now.o c.args.s.0 c.args.n c.args.order.now
     c.section_header-header.result c.section_header-header.ensures
@@ -76,7 +76,7 @@ plan_items-requires-clause-moves g c =
 
 pub returns-in-Some-clause-next : goal.returns-in-Some-clause-next
 returns-in-Some-clause-next g c =
-    subst (λ (y : Next). IfOk c.plan_items.result (λ x. IsNext c.args.elf.now.told x y))
+    subst (λ (y : Next). IfOk c.plan_items.result (λ x. IsStatedNext c.args.elf.now.told x y))
     (sym (plan_kind c.args.elf.now.o c.args.s.0 c.args.n c.args.order.now
     c.section_header-header.result c.section_header-header.ensures (Some c.in-Some.kind)
     c.if-header-s.false (sym c.is_group.ensures ∙ c.if-is_group.false)
@@ -93,7 +93,7 @@ returns-in-Some-clause-reads g c =
 
 pub returns-in-None-clause-next : goal.returns-in-None-clause-next
 returns-in-None-clause-next g c =
-    subst (λ (x : Next). IsNext c.args.elf.now.told nexts.Stay x)
+    subst (λ (x : Next). IsStatedNext c.args.elf.now.told nexts.Stay x)
     (sym (plan_kind c.args.elf.now.o c.args.s.0 c.args.n c.args.order.now
     c.section_header-header.result c.section_header-header.ensures None
     c.if-header-s.false (sym c.is_group.ensures ∙ c.if-is_group.false)

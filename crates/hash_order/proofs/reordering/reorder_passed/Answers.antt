@@ -1,7 +1,7 @@
 use Rattle.std.proofs.Common.{sym, subst}
 use Rattle.elf_types.specs.declared.errors.ElfError.{ElfError}
 use Rattle.hash_order.specs.Calls.{all_homes}
-use Rattle.hash_order.specs.Reading.{MayStop}
+use Rattle.hash_order.specs.Reading.{MayStopReading}
 use Rattle.hash_order.proofs.EndLaws.{reorders_none, memory_free}
 use Rattle.hash_order.proofs.PlanLaws.{order_below}
 use Rattle.hash_order.proofs.reordering.reorder_passed.Goals as goal
@@ -17,5 +17,5 @@ returns-in-Err-clause-reorders g c =
 pub returns-in-Err-clause-ended : goal.returns-in-Err-clause-ended
 returns-in-Err-clause-ended g c =
     subst (λ (d : ElfError).
-    MayStop c.args.elf.now (all_homes c.args.elf.now.o c.args.s.0) d)
+    MayStopReading c.args.elf.now (all_homes c.args.elf.now.o c.args.s.0) d)
     (sym c.in-Err.ensures.err) tt

@@ -1,6 +1,6 @@
 use Rattle.std.proofs.Common.{◌-◌, sym, subst}
 use Rattle.elf_object.specs.Object.{Object}
-use Rattle.object_output.proofs.ElfSteps.{elf_as, elf_learns, elf_learns_none}
+use Rattle.tool_objects.proofs.ElfSteps.{elf_as, elf_learns, elf_learns_none}
 use Rattle.nm_tool.specs.Pools.{pool_of}
 use Rattle.nm_tool.specs.Tables.{AreTables}
 use Rattle.nm_tool.specs.Tool.{rows_report}

@@ -1,6 +1,6 @@
 use Rattle.std.proofs.Common.{◌∙◌, ap, sym}
 use Rattle.tool_output.specs.Reports.{reports_of}
-use Rattle.object_output.proofs.ElfSteps.{elf_as}
+use Rattle.tool_objects.proofs.ElfSteps.{elf_as}
 use Rattle.nm_tool.specs.PoolReports.{row_report, pool_report}
 use Rattle.nm_tool.proofs.ToolLemmas.{rows_reported, no_memory}
 use Rattle.nm_tool.proofs.copied.show_pool.Goals as goal

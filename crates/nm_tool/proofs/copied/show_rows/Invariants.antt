@@ -1,6 +1,6 @@
 use Rattle.std.proofs.Common.{drop}
 use Rattle.tool_output.specs.Reports.{reports_of}
-use Rattle.object_output.specs.Steps.{ElfUnderWay}
+use Rattle.tool_objects.specs.Steps.{ElfUnderWay}
 use Rattle.nm_tool.specs.PoolReports.{row_report}
 use Rattle.nm_tool.proofs.copied.show_rows.Given as goal
 

@@ -1,8 +1,8 @@
 use Rattle.std.proofs.Common.{◌≡◌, ℕ, List, Option, length, take, drop, IfSome, refl, sym, ap, subst, ◌∙◌, arith}
 use Rattle.elf_types.specs.declared.records.Kind.TheVariants as kinds
 use Rattle.elf_xlate.specs.Translation.{is_whole}
-use Rattle.object_output.proofs.SourceSteps.{after_read}
-use Rattle.front_symbols.specs.Tables.{IsPlain}
+use Rattle.tool_objects.proofs.SourceSteps.{after_read}
+use Rattle.nm_front.specs.Tables.{IsPlain}
 use Rattle.nm_tool.proofs.FrontSteps.{range_stops, range_unread}
 use Rattle.nm_tool.proofs.front.show_plain.Goals as goal
 

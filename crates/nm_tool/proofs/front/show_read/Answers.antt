@@ -3,7 +3,7 @@ use Rattle.std.proofs.lemmas.Bool.{eqb-true}
 use Rattle.elf_object.specs.Open.{begun}
 use Rattle.tool_output.specs.Reports.{Report, Reports, no_report}
 use Rattle.tool_output.proofs.SourceLemmas.{reports_after}
-use Rattle.front_symbols.specs.Tables.{IsPlain}
+use Rattle.nm_front.specs.Tables.{IsPlain}
 use Rattle.nm_tool.specs.Tool.{rows_report}
 use Rattle.nm_tool.proofs.FrontLemmas.{plain_held, rows_told, plain_rows, no_rows}
 use Rattle.nm_tool.proofs.FrontSteps.{of_both, of_three, range_stops, range_unread, want_stops, says_none}

@@ -1,6 +1,6 @@
 use Rattle.std.proofs.Common.{arith}
 use Rattle.nm_tool.specs.Kept.{kept_of}
-use Rattle.object_output.proofs.LearnLemmas.{learns_now, learns_then}
+use Rattle.tool_objects.proofs.LearnLemmas.{learns_now, learns_then}
 use Rattle.nm_tool.proofs.KeptLemmas.{kept_next}
 use Rattle.nm_tool.proofs.kept.kept_by_calls.Goals as goal
 

@@ -1,5 +1,5 @@
 use Rattle.std.proofs.Common.{◌-◌, ◌≤◌, Ok}
-use Rattle.object_output.specs.Steps.{Learns}
+use Rattle.tool_objects.specs.Steps.{Learns}
 use Rattle.nm_tool.specs.Kept.{kept_of}
 use Rattle.nm_tool.proofs.kept.kept_by_calls.Given as goal
 

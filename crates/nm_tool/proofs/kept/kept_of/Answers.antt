@@ -1,6 +1,6 @@
 use Rattle.std.proofs.Common.{◌-◌, ◌∙◌, sym, subst}
 use Rattle.elf_object.specs.Object.{Object}
-use Rattle.object_output.proofs.LearnLemmas.{learns_now, learns_after, learns_stop}
+use Rattle.tool_objects.proofs.LearnLemmas.{learns_now, learns_after, learns_stop}
 use Rattle.nm_tool.specs.Kept.{kept_of}
 use Rattle.nm_tool.specs.Tables.{AreTables}
 use Rattle.nm_tool.proofs.PlainLemmas.{kept_none}

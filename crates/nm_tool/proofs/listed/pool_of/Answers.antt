@@ -1,6 +1,6 @@
 use Rattle.std.proofs.Common.{arith}
 use Rattle.nm_tool.specs.Pools.{pool_of}
-use Rattle.object_output.proofs.LearnLemmas.{learns_now, learns_then}
+use Rattle.tool_objects.proofs.LearnLemmas.{learns_now, learns_then}
 use Rattle.nm_tool.proofs.PoolLemmas.{pool_next}
 use Rattle.nm_tool.proofs.listed.pool_of.Goals as goal
 

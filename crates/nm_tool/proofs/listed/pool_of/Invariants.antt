@@ -1,5 +1,5 @@
 use Rattle.std.proofs.Common.{◌-◌, ◌≤◌, Ok}
-use Rattle.object_output.specs.Steps.{Learns}
+use Rattle.tool_objects.specs.Steps.{Learns}
 use Rattle.nm_tool.specs.Pools.{pool_of}
 use Rattle.nm_tool.proofs.listed.pool_of.Given as goal
 

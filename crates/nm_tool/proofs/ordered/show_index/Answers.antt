@@ -2,9 +2,9 @@ use Rattle.std.proofs.Common.{Some, None, refl, sym, subst}
 use Rattle.std.specs.Prelude.{slice_get}
 use Rattle.elf_object.specs.Object.{Object}
 use Rattle.tool_output.specs.Reports.{no_report}
-use Rattle.object_output.proofs.ElfSteps.{elf_left, elf_says_none, elf_learns, elf_learns_none}
-use Rattle.bytes_at_hand.proofs.Ends.{end_stays}
-use Rattle.nm_tool.specs.Listed.{symbols}
+use Rattle.tool_objects.proofs.ElfSteps.{elf_left, elf_says_none, elf_learns, elf_learns_none}
+use Rattle.tool_objects.proofs.at_hand.Ends.{end_stays}
+use Rattle.nm_tool.specs.Listed.{symbols_in_table}
 use Rattle.nm_tool.specs.Kept.{row_if, index_report}
 use Rattle.nm_tool.specs.Tables.{AreTables}
 use Rattle.nm_tool.proofs.ordered.show_index.Goals as goal
@@ -26,7 +26,7 @@ returns-in-Ok-Some g c =
     let f = c.args.form in
     let s = c.args.t.symbols.0 in
     let i = c.args.i in
-    elf_learns g.S.Source g.O.Sink g.E.Sink (λ o. slice_get (symbols o s) i) c.args.elf.now _
+    elf_learns g.S.Source g.O.Sink g.E.Sink (λ o. slice_get (symbols_in_table o s) i) c.args.elf.now _
     (Some c.in-Ok-Some.symbol) (λ v o. row_if f.options.now f.file.now o s i v) _ _
     c.args.outputs.now _ (rw c.in-Ok-Some.field-0-is at c.in-Ok-Some.ensures)
     c.show_looked.ensures
@@ -37,7 +37,7 @@ returns-in-Ok-None g c =
     let f = c.args.form in
     let s = c.args.t.symbols.0 in
     let i = c.args.i in
-    elf_learns g.S.Source g.O.Sink g.E.Sink (λ o. slice_get (symbols o s) i) c.args.elf.now _ None
+    elf_learns g.S.Source g.O.Sink g.E.Sink (λ o. slice_get (symbols_in_table o s) i) c.args.elf.now _ None
     (λ v o. row_if f.options.now f.file.now o s i v) _ _ c.args.outputs.now _
     (rw c.in-Ok-None.field-0-is at c.in-Ok-None.ensures)
     (elf_says_none g.S.Source g.O.Sink g.E.Sink (λ o. no_report) _ _ _ (elf_left g.S.Source _)
@@ -47,6 +47,6 @@ pub returns-in-Err : goal.returns-in-Err
 returns-in-Err g c =
     let f = c.args.form in
     let s = c.args.t.symbols.0 in
-    elf_learns_none g.S.Source g.O.Sink g.E.Sink (λ o. slice_get (symbols o s) c.args.i)
+    elf_learns_none g.S.Source g.O.Sink g.E.Sink (λ o. slice_get (symbols_in_table o s) c.args.i)
     c.args.elf.now _ c.in-Err.stop (λ o. index_report f.options.now f.file.now o s c.args.i)
     c.args.outputs.now c.in-Err.ensures

@@ -3,8 +3,8 @@ use Rattle.std.proofs.lemmas.Result.{err_from_is_err_and}
 use Rattle.elf_object.specs.Object.{Object}
 use Rattle.tool_output.specs.Reports.{reports_of}
 use Rattle.tool_output.proofs.UnderWayLemmas.{reports_left, no_reports_left}
-use Rattle.object_output.proofs.ElfSteps.{elf_begins, elf_goes_on, elf_stops_at, elf_is_given}
-use Rattle.bytes_at_hand.proofs.Ends.{end_stays}
+use Rattle.tool_objects.proofs.ElfSteps.{elf_begins, elf_goes_on, elf_stops_at, elf_is_given}
+use Rattle.tool_objects.proofs.at_hand.Ends.{end_stays}
 use Rattle.nm_tool.specs.Tables.{AreTables}
 use Rattle.nm_tool.specs.Kept.{kept_report}
 use Rattle.nm_tool.proofs.ordered.show_order.Goals as goal

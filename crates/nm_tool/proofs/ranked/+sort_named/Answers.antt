@@ -1,17 +1,17 @@
 use Rattle.std.proofs.Common.{◌≡◌, ◌-◌, ◌<◌, ◌≤◌, drop, get_or, length, ap, ◌∙◌, arith}
 use Rattle.std.proofs.lemmas.List.{get_or_default, length-take, length-drop}
 use Rattle.nm_tool.specs.declared.kept.Kept.{Kept}
-use Rattle.nm_tool.specs.Kept.{shown_in}
+use Rattle.nm_tool.specs.Kept.{shown_name_in}
 use Rattle.nm_tool.proofs.Ranking.{shown_small}
 use Rattle.nm_tool.proofs.Runs.{runs_begin, runs_next, runs_all, parted_next}
 use Rattle.nm_tool.proofs.ranked.+sort_named.Goals as goal
 
 pub loop-at-init : goal.loop-at-init
-loop-at-init t c = runs_begin (shown_in c.args.strings.now) c.sort_by_keys.new.rows
+loop-at-init t c = runs_begin (shown_name_in c.args.strings.now) c.sort_by_keys.new.rows
 
 pub loop-at-preserved-then-are_compared : goal.loop-at-preserved-then-are_compared
 loop-at-preserved-then-are_compared t c =
-    let name_of = shown_in c.args.strings.now in
+    let name_of = shown_name_in c.args.strings.now in
     let small = shown_small c.args.strings.now c.requires in
     let old = c.sort_by_keys.new.rows in
     let new = c.loop-at.rows in
@@ -42,7 +42,7 @@ loop-at-preserved-then-are_compared t c =
 
 pub loop-at-preserved : goal.loop-at-preserved
 loop-at-preserved t c =
-    let name_of = shown_in c.args.strings.now in
+    let name_of = shown_name_in c.args.strings.now in
     let small = shown_small c.args.strings.now c.requires in
     let old = c.sort_by_keys.new.rows in
     let new = c.loop-at.rows in
@@ -73,5 +73,5 @@ loop-at-preserved t c =
 
 pub returns : goal.returns
 returns t c =
-    runs_all (shown_in c.args.strings.now) c.sort_by_keys.new.rows c.loop-at.rows c.loop-at.at
+    runs_all (shown_name_in c.args.strings.now) c.sort_by_keys.new.rows c.loop-at.rows c.loop-at.at
     c.loop-at.invariant (omega (arith, c.loop-at-test.false)) ∙ c.sort_by_keys.ensures.moved

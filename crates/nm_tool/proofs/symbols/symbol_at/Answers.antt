@@ -2,11 +2,11 @@ use Rattle.std.proofs.Common.{◌≡◌, Option, IfOk, subst}
 use Rattle.elf_types.specs.declared.records.Kind.TheVariants as kinds
 use Rattle.elf_types.specs.declared.records.Sym.{Sym}
 use Rattle.elf_object.specs.Answers.{items_at, syms_of, lend_refusal, entry_answer}
-use Rattle.object_output.specs.elf_descriptor.Entries.{entry}
-use Rattle.object_output.specs.elf_descriptor.Reads.{wanted}
+use Rattle.tool_objects.specs.elf_descriptor.Entries.{entry}
+use Rattle.tool_objects.specs.elf_descriptor.Reads.{wanted}
 use Rattle.tool_output.specs.Stops.{value_or_stop}
-use Rattle.object_output.proofs.OnceReads.{once_read}
-use Rattle.object_output.proofs.QueryLemmas.{learns_unless, unless_stated, value_there}
+use Rattle.tool_objects.proofs.OnceReads.{once_read}
+use Rattle.tool_objects.proofs.QueryLemmas.{learns_unless, unless_stated, value_there}
 use Rattle.nm_tool.proofs.symbols.symbol_at.Goals as goal
 
 pub returns : goal.returns

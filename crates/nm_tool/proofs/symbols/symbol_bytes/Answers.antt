@@ -1,4 +1,4 @@
-use Rattle.bytes_at_hand.proofs.Ends.{some_weaker}
+use Rattle.tool_objects.proofs.at_hand.Ends.{some_weaker}
 use Rattle.nm_tool.specs.Tables.{HoldsSymbols}
 use Rattle.nm_tool.proofs.symbols.symbol_bytes.Goals as goal
 

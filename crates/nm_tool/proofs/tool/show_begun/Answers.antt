@@ -1,7 +1,7 @@
 use Rattle.std.proofs.Common.{arith}
 use Rattle.std.specs.Prelude.{codes}
 use Rattle.nm_tool.specs.Tool.{nm_report}
-use Rattle.nm_tool.proofs.FrontSteps.{begun_reports, begun_asked, refused_begun, went_well, always}
+use Rattle.nm_tool.proofs.FrontSteps.{begun_reports, begun_asked, refused_begun, went_well, if_some_of_all}
 use Rattle.nm_tool.proofs.tool.show_begun.Goals as goal
 
 pub returns-in-Ok-clause-reports : goal.returns-in-Ok-clause-reports
@@ -30,4 +30,4 @@ returns-in-Err-clause-reports g c =
 pub returns-in-Err-clause-asked : goal.returns-in-Err-clause-asked
 returns-in-Err-clause-asked g c =
     rw c.in-Err.ensures.back.0 (went_well c.refuse-refused.result _
-    (always _ (g.S.Source.holds c.args.src) (λ image. omega arith)))
+    (if_some_of_all _ (g.S.Source.holds c.args.src) (λ image. omega arith)))

@@ -2,14 +2,14 @@ use Rattle.std.proofs.Common.{◌≡◌, ◌+◌, ◌≤◌, ℕ, List, length, 
 use Rattle.std.specs.Prelude.{codes}
 use Rattle.elf_object.specs.Open.{begun, opened}
 use Rattle.tool_output.specs.Reports.{Report, Reports}
-use Rattle.object_output.specs.Images.{image_report}
-use Rattle.object_output.specs.Steps.{homes_total}
-use Rattle.front_symbols.specs.Tables.{IsPlain}
-use Rattle.front_symbols.proofs.PlainLaws.{plain_within}
+use Rattle.tool_objects.specs.Images.{image_report}
+use Rattle.tool_objects.specs.Steps.{homes_total}
+use Rattle.nm_front.specs.Tables.{IsPlain}
+use Rattle.nm_front.proofs.PlainLaws.{plain_within}
 use Rattle.nm_tool.specs.Tool.{rows_report, nm_report}
 use Rattle.nm_tool.proofs.ToolLemmas.{table_absent}
 use Rattle.nm_tool.proofs.FrontLemmas.{image_nm, none_found, plain_said}
-use Rattle.nm_tool.proofs.FrontSteps.{always, of_both, went_well, says_now, said_as}
+use Rattle.nm_tool.proofs.FrontSteps.{if_some_of_all, of_both, went_well, says_now, said_as}
 use Rattle.nm_tool.proofs.tool.show_front.Goals as goal
 
 pub returns-in-Missing-clause-reports : goal.returns-in-Missing-clause-reports
@@ -34,7 +34,7 @@ returns-in-Missing-clause-reports g c =
 pub returns-in-Missing-clause-asked : goal.returns-in-Missing-clause-asked
 returns-in-Missing-clause-asked g c =
     went_well c.note_none-noted.result _
-    (always _ (g.S.Source.holds c.args.src) (λ image. omega arith))
+    (if_some_of_all _ (g.S.Source.holds c.args.src) (λ image. omega arith))
 
 pub show_plain-shown-requires-clause-plain : goal.show_plain-shown-requires-clause-plain
 show_plain-shown-requires-clause-plain g c =

@@ -1,6 +1,6 @@
 use Rattle.std.proofs.Common.{map, ap, sym, ◌∙◌}
 use Rattle.tool_output.specs.Reports.{reports_of}
-use Rattle.object_output.proofs.ElfSteps.{elf_as}
+use Rattle.tool_objects.proofs.ElfSteps.{elf_as}
 use Rattle.nm_tool.specs.declared.kept.Kept.{Kept}
 use Rattle.nm_tool.specs.Kept.{kept_report}
 use Rattle.nm_tool.specs.Tool.{rows_report}

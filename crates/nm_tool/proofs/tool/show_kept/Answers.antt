@@ -1,9 +1,9 @@
 use Rattle.std.proofs.Common.{◌≡◌, ◌-◌, Bool, length, IsTrue, refl, sym, subst, ◌∙◌}
 use Rattle.std.proofs.lemmas.Bool.{eqb-true}
 use Rattle.elf_object.specs.Object.{Object}
-use Rattle.object_output.proofs.ElfSteps.{elf_left, elf_says_none, elf_after, elf_unread}
+use Rattle.tool_objects.proofs.ElfSteps.{elf_left, elf_says_none, elf_after, elf_unread}
 use Rattle.nm_tool.specs.Kept.{kept_of}
-use Rattle.nm_tool.specs.Listed.{symbols}
+use Rattle.nm_tool.specs.Listed.{symbols_in_table}
 use Rattle.nm_tool.specs.Tables.{AreTables}
 use Rattle.nm_tool.specs.Tool.{rows_report}
 use Rattle.nm_tool.proofs.KeptLemmas.{none_reported}
@@ -33,7 +33,7 @@ show_loaded-requires-clause-list g c = λ told.
 
 pub show_loaded-requires-clause-count : goal.show_loaded-requires-clause-count
 show_loaded-requires-clause-count g c =
-    subst (λ (o : Object). c.args.count ≡ length (symbols o c.args.t.symbols.0))
+    subst (λ (o : Object). c.args.count ≡ length (symbols_in_table o c.args.t.symbols.0))
     (sym c.in-Ok.ensures.elf.object) c.requires.count
 
 pub returns-in-Ok : goal.returns-in-Ok

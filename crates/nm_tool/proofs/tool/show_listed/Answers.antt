@@ -1,8 +1,8 @@
 use Rattle.std.proofs.Common.{◌≡◌, ◌-◌, Bool, length, IsTrue, refl, sym, subst}
 use Rattle.elf_object.specs.Object.{Object}
-use Rattle.object_output.proofs.ElfSteps.{elf_after, elf_learns_none}
+use Rattle.tool_objects.proofs.ElfSteps.{elf_after, elf_learns_none}
 use Rattle.nm_tool.specs.Kept.{kept_of}
-use Rattle.nm_tool.specs.Listed.{symbols}
+use Rattle.nm_tool.specs.Listed.{symbols_in_table}
 use Rattle.nm_tool.specs.Tables.{AreTables}
 use Rattle.nm_tool.specs.Tool.{rows_report}
 use Rattle.nm_tool.proofs.tool.show_listed.Goals as goal
@@ -21,7 +21,7 @@ show_kept-requires-clause-list g c = λ told.
 
 pub show_kept-requires-clause-count : goal.show_kept-requires-clause-count
 show_kept-requires-clause-count g c =
-    subst (λ (o : Object). c.args.count ≡ length (symbols o c.args.t.symbols.0))
+    subst (λ (o : Object). c.args.count ≡ length (symbols_in_table o c.args.t.symbols.0))
     (sym c.in-Ok.ensures.reads.elf.object) c.requires.count
 
 pub returns-in-Ok : goal.returns-in-Ok

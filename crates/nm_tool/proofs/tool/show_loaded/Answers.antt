@@ -1,6 +1,6 @@
 use Rattle.std.proofs.Common.{refl, sym, subst}
 use Rattle.tool_output.specs.Reports.{Report, Reports}
-use Rattle.object_output.proofs.ElfSteps.{elf_left, elf_says}
+use Rattle.tool_objects.proofs.ElfSteps.{elf_left, elf_says}
 use Rattle.nm_tool.specs.Tool.{rows_report}
 use Rattle.nm_tool.proofs.KeptLemmas.{kept_rows, names_held}
 use Rattle.nm_tool.proofs.PlaceLemmas.{plain_told}

@@ -1,6 +1,6 @@
 use Rattle.elf_types.specs.declared.records.Kind.TheVariants as kinds
 use Rattle.elf_object.specs.Answers.{lend_refusal}
-use Rattle.object_output.proofs.ElfSteps.{elf_left, elf_as, elf_says}
+use Rattle.tool_objects.proofs.ElfSteps.{elf_left, elf_as, elf_says}
 use Rattle.nm_tool.specs.Tool.{table_report, nm_report}
 use Rattle.nm_tool.proofs.ToolLemmas.{table_found, table_absent}
 use Rattle.nm_tool.proofs.tool.show_symbols.Goals as goal

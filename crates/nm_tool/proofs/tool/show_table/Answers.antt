@@ -2,9 +2,9 @@ use Rattle.std.proofs.Common.{sym, ◌∙◌}
 use Rattle.elf_types.specs.declared.records.Kind.TheVariants as kinds
 use Rattle.elf_object.specs.Answers.{count_at, items_at, lend_refusal}
 use Rattle.elf_object.proofs.AnswerLaws.{answered_value, answered_refusal, lend_kind}
-use Rattle.object_output.proofs.ElfSteps.{elf_left, elf_as, elf_says}
+use Rattle.tool_objects.proofs.ElfSteps.{elf_left, elf_as, elf_says}
 use Rattle.nm_tool.specs.Tool.{rows_report, table_report}
-use Rattle.front_symbols.proofs.PlainLaws.{syms_counted}
+use Rattle.nm_front.proofs.PlainLaws.{sym_items_counted}
 use Rattle.nm_tool.proofs.ToolLemmas.{table_told, table_refused, count_is}
 use Rattle.nm_tool.proofs.tool.show_table.Goals as goal
 
@@ -16,7 +16,7 @@ pub show_told-requires-clause-count : goal.show_told-requires-clause-count
 show_told-requires-clause-count g c =
     let o = c.args.elf.now.o in
     let value = answered_value (lend_refusal o kinds.Sym c.args.s.0 0) (count_at o c.args.s.0 0) c.in-Ok.count (sym c.in-Ok.ensures.answer) in
-    value.1 ∙ count_is o c.args.s.0 0 ∙ sym (syms_counted (items_at o c.args.s.0 0) (lend_kind o kinds.Sym c.args.s.0 0 value.0))
+    value.1 ∙ count_is o c.args.s.0 0 ∙ sym (sym_items_counted (items_at o c.args.s.0 0) (lend_kind o kinds.Sym c.args.s.0 0 value.0))
 
 pub returns-in-Ok : goal.returns-in-Ok
 returns-in-Ok g c =

@@ -1,7 +1,7 @@
 use Rattle.std.proofs.Common.{◌≡◌, length, sym, ap, subst}
 use Rattle.elf_types.specs.declared.records.ScnId.{ScnId}
-use Rattle.object_output.proofs.ElfSteps.{elf_as}
-use Rattle.nm_tool.specs.Listed.{symbols}
+use Rattle.tool_objects.proofs.ElfSteps.{elf_as}
+use Rattle.nm_tool.specs.Listed.{symbols_in_table}
 use Rattle.nm_tool.specs.Tool.{rows_report}
 use Rattle.nm_tool.proofs.ToolLemmas.{tables_are}
 use Rattle.nm_tool.proofs.tool.show_told.Goals as goal
@@ -13,7 +13,7 @@ show_listed-requires-clause-tables g c =
 
 pub show_listed-requires-clause-count : goal.show_listed-requires-clause-count
 show_listed-requires-clause-count g c =
-    subst (λ (u : ScnId). c.args.count ≡ length (symbols c.args.elf.now.o u.0))
+    subst (λ (u : ScnId). c.args.count ≡ length (symbols_in_table c.args.elf.now.o u.0))
     (sym c.tables_of-t.ensures.symbols) c.requires.count
 
 pub returns : goal.returns

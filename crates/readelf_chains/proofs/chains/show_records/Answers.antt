@@ -3,15 +3,15 @@ use Rattle.elf_types.specs.declared.records.Kind.TheVariants as kinds
 use Rattle.elf_types.specs.Text.{error_text}
 use Rattle.elf_object.specs.Object.{Object}
 use Rattle.elf_object.specs.Answers.{lend_refusal}
-use Rattle.object_output.specs.gelf_view.Calls.{first_entry_answer}
-use Rattle.object_output.proofs.ElfSteps.{elf_refuses, elf_after}
-use Rattle.object_output.proofs.QueryLemmas.{queried}
-use Rattle.object_output.proofs.AnswerLemmas.{answers_stated}
-use Rattle.readelf_rows.specs.Data.{refused}
+use Rattle.tool_objects.specs.gelf_view.Calls.{first_entry_answer}
+use Rattle.tool_objects.proofs.ElfSteps.{elf_refuses, elf_after}
+use Rattle.tool_objects.proofs.QueryLemmas.{queried}
+use Rattle.tool_objects.proofs.AnswerLemmas.{answers_stated}
+use Rattle.readelf_rows.specs.Data.{readelf_refusal}
 use Rattle.readelf_chains.specs.Chains.{HasRecords, chain_lines, bytes_report}
 use Rattle.readelf_rows.proofs.DataLemmas.{told_lines, told_refused}
 use Rattle.readelf_chains.proofs.ChainLemmas.{first_there, first_refused}
-use Rattle.object_output.proofs.OnceReads.{once_read}
+use Rattle.tool_objects.proofs.OnceReads.{once_read}
 use Rattle.readelf_chains.proofs.chains.show_records.Goals as goal
 
 pub show_lines-requires : goal.show_lines-requires
@@ -36,7 +36,7 @@ returns-in-Err g c =
     let name = c.args.name.now in
     let records = g.R.Records in
     let o = c.args.elf.now.o in
-    elf_refuses g.S.Source g.O.Sink g.E.Sink (λ o. bytes_report records.title name o s (records.report name o s)) (Option ℕ) c.in-Err.e (refused name (error_text c.in-Err.e)) _ c.args.elf.now _ c.args.outputs.now _
+    elf_refuses g.S.Source g.O.Sink g.E.Sink (λ o. bytes_report records.title name o s (records.report name o s)) (Option ℕ) c.in-Err.e (readelf_refusal name (error_text c.in-Err.e)) _ c.args.elf.now _ c.args.outputs.now _
     (queried g.S.Source _ _ _ c.args.elf.now _ c.in-Err.ensures.queries (once_read _ _ _ _)) c.in-Err.ensures.queries.reads.source.read
     (λ told none. told_refused name (chain_lines records.title o s (records.report name o s)) (lend_refusal o kinds.Bytes s 0) c.in-Err.e
     (first_refused o s c.in-Err.e (answers_stated true _ c.in-Err.e (first_entry_answer o s 0) c.in-Err.ensures.answer none)))

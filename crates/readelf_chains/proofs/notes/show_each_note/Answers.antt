@@ -4,19 +4,19 @@ use Rattle.elf_types.specs.declared.records.Kind.TheVariants as kinds
 use Rattle.elf_types.specs.Text.{error_text}
 use Rattle.elf_object.specs.Object.{Object}
 use Rattle.elf_object.specs.Answers.{lend_refusal, count_at}
-use Rattle.object_output.specs.gelf_view.declared.notes.NoteAt.{NoteAt}
-use Rattle.object_output.specs.gelf_view.Notes.{IsNoteWithin}
-use Rattle.tool_output.specs.Messages.{in_section}
-use Rattle.tool_output.specs.Reports.{no_report, shown, joined}
-use Rattle.object_output.proofs.ElfSteps.{elf_begins, elf_stops_at, elf_says_none, elf_refuses, elf_after}
-use Rattle.object_output.proofs.QueryLemmas.{queried}
-use Rattle.object_output.proofs.AnswerLemmas.{led_broken}
-use Rattle.readelf_rows.specs.Data.{refused}
+use Rattle.tool_objects.specs.gelf_view.declared.notes.NoteAt.{NoteAt}
+use Rattle.tool_objects.specs.gelf_view.Notes.{IsNoteWithin}
+use Rattle.tool_output.specs.Messages.{section_message}
+use Rattle.tool_output.specs.Reports.{no_report, shown_report, joined_reports}
+use Rattle.tool_objects.proofs.ElfSteps.{elf_begins, elf_stops_at, elf_says_none, elf_refuses, elf_after}
+use Rattle.tool_objects.proofs.QueryLemmas.{queried}
+use Rattle.tool_objects.proofs.AnswerLemmas.{led_broken}
+use Rattle.readelf_rows.specs.Data.{readelf_refusal}
 use Rattle.readelf_chains.specs.Chains.{section_bytes}
 use Rattle.readelf_chains.specs.Notes.{note_text, notes_from}
 use Rattle.readelf_chains.proofs.ChainLemmas.{at_start, elf_line_shown, elf_ends_with}
 use Rattle.readelf_chains.proofs.NoteLemmas.{note_left, no_note_left, note_broken}
-use Rattle.object_output.proofs.OnceReads.{once_read}
+use Rattle.tool_objects.proofs.OnceReads.{once_read}
 use Rattle.readelf_chains.proofs.notes.show_each_note.Goals as goal
 
 pub notes-init : goal.notes-init
@@ -38,7 +38,7 @@ notes-preserved g c =
     let chain = rw c.in-Ok-Some.field-0-is at c.in-Ok-Some.ensures.chain in
     elf_line_shown c.notes.invariant (λ o. note_text (section_bytes o s) note) (λ o. notes_from name o s note.next)
     (λ told. note_left name c.notes.elf.o s c.notes.at note (chain told))
-    (elf_after g.S.Source g.O.Sink g.E.Sink (λ o. shown (note_text (section_bytes o s) note)) (λ o. shown (note_text (section_bytes o s) note)) _ c.notes.elf _ _ c.notes.outputs _
+    (elf_after g.S.Source g.O.Sink g.E.Sink (λ o. shown_report (note_text (section_bytes o s) note)) (λ o. shown_report (note_text (section_bytes o s) note)) _ c.notes.elf _ _ c.notes.outputs _
     (queried g.S.Source _ _ _ c.notes.elf _ c.in-Ok-Some.ensures.queries (once_read _ _ _ _)) c.in_ok-show_note-in-Ok-Some.ensures (λ told. refl))
 
 pub notes-smaller : goal.notes-smaller
@@ -56,10 +56,10 @@ returns-in_err-show_note-in-Ok-Some g c =
     let note = c.in-Ok-Some.found in
     let chain = rw c.in-Ok-Some.field-0-is at c.in-Ok-Some.ensures.chain in
     let p = err_from_is_err_and c.from_residual.result c.from_residual.ensures.1 in
-    rw (p.1, p.2) (elf_stops_at c.notes.invariant (λ o. shown (note_text (section_bytes o s) note)) (λ o. notes_from name o s note.next)
-    (at_start c.notes.invariant (λ (o : Object). notes_from name o s c.notes.at ≡ joined (shown (note_text (section_bytes o s) note)) (notes_from name o s note.next))
+    rw (p.1, p.2) (elf_stops_at c.notes.invariant (λ o. shown_report (note_text (section_bytes o s) note)) (λ o. notes_from name o s note.next)
+    (at_start c.notes.invariant (λ (o : Object). notes_from name o s c.notes.at ≡ joined_reports (shown_report (note_text (section_bytes o s) note)) (notes_from name o s note.next))
     (λ told. note_left name c.notes.elf.o s c.notes.at note (chain told)))
-    (elf_after g.S.Source g.O.Sink g.E.Sink (λ o. shown (note_text (section_bytes o s) note)) (λ o. shown (note_text (section_bytes o s) note)) _ c.notes.elf _ _ c.notes.outputs _
+    (elf_after g.S.Source g.O.Sink g.E.Sink (λ o. shown_report (note_text (section_bytes o s) note)) (λ o. shown_report (note_text (section_bytes o s) note)) _ c.notes.elf _ _ c.notes.outputs _
     (queried g.S.Source _ _ _ c.notes.elf _ c.in-Ok-Some.ensures.queries (once_read _ _ _ _)) c.in_err-show_note-in-Ok-Some.ensures (λ told. refl)))
 
 pub returns-in-Ok-None : goal.returns-in-Ok-None
@@ -75,7 +75,7 @@ returns-in-Err g c =
     let s = c.args.s.0 in
     let name = c.args.name.now in
     elf_ends_with c.notes.invariant _ (λ o. notes_from name o s c.notes.at) (λ told. refl)
-    (elf_refuses g.S.Source g.O.Sink g.E.Sink (λ o. notes_from name o s c.notes.at) (Option NoteAt) c.in-Err.e (refused name (in_section s (error_text c.in-Err.e))) _ c.notes.elf _ c.notes.outputs _
+    (elf_refuses g.S.Source g.O.Sink g.E.Sink (λ o. notes_from name o s c.notes.at) (Option NoteAt) c.in-Err.e (readelf_refusal name (section_message s (error_text c.in-Err.e))) _ c.notes.elf _ c.notes.outputs _
     (queried g.S.Source _ _ _ c.notes.elf _ c.in-Err.ensures.queries (once_read _ _ _ _)) c.in-Err.ensures.queries.reads.source.read
     (λ told none. note_broken name c.notes.elf.o s c.notes.at c.in-Err.e (led_broken c.in-Err.e _ _ (c.in-Err.ensures.chain told) none))
     c.refuse_records.ensures.reports c.refuse_records.ensures.stops c.refuse_records.ensures.leaves)

@@ -1,6 +1,6 @@
 use Rattle.std.proofs.Common.{false, ◌-◌}
 use Rattle.elf_object.specs.Answers.{count_at}
-use Rattle.object_output.specs.Steps.{ElfUnderWay}
+use Rattle.tool_objects.specs.Steps.{ElfUnderWay}
 use Rattle.readelf_chains.specs.Notes.{notes_from}
 use Rattle.readelf_chains.proofs.notes.show_each_note.Given as goal
 

@@ -1,7 +1,7 @@
 use Rattle.std.proofs.Common.{sym, ap, ◌∙◌}
 use Rattle.elf_types.specs.declared.records.Shdr.{Shdr}
 use Rattle.elf_types.specs.Kinds.{is_compressed}
-use Rattle.object_output.proofs.ElfSteps.{elf_left, elf_says, elf_as}
+use Rattle.tool_objects.proofs.ElfSteps.{elf_left, elf_says, elf_as}
 use Rattle.readelf_rows.specs.Data.{if_plain}
 use Rattle.readelf_rows.proofs.DataLemmas.{plain_out, plain_compressed, plain_lines}
 use Rattle.readelf_rows.proofs.data.show_plain.Goals as goal

@@ -1,18 +1,18 @@
 use Rattle.elf_object.specs.Strings as strings
-use Rattle.tool_output.specs.Reports.{shown}
-use Rattle.object_output.proofs.ElfSteps.{elf_says, elf_unread}
+use Rattle.tool_output.specs.Reports.{shown_report}
+use Rattle.tool_objects.proofs.ElfSteps.{elf_says, elf_unread}
 use Rattle.readelf_tables.specs.Dynamic.{dyn_name_line}
-use Rattle.object_output.proofs.LearnLemmas.{elf_read}
+use Rattle.tool_objects.proofs.LearnLemmas.{elf_read}
 use Rattle.readelf_tables.proofs.dynamic.show_name.Goals as goal
 
 pub returns-in-Ok : goal.returns-in-Ok
 returns-in-Ok g c =
     let x = c.args.entry in
-    elf_says g.S.Source g.O.Sink g.E.Sink (λ o. shown (dyn_name_line c.args.index x (strings.readable (strings.string_answer o c.args.names.0 x.val)))) _ c.args.elf.now _ c.args.outputs.now _
+    elf_says g.S.Source g.O.Sink g.E.Sink (λ o. shown_report (dyn_name_line c.args.index x (strings.readable (strings.string_answer o c.args.names.0 x.val)))) _ c.args.elf.now _ c.args.outputs.now _
     (elf_read g.S.Source _ _ c.args.elf.now _ c.in-Ok.is c.string_at.follows.holds-at-none) (λ told. rw (← c.in-Ok.ensures.value told) c.show.ensures.reports) c.show.ensures.leaves
 
 pub returns-in-Err : goal.returns-in-Err
 returns-in-Err g c =
     let x = c.args.entry in
-    elf_unread g.S.Source g.O.Sink g.E.Sink _ c.in-Err.stop (λ o. shown (dyn_name_line c.args.index x (strings.readable (strings.string_answer o c.args.names.0 x.val)))) c.args.elf.now _ c.args.outputs.now
+    elf_unread g.S.Source g.O.Sink g.E.Sink _ c.in-Err.stop (λ o. shown_report (dyn_name_line c.args.index x (strings.readable (strings.string_answer o c.args.names.0 x.val)))) c.args.elf.now _ c.args.outputs.now
     (rw c.in-Err.is at c.string_at.follows.holds-at-none)

@@ -4,11 +4,11 @@ use Rattle.elf_types.specs.declared.records.Kind.TheVariants as kinds
 use Rattle.elf_object.specs.Object.{Object}
 use Rattle.elf_object.specs.Answers.{items_at, syms_of}
 use Rattle.tool_output.specs.Lines.{numbered_lines}
-use Rattle.tool_output.specs.Reports.{shown}
+use Rattle.tool_output.specs.Reports.{shown_report}
 use Rattle.tool_output.proofs.UnderWayLemmas.{no_lines_left}
-use Rattle.object_output.proofs.ElfSteps.{elf_begins, elf_goes_on, elf_stops_at, elf_is_given}
-use Rattle.bytes_at_hand.proofs.Ends.{end_stays}
-use Rattle.readelf_tables.specs.Tables.{row_at, HasRows}
+use Rattle.tool_objects.proofs.ElfSteps.{elf_begins, elf_goes_on, elf_stops_at, elf_is_given}
+use Rattle.tool_objects.proofs.at_hand.Ends.{end_stays}
+use Rattle.readelf_tables.specs.Tables.{indexed_row, HasRows}
 use Rattle.readelf_tables.specs.Symbols.{symbol_row, SymbolsFit}
 use Rattle.readelf_tables.proofs.TableLemmas.{row_left}
 use Rattle.readelf_tables.proofs.symbols.show_each_row.Goals as goal
@@ -33,8 +33,8 @@ loop-i-preserved g c =
     let i = c.loop-i.i in
     let xs = syms_of (items_at c.args.elf.now.o s 0) in
     elf_goes_on c.loop-i.invariant
-    (λ o. shown (row_at (symbol_row o s) (syms_of (items_at o s 0)) i))
-    (λ o. shown (numbered_lines (symbol_row o s) (i + 1) (drop (i + 1) (syms_of (items_at o s 0)))))
+    (λ o. shown_report (indexed_row (symbol_row o s) (syms_of (items_at o s 0)) i))
+    (λ o. shown_report (numbered_lines (symbol_row o s) (i + 1) (drop (i + 1) (syms_of (items_at o s 0)))))
     (λ told. row_left (symbol_row c.args.elf.now.o s) xs i
     (omega (arith, c.requires.rows.count, c.loop-i-test.true)))
     c.in_ok-was_refused.ensures refl
@@ -46,8 +46,8 @@ returns-in_err-was_refused g c =
     let xs = syms_of (items_at c.args.elf.now.o s 0) in
     let p = err_from_is_err_and c.from_residual.result c.from_residual.ensures.1 in
     rw (p.1, p.2) (elf_stops_at c.loop-i.invariant
-    (λ o. shown (row_at (symbol_row o s) (syms_of (items_at o s 0)) i))
-    (λ o. shown (numbered_lines (symbol_row o s) (i + 1) (drop (i + 1) (syms_of (items_at o s 0)))))
+    (λ o. shown_report (indexed_row (symbol_row o s) (syms_of (items_at o s 0)) i))
+    (λ o. shown_report (numbered_lines (symbol_row o s) (i + 1) (drop (i + 1) (syms_of (items_at o s 0)))))
     (λ told. row_left (symbol_row c.args.elf.now.o s) xs i
     (omega (arith, c.requires.rows.count, c.loop-i-test.true)))
     c.in_err-was_refused.ensures)

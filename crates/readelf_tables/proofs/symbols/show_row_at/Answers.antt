@@ -1,10 +1,10 @@
 use Rattle.std.proofs.Common.{ap, sym, subst, arith}
 use Rattle.elf_object.specs.Object.{Object}
 use Rattle.elf_object.specs.Answers.{items_at, syms_of}
-use Rattle.tool_output.specs.Reports.{shown}
-use Rattle.object_output.proofs.ElfSteps.{elf_unread, elf_after}
-use Rattle.bytes_at_hand.proofs.Ends.{end_stays}
-use Rattle.readelf_tables.specs.Tables.{row_at}
+use Rattle.tool_output.specs.Reports.{shown_report}
+use Rattle.tool_objects.proofs.ElfSteps.{elf_unread, elf_after}
+use Rattle.tool_objects.proofs.at_hand.Ends.{end_stays}
+use Rattle.readelf_tables.specs.Tables.{indexed_row}
 use Rattle.readelf_tables.specs.Symbols.{symbol_row, SymbolsFit}
 use Rattle.readelf_tables.proofs.TableLemmas.{row_is}
 use Rattle.readelf_tables.proofs.symbols.show_row_at.Goals as goal
@@ -29,15 +29,15 @@ pub returns-in-Ok : goal.returns-in-Ok
 returns-in-Ok g c =
     let s = c.args.table.section.0 in
     let x = c.in-Ok.symbol in
-    elf_after g.S.Source g.O.Sink g.E.Sink (λ o. shown (symbol_row o s c.args.i x))
-    (λ o. shown (row_at (symbol_row o s) (syms_of (items_at o s 0)) c.args.i)) _ c.args.elf.now
+    elf_after g.S.Source g.O.Sink g.E.Sink (λ o. shown_report (symbol_row o s c.args.i x))
+    (λ o. shown_report (indexed_row (symbol_row o s) (syms_of (items_at o s 0)) c.args.i)) _ c.args.elf.now
     c.item_there.new.elf _ c.args.outputs.now _ c.in-Ok.ensures.reads.elf c.show_row.ensures
-    (λ told. ap shown (row_is (symbol_row c.args.elf.now.o s)
+    (λ told. ap shown_report (row_is (symbol_row c.args.elf.now.o s)
     (syms_of (items_at c.args.elf.now.o s 0)) c.args.i x (c.in-Ok.ensures.value told)))
 
 pub returns-in-Err : goal.returns-in-Err
 returns-in-Err g c =
     let s = c.args.table.section.0 in
     elf_unread g.S.Source g.O.Sink g.E.Sink _ c.in-Err.stop
-    (λ o. shown (row_at (symbol_row o s) (syms_of (items_at o s 0)) c.args.i)) c.args.elf.now _
+    (λ o. shown_report (indexed_row (symbol_row o s) (syms_of (items_at o s 0)) c.args.i)) c.args.elf.now _
     c.args.outputs.now c.in-Err.ensures.reads

@@ -1,15 +1,15 @@
-use Rattle.object_output.proofs.ElfSteps.{elf_says, elf_unread}
+use Rattle.tool_objects.proofs.ElfSteps.{elf_says, elf_unread}
 use Rattle.elf_object.specs.Strings as strings
-use Rattle.tool_output.specs.Reports.{shown}
+use Rattle.tool_output.specs.Reports.{shown_report}
 use Rattle.readelf_tables.specs.Tables.{table_title}
-use Rattle.object_output.proofs.LearnLemmas.{elf_read}
+use Rattle.tool_objects.proofs.LearnLemmas.{elf_read}
 use Rattle.readelf_tables.proofs.tables.show_title.Goals as goal
 
 pub returns-in-Ok : goal.returns-in-Ok
 returns-in-Ok g c =
-    elf_says g.S.Source g.O.Sink g.E.Sink (λ o. shown (table_title c.args.title.now c.args.s.0 (strings.section_name o c.args.s.0) c.args.count)) _ c.args.elf.now _ c.args.outputs.now _ (elf_read g.S.Source _ _ c.args.elf.now _ c.in-Ok.is c.section_name.follows.holds-at-none)
+    elf_says g.S.Source g.O.Sink g.E.Sink (λ o. shown_report (table_title c.args.title.now c.args.s.0 (strings.section_name o c.args.s.0) c.args.count)) _ c.args.elf.now _ c.args.outputs.now _ (elf_read g.S.Source _ _ c.args.elf.now _ c.in-Ok.is c.section_name_or_stop.follows.holds-at-none)
     (λ told. rw (← c.in-Ok.ensures.value told) c.show.ensures.reports) c.show.ensures.leaves
 
 pub returns-in-Err : goal.returns-in-Err
 returns-in-Err g c =
-    elf_unread g.S.Source g.O.Sink g.E.Sink _ c.in-Err.stop (λ o. shown (table_title c.args.title.now c.args.s.0 (strings.section_name o c.args.s.0) c.args.count)) c.args.elf.now _ c.args.outputs.now (rw c.in-Err.is at c.section_name.follows.holds-at-none)
+    elf_unread g.S.Source g.O.Sink g.E.Sink _ c.in-Err.stop (λ o. shown_report (table_title c.args.title.now c.args.s.0 (strings.section_name o c.args.s.0) c.args.count)) c.args.elf.now _ c.args.outputs.now (rw c.in-Err.is at c.section_name_or_stop.follows.holds-at-none)

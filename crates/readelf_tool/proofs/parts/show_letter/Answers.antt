@@ -1,6 +1,6 @@
 use Rattle.std.proofs.Common.{◌≡◌, false, refl, sym, ap, ◌∙◌, arith}
-use Rattle.object_output.proofs.ElfSteps.{elf_left, elf_as, elf_over, elf_says}
-use Rattle.object_output.proofs.SectionLemmas.{ok_is}
+use Rattle.tool_objects.proofs.ElfSteps.{elf_left, elf_as, elf_over, elf_says}
+use Rattle.tool_objects.proofs.SectionLemmas.{ok_value_is}
 use Rattle.readelf_tool.specs.declared.parts.Letter.{Letter}
 use Rattle.readelf_tool.specs.declared.parts.Letter.TheVariants as letters
 use Rattle.readelf_headers.specs.Sections.{sections_report}
@@ -19,7 +19,7 @@ returns-in-Header-clause-reports g c =
     let name = c.args.name.now in
     elf_over g.S.Source g.O.Sink g.E.Sink 0 _ _ _ c.args.elf.now _ c.args.outputs.now _ (omega arith)
     (elf_says g.S.Source g.O.Sink g.E.Sink (letter_report c.args.letter name) _ c.args.elf.now _ c.args.outputs.now _ (elf_left g.S.Source c.args.elf.now)
-    (λ told. rw (c.in-Header.is, ← ok_is _ _ c.ehdr.ensures) c.show_header.ensures.reports) c.show_header.ensures.leaves)
+    (λ told. rw (c.in-Header.is, ← ok_value_is _ _ c.ehdr.ensures) c.show_header.ensures.reports) c.show_header.ensures.leaves)
 
 pub returns-in-Segments-clause-reports : goal.returns-in-Segments-clause-reports
 unfolding letter_report

@@ -1,5 +1,5 @@
 use Rattle.std.proofs.Common.{sym, ◌∙◌, arith}
-use Rattle.object_output.proofs.ElfSteps.{elf_left, elf_as, elf_over, elf_says_none}
+use Rattle.tool_objects.proofs.ElfSteps.{elf_left, elf_as, elf_over, elf_says_none}
 use Rattle.readelf_tool.specs.Parts.{letter_report, letter_part}
 use Rattle.readelf_tool.proofs.PartLemmas.{part_asked, part_not_asked, asked_once, unread_asked}
 use Rattle.readelf_tool.proofs.parts.show_part.Goals as goal

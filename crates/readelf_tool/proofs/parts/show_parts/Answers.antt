@@ -2,7 +2,7 @@ use Rattle.std.proofs.Common.{◌+◌, drop, refl, rules, ◌∙◌}
 use Rattle.std.proofs.lemmas.Result.{err_from_is_err_and}
 use Rattle.tool_output.specs.Reports.{reports_of}
 use Rattle.tool_output.proofs.UnderWayLemmas.{reports_left, no_reports_left}
-use Rattle.object_output.proofs.ElfSteps.{elf_begins, elf_goes_on, elf_stops_at, elf_is_given, elf_failed, over_more}
+use Rattle.tool_objects.proofs.ElfSteps.{elf_begins, elf_goes_on, elf_stops_at, elf_is_given, elf_failed, over_more}
 use Rattle.readelf_tool.specs.Parts.{letters, letter_part, readelf_report}
 use Rattle.readelf_tool.proofs.PartLemmas.{part_unread, passes_next, passes_within}
 use Rattle.readelf_tool.proofs.parts.show_parts.Goals as goal

@@ -1,7 +1,7 @@
 use Rattle.std.proofs.Common.{◌≡◌, false, take, drop}
 use Rattle.std.specs.List.{count_by}
 use Rattle.tool_output.specs.Reports.{reports_of}
-use Rattle.object_output.specs.Steps.{ElfOver}
+use Rattle.tool_objects.specs.Steps.{ElfOver}
 use Rattle.readelf_tool.specs.Parts.{letters, letter_part, readelf_report, shows_sections, goes_over}
 use Rattle.readelf_tool.proofs.parts.show_parts.Given as goal
 

@@ -1,7 +1,7 @@
 use Rattle.std.proofs.Common.{false, Ok, Result, refl, sym, subst}
 use Rattle.elf_object.specs.Object.{Object}
-use Rattle.command_objects.specs.Rehashed.{RehashFault}
-use Rattle.rehash_tool.specs.Steps.{IsRehashed}
+use Rattle.rebuild_model.specs.Rehashed.{RehashFault}
+use Rattle.rehash_tool.specs.Steps.{AreHashSectionsRebuilt}
 use Rattle.rehash_tool.proofs.StepLemmas.{keeps_none}
 use Rattle.rehash_tool.proofs.RehashLemmas.{no_table, one_table}
 use Rattle.rehash_tool.proofs.rehashing.rehash.Goals as goal
@@ -11,7 +11,7 @@ returns-in-Some g c = record {
   keeps = c.rehash_at.ensures.keeps;
   rehashed = λ told.
       subst (λ (r : Result Object RehashFault).
-      IsRehashed c.rehash_at.result r c.rehash_at.new.elf.o)
+      AreHashSectionsRebuilt c.rehash_at.result r c.rehash_at.new.elf.o)
       (sym (one_table c.args.elf.now.o c.in-Some.s c.gnu_section-gnu.result
       c.sysv_section-words.result c.in-Some.ensures c.gnu_section-gnu.ensures
       c.sysv_section-words.ensures))

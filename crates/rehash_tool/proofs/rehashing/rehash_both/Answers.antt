@@ -1,4 +1,4 @@
-use Rattle.command_objects.specs.Rehashed.{with_gnu, where_there}
+use Rattle.rebuild_model.specs.Rehashed.{with_gnu, where_there}
 use Rattle.rehash_tool.specs.Steps.{words_laid_out}
 use Rattle.rehash_tool.proofs.StepLemmas.{object_then, object_end}
 use Rattle.rehash_tool.proofs.rehashing.rehash_both.Goals as goal

@@ -1,5 +1,5 @@
 use Rattle.std.proofs.Common.{Ok}
-use Rattle.command_objects.specs.Rehashed.{with_sysv, where_there, laid_out}
+use Rattle.rebuild_model.specs.Rehashed.{with_sysv, where_there, laid_out}
 use Rattle.rehash_tool.proofs.StepLemmas.{object_end}
 use Rattle.rehash_tool.proofs.RehashLemmas.{turns_laid_out}
 use Rattle.rehash_tool.proofs.rehashing.rehash_words.Goals as goal

@@ -1,7 +1,7 @@
 use Rattle.std.proofs.Common.{Ok, Err}
 use Rattle.elf_xlate.specs.declared.content.Items.TheVariants as items
 use Rattle.elf_object.specs.Calls as calls
-use Rattle.object_writing.specs.elf_descriptor.Reads.{wanted}
+use Rattle.tool_files.specs.elf_descriptor.Reads.{wanted}
 use Rattle.elf_object.specs.Sections.{edited}
 use Rattle.hash_model.specs.BuiltHashes.{build_gnu_answer, hash_refusal}
 use Rattle.hash_build.specs.Calls as built

@@ -1,5 +1,5 @@
 use Rattle.std.proofs.Common.{Ok, Err}
-use Rattle.object_writing.specs.elf_descriptor.Reads.{wanted}
+use Rattle.tool_files.specs.elf_descriptor.Reads.{wanted}
 use Rattle.hash_model.specs.BuiltHashes.{gnu_order_answer}
 use Rattle.hash_build.specs.Calls as built
 use Rattle.rehash_tool.specs.Steps.{sorted_gnu}

@@ -1,8 +1,8 @@
 use Rattle.std.proofs.Common.{ℕ}
 use Rattle.elf_object.specs.Calls as calls
-use Rattle.object_writing.specs.elf_descriptor.Reads.{wanted}
+use Rattle.tool_files.specs.elf_descriptor.Reads.{wanted}
 use Rattle.elf_object.specs.Answers.{words_of}
-use Rattle.command_objects.specs.Rehashed.{nbucket_of}
+use Rattle.rebuild_model.specs.Rehashed.{nbucket_of}
 use Rattle.rehash_tool.proofs.CallLemmas.{items_given, items_refused}
 use Rattle.rehash_tool.proofs.steps.kept_nbucket.Goals as goal
 

@@ -2,9 +2,9 @@ use Rattle.std.proofs.Common.{ap, ◌∙◌}
 use Rattle.elf_types.specs.declared.records.Class.{Class}
 use Rattle.elf_types.specs.declared.records.Order.{Order}
 use Rattle.elf_object.specs.Calls as calls
-use Rattle.object_writing.specs.elf_descriptor.Reads.{wanted}
+use Rattle.tool_files.specs.elf_descriptor.Reads.{wanted}
 use Rattle.elf_object.specs.Answers.{bytes_of}
-use Rattle.command_objects.specs.Rehashed.{shape_of}
+use Rattle.rebuild_model.specs.Rehashed.{shape_of}
 use Rattle.hash_build.specs.declared.shape.GnuShape.{GnuShape}
 use Rattle.hash_build.specs.Calls.{stated}
 use Rattle.rehash_tool.proofs.CallLemmas.{items_given, items_refused}

@@ -1,6 +1,6 @@
 use Rattle.std.proofs.Common.{Err}
 use Rattle.elf_types.specs.Answers.{◌>>=◌}
-use Rattle.command_objects.specs.Rehashed.{with_sysv}
+use Rattle.rebuild_model.specs.Rehashed.{with_sysv}
 use Rattle.rehash_tool.specs.Steps.{kept_nbucket, built_sysv}
 use Rattle.rehash_tool.proofs.StepLemmas.{turns_then, turns_end, turns_of, turns_as}
 use Rattle.rehash_tool.proofs.CallLemmas.{with_sysv_is}

@@ -1,6 +1,6 @@
 use Rattle.std.proofs.Common.{[], ◌∷◌, ℕ, List, ap, ◌∙◌}
 use Rattle.elf_object.specs.Refusal.{refusal}
-use Rattle.command_objects.specs.Generated.{generated_and_shifted}
+use Rattle.rebuild_model.specs.Generated.{generated_and_shifted}
 use Rattle.tool_output.specs.Made.{made_file, outcome_with}
 use Rattle.tool_output.specs.Outcomes.{Does}
 use Rattle.tool_output.specs.Reports.{no_report}

@@ -3,8 +3,8 @@ use Rattle.std.proofs.lemmas.Result.{err_from_is_err_and}
 use Rattle.elf_types.specs.declared.records.Kind.TheVariants as kinds
 use Rattle.elf_object.specs.Object.{Object}
 use Rattle.elf_object.specs.Answers.{lend_refusal}
-use Rattle.tool_output.specs.Reports.{shown}
-use Rattle.command_outcomes.proofs.object_output.ElfSteps.{elf_left, elf_says, elf_learns, elf_learns_none}
+use Rattle.tool_output.specs.Reports.{shown_report}
+use Rattle.elfkit_outcomes.proofs.tool_objects.ElfSteps.{elf_left, elf_says, elf_learns, elf_learns_none}
 use Rattle.selftest_tool.specs.Told.{lines_text, value_sum, symbols_told, first_named}
 use Rattle.selftest_tool.proofs.telling.show_lines.Goals as goal
 
@@ -23,7 +23,7 @@ returns-in_err-found g c =
     let n = c.args.n in
     let p = err_from_is_err_and c.from_residual.result c.from_residual.ensures.1 in
     rw (p.1, p.2) (elf_learns_none g.S.Source g.O.Sink g.E.Sink (first_named n c.args.last.now)
-    c.args.elf.now _ _ (λ o. shown (lines_text (length o.sections) c.args.symbols (length o.base)
+    c.args.elf.now _ _ (λ o. shown_report (lines_text (length o.sections) c.args.symbols (length o.base)
     (value_sum (symbols_told n o)) (first_named n c.args.last.now o))) c.args.outputs.now
     c.in_err-found.ensures)
 
@@ -33,7 +33,7 @@ returns-in_err-sum g c =
     let r = c.from_residual-in_err-sum in
     let p = err_from_is_err_and r.result r.ensures.1 in
     let report = λ (found : Option ℕ) (o : Object).
-    shown (lines_text (length o.sections) c.args.symbols (length o.base)
+    shown_report (lines_text (length o.sections) c.args.symbols (length o.base)
     (value_sum (symbols_told n o)) found) in
     rw (p.1, p.2) (elf_learns g.S.Source g.O.Sink g.E.Sink (first_named n c.args.last.now)
     c.args.elf.now c.find_first.new.elf c.in_ok-found.found report (Err _) c.sum_values.new.elf
@@ -50,9 +50,9 @@ returns g c =
     let elf = c.sum_values.new.elf in
     let lines = c.lines_of-lines in
     let last = λ (sum : ℕ) (o : Object).
-    shown (lines_text (length o.sections) c.args.symbols (length o.base) sum found) in
+    shown_report (lines_text (length o.sections) c.args.symbols (length o.base) sum found) in
     let report = λ (first : Option ℕ) (o : Object).
-    shown (lines_text (length o.sections) c.args.symbols (length o.base)
+    shown_report (lines_text (length o.sections) c.args.symbols (length o.base)
     (value_sum (symbols_told n o)) first) in
     elf_learns g.S.Source g.O.Sink g.E.Sink (first_named n c.args.last.now) c.args.elf.now
     c.find_first.new.elf found report c.show.result elf c.args.outputs.now c.show.new.self

@@ -1,6 +1,6 @@
 use Rattle.std.proofs.Common.{ℕ, List, length, sym, ap, ◌∙◌}
-use Rattle.tool_output.specs.Reports.{shown}
-use Rattle.command_outcomes.proofs.object_output.ElfSteps.{elf_as, elf_left, elf_says}
+use Rattle.tool_output.specs.Reports.{shown_report}
+use Rattle.elfkit_outcomes.proofs.tool_objects.ElfSteps.{elf_as, elf_left, elf_says}
 use Rattle.selftest_tool.specs.Told.{lines_text, value_sum, symbols_told, first_named, told_report}
 use Rattle.selftest_tool.proofs.ToldLemmas.{symbols_counted, told_refused, told_shown}
 use Rattle.selftest_tool.proofs.telling.show_told.Goals as goal
@@ -22,12 +22,12 @@ returns-in-Ok g c =
     let counted =
     symbols_counted n c.args.name.now o c.in-Ok.symbols c.in-Ok.ensures.answer in
     elf_as g.S.Source g.O.Sink g.E.Sink
-    (λ o. shown (lines_text (length o.sections) c.in-Ok.symbols (length o.base)
+    (λ o. shown_report (lines_text (length o.sections) c.in-Ok.symbols (length o.base)
     (value_sum (symbols_told n o)) (first_named n c.args.last.now o)))
     (told_report n c.args.name.now) c.show_lines.result c.args.elf.now c.show_lines.new.elf
     c.args.outputs.now c.show_lines.new.outputs
     (λ told. told_shown n c.args.name.now o c.in-Ok.symbols counted.0 counted.1
-    ∙ ap (λ (name : List ℕ). shown (lines_text (length o.sections) c.in-Ok.symbols
+    ∙ ap (λ (name : List ℕ). shown_report (lines_text (length o.sections) c.in-Ok.symbols
     (length o.base) (value_sum (symbols_told n o)) (first_named n name o)))
     (sym c.requires.last))
     c.show_lines.ensures

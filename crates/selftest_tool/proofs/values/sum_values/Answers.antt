@@ -4,8 +4,8 @@ use Rattle.std.proofs.lemmas.Result.{err_from_is_err_and}
 use Rattle.elf_types.specs.declared.records.Kind.TheVariants as kinds
 use Rattle.elf_object.specs.Object.{Object}
 use Rattle.elf_object.specs.Answers.{items_at, syms_of, lend_refusal}
-use Rattle.command_outcomes.proofs.object_output.ElfSteps.{elf_left, elf_left_then, still_told}
-use Rattle.command_outcomes.proofs.object_output.LearnLemmas.{learns_by}
+use Rattle.elfkit_outcomes.proofs.tool_objects.ElfSteps.{elf_left, elf_left_then, still_told}
+use Rattle.elfkit_outcomes.proofs.tool_objects.LearnLemmas.{learns_by}
 use Rattle.selftest_tool.specs.Told.{value_sum}
 use Rattle.selftest_tool.proofs.ValueLemmas.{sum_none, sum_next, sum_all, sum_stopped}
 use Rattle.selftest_tool.proofs.values.sum_values.Goals as goal

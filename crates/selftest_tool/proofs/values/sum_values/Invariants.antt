@@ -1,7 +1,7 @@
 use Rattle.std.proofs.Common.{◌≡◌, ◌≤◌, ◌*◌, ◌^◌, take, IsTrue}
 use Rattle.std.specs.List.{sum_by}
 use Rattle.elf_object.specs.Answers.{items_at, syms_of}
-use Rattle.command_outcomes.specs.object_output.Steps.{LeavesElf}
+use Rattle.elfkit_outcomes.specs.tool_objects.Steps.{LeavesElf}
 use Rattle.selftest_tool.proofs.values.sum_values.Given as goal
 
 abbrev pub invariant-loop-i : goal.invariant-loop-i

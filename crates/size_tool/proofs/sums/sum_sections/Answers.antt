@@ -1,5 +1,5 @@
 use Rattle.std.proofs.Common.{◌^◌, arith}
-use Rattle.object_output.proofs.SectionLemmas.{ok_is}
+use Rattle.tool_objects.proofs.SectionLemmas.{ok_value_is}
 use Rattle.size_tool.proofs.SumLemmas.{within_more, sums_next, sums_all}
 use Rattle.size_tool.proofs.sums.sum_sections.Goals as goal
 
@@ -15,7 +15,7 @@ with_section-sums-requires g c =
 
 pub loop-s-preserved : goal.loop-s-preserved
 loop-s-preserved g c =
-    let count = ok_is _ _ c.shnum-s-end.ensures in
+    let count = ok_value_is _ _ c.shnum-s-end.ensures in
     record {
       sums =
           sums_next c.args.elf.now.o c.loop-s.s _ c.loop-s.sums _
@@ -26,7 +26,7 @@ loop-s-preserved g c =
 
 pub returns-clause-sums : goal.returns-clause-sums
 returns-clause-sums g c =
-    let count = ok_is _ _ c.shnum-s-end.ensures in
+    let count = ok_value_is _ _ c.shnum-s-end.ensures in
     sums_all c.args.elf.now.o.sections c.loop-s.s c.loop-s.sums
     (omega (arith, count, c.loop-s-test.false)) c.loop-s.invariant.sums
 

@@ -1,7 +1,6 @@
-use Rattle.object_writing.specs.elf_descriptor.Reads.{wanted}
-use Rattle.strip_contents.specs.strip_removed.Calls as calls
-use Rattle.strip_contents.proofs.strip_rebuild.WholeLaws.{clean_stays, removable_stays}
-use Rattle.strip_contents.proofs.WholeLaws.{tied_stays, fits_stays}
+use Rattle.tool_files.specs.elf_descriptor.Reads.{wanted}
+use Rattle.rebuild_plan.specs.rebuild_select.Calls as calls
+use Rattle.rebuild_plan.proofs.rebuild_keep.WholeLaws.{clean_stays, removable_stays}
 use Rattle.strip_tool.proofs.StripLemmas.{planned_without, unplanned}
 use Rattle.strip_tool.proofs.planning.plan_stripped.Goals as goal
 
@@ -9,16 +8,6 @@ pub plan_rebuilt-requires-clause-clean : goal.plan_rebuilt-requires-clause-clean
 plan_rebuilt-requires-clause-clean g c =
     clean_stays c.args.elf.now c.removed.new.elf c.in-Ok.ensures.queries.object
     c.in-Ok.ensures.queries.reads.told c.requires.clean
-
-pub plan_rebuilt-requires-clause-tied : goal.plan_rebuilt-requires-clause-tied
-plan_rebuilt-requires-clause-tied g c =
-    tied_stays c.args.elf.now c.removed.new.elf c.in-Ok.ensures.queries.object
-    c.in-Ok.ensures.queries.reads.told c.requires.tied
-
-pub plan_rebuilt-requires-clause-fits : goal.plan_rebuilt-requires-clause-fits
-plan_rebuilt-requires-clause-fits g c =
-    fits_stays c.args.elf.now c.removed.new.elf c.in-Ok.ensures.queries.object
-    c.in-Ok.ensures.queries.reads.told c.requires.fits
 
 pub plan_rebuilt-requires-clause-removable : goal.plan_rebuilt-requires-clause-removable
 plan_rebuilt-requires-clause-removable g c =

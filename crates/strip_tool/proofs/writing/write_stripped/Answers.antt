@@ -1,14 +1,8 @@
 use Rattle.strip_tool.proofs.WriteLemmas.{stripped_written, stripped_refused}
 use Rattle.strip_tool.proofs.writing.write_stripped.Goals as goal
 
-pub plan_stripped-requires-clause-clean : goal.plan_stripped-requires-clause-clean
-plan_stripped-requires-clause-clean g c = c.requires.clean
-
-pub plan_stripped-requires-clause-tied : goal.plan_stripped-requires-clause-tied
-plan_stripped-requires-clause-tied g c = c.requires.tied
-
-pub plan_stripped-requires-clause-fits : goal.plan_stripped-requires-clause-fits
-plan_stripped-requires-clause-fits g c = c.requires.fits
+pub plan_stripped-requires : goal.plan_stripped-requires
+plan_stripped-requires g c = record { clean = c.requires.clean }
 
 pub returns-in-Ok : goal.returns-in-Ok
 returns-in-Ok g c =

@@ -3,10 +3,10 @@ use Rattle.elf_types.specs.Answers.{Follows}
 use Rattle.hash_model.specs.elf_object.Object.{Object}
 use Rattle.hash_model.specs.elf_object.Answers.{items_at, bytes_of}
 use Rattle.hash_model.specs.Hashes.{gnu_hash}
-use Rattle.symbol_lookup.specs.declared.walks.Start.{Start}
+use Rattle.symbol_lookup.specs.declared.walks.WalkStart.{WalkStart}
 use Rattle.symbol_lookup.specs.Walks.{gnu_start}
 use Rattle.symbol_lookup.specs.Lookups.{link_of, found_from, gnu_found, gnu_needs}
-use Rattle.symbol_lookup.specs.Searches.{IsThere}
+use Rattle.symbol_lookup.specs.Searches.{IsHashReadable}
 use Rattle.symbol_lookup.proofs.FollowLaws.{then_ends}
 use Rattle.symbol_lookup.proofs.SearchLaws.{searches_end}
 use Rattle.symbol_lookup.proofs.NeedLaws.{gnu_bytes, gnu_table, gnu_links, gnu_there}
@@ -21,7 +21,7 @@ find_from-requires-clause-symbols g c =
 pub find_from-requires-clause-there : goal.find_from-requires-clause-there
 find_from-requires-clause-there g c =
     let first = c.in-Ok.ensures.searches (gnu_needs c.args.elf.now.o c.args.h.0) (gnu_bytes c.args.elf.now.o c.args.h.0) in
-    subst (λ (o : Object). IsThere o c.args.h.0 c.in-Ok.start.links) (sym first.object) (gnu_there c.args.elf.now.o c.args.h.0 c.in-Ok.start.links c.in-Ok.ensures.begins.0 c.requires.bytes)
+    subst (λ (o : Object). IsHashReadable o c.args.h.0 c.in-Ok.start.links) (sym first.object) (gnu_there c.args.elf.now.o c.args.h.0 c.in-Ok.start.links c.in-Ok.ensures.begins.0 c.requires.bytes)
 
 pub find_from-requires-clause-links : goal.find_from-requires-clause-links
 find_from-requires-clause-links g c = c.in-Ok.ensures.begins.1
@@ -50,7 +50,7 @@ pub returns-in-Err-clause-follows : goal.returns-in-Err-clause-follows
 unfolding gnu_found
 returns-in-Err-clause-follows g c = λ told.
     then_ends c.in-Err.e (gnu_start c.args.elf.now.o.header.class c.args.elf.now.o.header.order (bytes_of (items_at c.args.elf.now.o c.args.h.0 0)) (gnu_hash c.args.name.now)) (found_from c.args.elf.now.o c.args.h.0 (link_of c.args.elf.now.o c.args.h.0) c.args.name.now)
-    (subst (λ (k : ℕ). Follows {T = Start} (Err c.in-Err.e) (gnu_start c.args.elf.now.o.header.class c.args.elf.now.o.header.order (bytes_of (items_at c.args.elf.now.o c.args.h.0 0)) k)) c.gnu_hash.ensures (c.in-Err.ensures.follows told))
+    (subst (λ (k : ℕ). Follows {T = WalkStart} (Err c.in-Err.e) (gnu_start c.args.elf.now.o.header.class c.args.elf.now.o.header.order (bytes_of (items_at c.args.elf.now.o c.args.h.0 0)) k)) c.gnu_hash.ensures (c.in-Err.ensures.follows told))
 
 pub returns-in-Err-clause-searches : goal.returns-in-Err-clause-searches
 returns-in-Err-clause-searches g c =

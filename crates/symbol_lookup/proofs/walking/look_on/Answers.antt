@@ -4,7 +4,7 @@ use Rattle.elf_types.specs.Answers.{Follows}
 use Rattle.hash_model.specs.elf_object.Object.{Object}
 use Rattle.hash_model.proofs.elf_object.AnswerLaws.{lend_passed}
 use Rattle.symbol_lookup.specs.Lookups.{is_match, walked_on}
-use Rattle.symbol_lookup.specs.Searches.{IsThere}
+use Rattle.symbol_lookup.specs.Searches.{IsHashReadable}
 use Rattle.symbol_lookup.proofs.FollowLaws.{free_ends, later_follows}
 use Rattle.symbol_lookup.proofs.SearchLaws.{searches_both, searches_end}
 use Rattle.symbol_lookup.proofs.StepLaws.{links_stay, ok_is}
@@ -14,7 +14,7 @@ pub link-strings-requires : goal.link-strings-requires
 link-strings-requires g c = (lend_passed c.args.elf.now.o kinds.Sym c.args.s.0 0 c.requires.symbols).0
 
 pub walk_on-requires-clause-there : goal.walk_on-requires-clause-there
-walk_on-requires-clause-there g c = subst (λ (o : Object). IsThere o c.args.h.0 c.args.links) (sym c.in-Ok.ensures.stays.object) c.requires.there
+walk_on-requires-clause-there g c = subst (λ (o : Object). IsHashReadable o c.args.h.0 c.args.links) (sym c.in-Ok.ensures.stays.object) c.requires.there
 
 pub returns-in-Ok-clause-follows : goal.returns-in-Ok-clause-follows
 returns-in-Ok-clause-follows g c = λ told.

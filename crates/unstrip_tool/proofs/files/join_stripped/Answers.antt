@@ -1,8 +1,8 @@
 use Rattle.std.proofs.Common.{IsTrue, IsSome, ◌<◌, ◌⊎◌, inr}
 use Rattle.elf_outside.specs.Counts.{Rose}
-use Rattle.unstrip_join.proofs.elf_descriptor.BeginAnswers.{begun_clean}
-use Rattle.strip_tool.proofs.object_output.SourceSteps.{leaves_then}
-use Rattle.strip_tool.proofs.StripLemmas.{begun_over, begun_tied, begun_fits}
+use Rattle.rebuild_join.proofs.elf_descriptor.BeginAnswers.{begun_clean}
+use Rattle.strip_tool.proofs.tool_objects.SourceSteps.{leaves_then}
+use Rattle.strip_tool.proofs.StripLemmas.{begun_over, begun_tied, begun_object_fits}
 use Rattle.unstrip_tool.specs.Joins.{debug_done}
 use Rattle.unstrip_tool.proofs.BesideLemmas.{begun_writes, begun_refused}
 use Rattle.unstrip_tool.proofs.files.join_stripped.Goals as goal
@@ -25,7 +25,7 @@ join_named-requires-clause-tied g c =
 
 pub join_named-requires-clause-fits : goal.join_named-requires-clause-fits
 join_named-requires-clause-fits g c =
-    begun_fits g.S.Source c.args.src c.in-Ok.stripped c.in-Ok.ensures.begun
+    begun_object_fits g.S.Source c.args.src c.in-Ok.stripped c.in-Ok.ensures.begun
 
 pub returns-in-Ok-clause-writes : goal.returns-in-Ok-clause-writes
 returns-in-Ok-clause-writes g c =

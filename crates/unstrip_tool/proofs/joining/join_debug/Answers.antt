@@ -1,6 +1,6 @@
 use Rattle.std.proofs.Common.{IsTrue, IsSome, ◌<◌, ◌⊎◌, inr}
-use Rattle.unstrip_join.proofs.elf_descriptor.BeginAnswers.{begun_clean}
-use Rattle.strip_tool.proofs.object_output.SourceSteps.{leaves_then}
+use Rattle.rebuild_join.proofs.elf_descriptor.BeginAnswers.{begun_clean}
+use Rattle.strip_tool.proofs.tool_objects.SourceSteps.{leaves_then}
 use Rattle.strip_tool.proofs.StripLemmas.{begun_over, begun_tied}
 use Rattle.unstrip_tool.specs.Joins.{objects_done}
 use Rattle.unstrip_tool.proofs.BesideLemmas.{same_source, begun_writes, begun_refused}

@@ -1,7 +1,6 @@
-use Rattle.unstrip_join.specs.elf_descriptor.Reads.{wanted}
-use Rattle.unstrip_join.specs.strip_removed.Calls as calls
-use Rattle.unstrip_join.proofs.strip_rebuild.WholeLaws.{clean_stays, removable_stays}
-use Rattle.debug_contents.proofs.strip_contents.WholeLaws.{tied_stays, fits_stays}
+use Rattle.rebuild_join.specs.elf_descriptor.Reads.{wanted}
+use Rattle.rebuild_join.specs.rebuild_select.Calls as calls
+use Rattle.rebuild_join.proofs.rebuild_keep.WholeLaws.{clean_stays, removable_stays}
 use Rattle.strip_tool.proofs.StripLemmas.{over_stays}
 use Rattle.unstrip_tool.proofs.WriteLemmas.{removed_written, removed_refused}
 use Rattle.unstrip_tool.proofs.writing.write_halves.Goals as goal
@@ -16,16 +15,6 @@ pub write_unless_lost-requires-clause-clean : goal.write_unless_lost-requires-cl
 write_unless_lost-requires-clause-clean g c =
     clean_stays c.args.elf c.removed.new.elf c.in-Ok.ensures.queries.object
     c.in-Ok.ensures.queries.reads.told c.requires.clean
-
-pub write_unless_lost-requires-clause-tied : goal.write_unless_lost-requires-clause-tied
-write_unless_lost-requires-clause-tied g c =
-    tied_stays c.args.elf c.removed.new.elf c.in-Ok.ensures.queries.object
-    c.in-Ok.ensures.queries.reads.told c.requires.tied
-
-pub write_unless_lost-requires-clause-fits : goal.write_unless_lost-requires-clause-fits
-write_unless_lost-requires-clause-fits g c =
-    fits_stays c.args.elf c.removed.new.elf c.in-Ok.ensures.queries.object
-    c.in-Ok.ensures.queries.reads.told c.requires.fits
 
 pub write_unless_lost-requires-clause-removable : goal.write_unless_lost-requires-clause-removable
 write_unless_lost-requires-clause-removable g c =

@@ -4,12 +4,6 @@ use Rattle.unstrip_tool.proofs.writing.write_split.Goals as goal
 pub plan_split-requires-clause-clean : goal.plan_split-requires-clause-clean
 plan_split-requires-clause-clean g c = c.requires.clean
 
-pub plan_split-requires-clause-tied : goal.plan_split-requires-clause-tied
-plan_split-requires-clause-tied g c = c.requires.tied
-
-pub plan_split-requires-clause-fits : goal.plan_split-requires-clause-fits
-plan_split-requires-clause-fits g c = c.requires.fits
-
 pub plan_split-requires-clause-removable : goal.plan_split-requires-clause-removable
 plan_split-requires-clause-removable g c = c.requires.removable
 

@@ -1,9 +1,9 @@
 use Rattle.std.proofs.Common.{codes, subst}
 use Rattle.tool_output.specs.Made.{written_outcome}
-use Rattle.strip_tool.specs.object_writing.Writes.{WritesFile}
+use Rattle.strip_tool.specs.tool_files.ElfImages.Writes.{WritesFile}
 use Rattle.copy_tool.specs.Writes.{Copying, copied_done}
 use Rattle.strip_tool.proofs.elf_descriptor.BeginAnswers.{begun_clean}
-use Rattle.strip_tool.proofs.StripLemmas.{begun_over, begun_tied, begun_fits}
+use Rattle.strip_tool.proofs.StripLemmas.{begun_over}
 use Rattle.copy_tool.proofs.commands.CopyCommandImageCommand.write.Goals as goal
 
 pub write_copied-requires-clause-over : goal.write_copied-requires-clause-over
@@ -13,14 +13,6 @@ write_copied-requires-clause-over g c =
 pub write_copied-requires-clause-clean : goal.write_copied-requires-clause-clean
 write_copied-requires-clause-clean g c =
     begun_clean g.S.Source c.requires.source c.args.elf c.requires.begun
-
-pub write_copied-requires-clause-tied : goal.write_copied-requires-clause-tied
-write_copied-requires-clause-tied g c =
-    begun_tied g.S.Source c.requires.source c.args.elf c.requires.begun c.requires.sound
-
-pub write_copied-requires-clause-fits : goal.write_copied-requires-clause-fits
-write_copied-requires-clause-fits g c =
-    begun_fits g.S.Source c.requires.source c.args.elf c.requires.begun
 
 pub write_copied-requires-clause-names : goal.write_copied-requires-clause-names
 write_copied-requires-clause-names g c = c.self.invariant

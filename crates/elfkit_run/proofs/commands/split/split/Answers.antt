@@ -1,5 +1,5 @@
 use Rattle.std.proofs.Common.{sym}
-use Rattle.selftest_tool.specs.object_output.Images.{file_object}
+use Rattle.selftest_tool.specs.tool_objects.Images.{file_object}
 use Rattle.elfkit_run.proofs.SplitLemmas.{halves_unwritten, split_is}
 use Rattle.elfkit_run.proofs.commands.split.split.Goals as goal
 

@@ -1,5 +1,5 @@
 use Rattle.elfkit_run.proofs.StripLemmas.{strip_unwritten, strip_is}
-use Rattle.selftest_tool.specs.object_output.Images.{file_object}
+use Rattle.selftest_tool.specs.tool_objects.Images.{file_object}
 use Rattle.elfkit_run.proofs.commands.strip.strip.Goals as goal
 
 pub strip_named-requires : goal.strip_named-requires

@@ -1,10 +1,10 @@
 use Rattle.std.specs.Prelude.{codes}
 use Rattle.tool_output.proofs.SourceLemmas.{refuses_after}
-use Rattle.object_output.proofs.elf_descriptor.BeginAnswers.{opened_told, opened_refused}
-use Rattle.object_output.specs.Images.{image_report}
-use Rattle.object_output.specs.Looks.{looks_over}
-use Rattle.object_output.proofs.ImageLemmas.{image_refused, refused_asked}
-use Rattle.object_output.proofs.SourceSteps.{after_read}
+use Rattle.tool_objects.proofs.elf_descriptor.BeginAnswers.{opened_told, opened_refused}
+use Rattle.tool_objects.specs.Images.{image_report}
+use Rattle.tool_objects.specs.Looks.{looks_over}
+use Rattle.tool_objects.proofs.ImageLemmas.{image_refused, refused_asked}
+use Rattle.tool_objects.proofs.SourceSteps.{after_read}
 use Rattle.nm_tool.specs.Tool.{nm_report}
 use Rattle.nm_tool.proofs.FrontSteps.{front_asked}
 use Rattle.nm_tool.proofs.tool.NmToolObjectTool.show_source.Goals as goal

@@ -1,6 +1,6 @@
 use Rattle.std.proofs.Common.{ℕ, Option, ap, sym}
-use Rattle.object_output.proofs.ElfSteps.{elf_as}
-use Rattle.object_output.specs.gelf_view.Chains.{verdefs}
+use Rattle.tool_objects.proofs.ElfSteps.{elf_as}
+use Rattle.tool_objects.specs.gelf_view.Chains.{verdefs}
 use Rattle.readelf_chains.specs.Entries.{entries_by, entries_report}
 use Rattle.readelf_chains.specs.Definitions.{verdef_report, definitions_records}
 use Rattle.readelf_chains.proofs.definitions.DefinitionsRecords.show.Goals as goal

@@ -1,6 +1,6 @@
 use Rattle.std.proofs.Common.{ℕ, Option, ap, sym}
-use Rattle.object_output.proofs.ElfSteps.{elf_as}
-use Rattle.object_output.specs.gelf_view.Chains.{verneeds}
+use Rattle.tool_objects.proofs.ElfSteps.{elf_as}
+use Rattle.tool_objects.specs.gelf_view.Chains.{verneeds}
 use Rattle.readelf_chains.specs.Entries.{entries_by, entries_report}
 use Rattle.readelf_chains.specs.Needs.{verneed_report, needs_records}
 use Rattle.readelf_chains.proofs.needs.NeedsRecords.show.Goals as goal

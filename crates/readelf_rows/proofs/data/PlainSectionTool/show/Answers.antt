@@ -1,6 +1,6 @@
 use Rattle.std.proofs.Common.{sym, ap, ◌∙◌}
 use Rattle.elf_types.specs.declared.records.Shdr.{Shdr}
-use Rattle.object_output.proofs.ElfSteps.{elf_left, elf_says_none, elf_as}
+use Rattle.tool_objects.proofs.ElfSteps.{elf_left, elf_says_none, elf_as}
 use Rattle.readelf_rows.specs.Data.{plain_report, if_plain}
 use Rattle.readelf_rows.proofs.DataLemmas.{plain_has, plain_has_not}
 use Rattle.readelf_rows.proofs.data.PlainSectionTool.show.Goals as goal

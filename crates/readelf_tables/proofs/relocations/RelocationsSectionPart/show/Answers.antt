@@ -1,5 +1,5 @@
 use Rattle.std.proofs.Common.{sym, ◌∙◌}
-use Rattle.object_output.proofs.ElfSteps.{elf_as}
+use Rattle.tool_objects.proofs.ElfSteps.{elf_as}
 use Rattle.readelf_tables.specs.Relocations.{rels_of_section, relas_of_section, relocations_of_section}
 use Rattle.readelf_tables.proofs.RelocationLemmas.{rels_shown, relas_shown}
 use Rattle.readelf_tables.proofs.relocations.RelocationsSectionPart.show.Goals as goal

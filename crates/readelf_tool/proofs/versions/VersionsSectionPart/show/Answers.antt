@@ -1,5 +1,5 @@
 use Rattle.std.proofs.Common.{sym, ◌∙◌}
-use Rattle.object_output.proofs.ElfSteps.{elf_as}
+use Rattle.tool_objects.proofs.ElfSteps.{elf_as}
 use Rattle.readelf_chains.specs.Definitions.{definitions_of_section}
 use Rattle.readelf_chains.specs.Needs.{needs_of_section}
 use Rattle.readelf_tables.specs.Indexes.{indexes_of_section}

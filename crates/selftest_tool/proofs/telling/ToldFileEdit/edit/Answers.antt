@@ -1,6 +1,6 @@
 use Rattle.std.specs.Prelude.{codes}
 use Rattle.tool_output.specs.Names.{file_name}
-use Rattle.command_outcomes.specs.object_output.Images.{image_report}
+use Rattle.elfkit_outcomes.specs.tool_objects.Images.{image_report}
 use Rattle.selftest_tool.specs.Told.{told_report, told_outcome}
 use Rattle.selftest_tool.proofs.FileLemmas.{told_edits}
 use Rattle.selftest_tool.proofs.telling.ToldFileEdit.edit.Goals as goal

@@ -1,6 +1,6 @@
 use Rattle.std.proofs.Common.{ℕ, ◌∙◌}
 use Rattle.tool_output.specs.declared.stops.Stop.TheVariants.{Memory}
-use Rattle.command_outcomes.proofs.object_output.ElfSteps.{elf_left, elf_unread, left_as}
+use Rattle.elfkit_outcomes.proofs.tool_objects.ElfSteps.{elf_left, elf_unread, left_as}
 use Rattle.selftest_tool.specs.Told.{told_report}
 use Rattle.selftest_tool.proofs.telling.ToldObjectTool.show.Goals as goal
 

@@ -1,4 +1,4 @@
-use Rattle.object_output.proofs.ElfSteps.{elf_says, elf_left}
+use Rattle.tool_objects.proofs.ElfSteps.{elf_says, elf_left}
 use Rattle.size_tool.specs.Tool.{size_report}
 use Rattle.size_tool.proofs.tool.SizeToolObjectTool.show.Goals as goal
 

@@ -1,9 +1,9 @@
 use Rattle.std.specs.Prelude.{codes}
 use Rattle.elf_ident.specs.Front.{most_front_bytes}
 use Rattle.tool_output.proofs.SourceLemmas.{reports_after, refuses_after}
-use Rattle.object_output.specs.Looks.{no_look}
-use Rattle.object_output.specs.Images.{image_report}
-use Rattle.object_output.proofs.ImageLemmas.{image_refused, refused_asked}
+use Rattle.tool_objects.specs.Looks.{no_look}
+use Rattle.tool_objects.specs.Images.{image_report}
+use Rattle.tool_objects.proofs.ImageLemmas.{image_refused, refused_asked}
 use Rattle.size_tool.specs.Tool.{size_report}
 use Rattle.size_tool.proofs.FrontSums.{sums_reported, object_refused}
 use Rattle.size_tool.proofs.tool.SizeToolObjectTool.show_source.Goals as goal

@@ -1,5 +1,5 @@
-use Rattle.object_writing.proofs.elf_descriptor.BeginAnswers.{begun_clean}
-use Rattle.strip_tool.proofs.StripLemmas.{begun_over, begun_tied, begun_fits}
+use Rattle.tool_files.proofs.elf_descriptor.BeginAnswers.{begun_clean}
+use Rattle.strip_tool.proofs.StripLemmas.{begun_over}
 use Rattle.strip_tool.proofs.commands.StripCommandImageCommand.write.Goals as goal
 
 pub write_stripped-requires-clause-over : goal.write_stripped-requires-clause-over
@@ -9,11 +9,3 @@ write_stripped-requires-clause-over g c =
 pub write_stripped-requires-clause-clean : goal.write_stripped-requires-clause-clean
 write_stripped-requires-clause-clean g c =
     begun_clean g.S.Source c.requires.source c.args.elf c.requires.begun
-
-pub write_stripped-requires-clause-tied : goal.write_stripped-requires-clause-tied
-write_stripped-requires-clause-tied g c =
-    begun_tied g.S.Source c.requires.source c.args.elf c.requires.begun c.requires.sound
-
-pub write_stripped-requires-clause-fits : goal.write_stripped-requires-clause-fits
-write_stripped-requires-clause-fits g c =
-    begun_fits g.S.Source c.requires.source c.args.elf c.requires.begun

@@ -1,5 +1,5 @@
-use Rattle.unstrip_join.proofs.elf_descriptor.BeginAnswers.{begun_clean}
-use Rattle.strip_tool.proofs.StripLemmas.{begun_over, begun_tied, begun_fits}
+use Rattle.rebuild_join.proofs.elf_descriptor.BeginAnswers.{begun_clean}
+use Rattle.strip_tool.proofs.StripLemmas.{begun_over}
 use Rattle.unstrip_tool.proofs.commands.SplitCommandImageCommand.write.Goals as goal
 
 pub write_halves-requires-clause-over : goal.write_halves-requires-clause-over
@@ -9,11 +9,3 @@ write_halves-requires-clause-over g c =
 pub write_halves-requires-clause-clean : goal.write_halves-requires-clause-clean
 write_halves-requires-clause-clean g c =
     begun_clean g.S.Source c.requires.source c.args.elf c.requires.begun
-
-pub write_halves-requires-clause-tied : goal.write_halves-requires-clause-tied
-write_halves-requires-clause-tied g c =
-    begun_tied g.S.Source c.requires.source c.args.elf c.requires.begun c.requires.sound
-
-pub write_halves-requires-clause-fits : goal.write_halves-requires-clause-fits
-write_halves-requires-clause-fits g c =
-    begun_fits g.S.Source c.requires.source c.args.elf c.requires.begun

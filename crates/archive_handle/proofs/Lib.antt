@@ -1,3 +1,0 @@
-pub mod AnyArchive
-pub mod Boxes
-pub mod Openings

@@ -1,0 +1,3 @@
+mod Given
+mod Named
+mod Stepped

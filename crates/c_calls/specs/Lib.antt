@@ -1,0 +1,5 @@
+pub mod Archives
+pub mod Translation
+pub mod Editing
+pub mod Updating
+pub mod Writes

@@ -1,0 +1,3 @@
+mod AnyArchive
+mod Boxes
+mod Openings

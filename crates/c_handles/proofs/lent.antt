@@ -1,0 +1,4 @@
+mod LentFields
+mod Lending
+pub mod WriteLaws
+mod KeepLaws

@@ -1,0 +1,5 @@
+pub mod AnyObject
+mod Boxes
+pub mod ImageLaws
+mod LooseFields
+pub mod Openings

@@ -1,0 +1,4 @@
+pub mod Lent
+pub mod Objects
+pub mod Archives
+pub mod Writes

@@ -1,1 +1,0 @@
-pub use Rattle.command_objects.proofs.elf_object

@@ -1,6 +1,0 @@
-use Rattle.copy_edits.proofs.FlagLaws.{Flagged}
-use Rattle.copy_edits.proofs.flags.flag_sections.Given as goal
-
-abbrev pub invariant-loop-change : goal.invariant-loop-change
-invariant-loop-change l =
-    Flagged l.marks l.renames l.changes l.change-index l.initial.elf l.elf

@@ -1,5 +1,0 @@
-use Rattle.debug_contents.proofs.KeepLaws.{HalfKept}
-use Rattle.debug_contents.proofs.keeping.add_sections.Given as goal
-
-abbrev pub invariant-loop-s : goal.invariant-loop-s
-invariant-loop-s g l = HalfKept l.elf l.contents l.s

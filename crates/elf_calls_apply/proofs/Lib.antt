@@ -1,0 +1,10 @@
+mod ByKind
+mod Answered
+mod Refusing
+mod ReadLaws
+mod Meeting
+mod Setting
+mod AddLaws
+mod ItemForms
+mod SetFields
+mod Forms

@@ -1,0 +1,4 @@
+mod RuleLemmas
+mod OpenedLemmas
+mod NoFindings
+mod ReachLaws

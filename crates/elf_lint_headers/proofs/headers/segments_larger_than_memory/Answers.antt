@@ -1,0 +1,10 @@
+use Rattle.tool_objects.proofs.ElfSteps.{elf_left, elf_says}
+use Rattle.elf_lint_findings.specs.Findings.{findings_shown}
+use Rattle.elf_lint_headers.specs.Headers.{segments_larger_than_memory}
+use Rattle.elf_lint_headers.proofs.headers.segments_larger_than_memory.Goals as goal
+
+pub returns : goal.returns
+unfolding segments_larger_than_memory
+returns g c =
+    elf_says g.S.Source g.O.Sink g.E.Sink (λ o. findings_shown c.args.name.now (segments_larger_than_memory o)) _ c.args.elf.now _ c.args.outputs.now _ (elf_left g.S.Source c.args.elf.now)
+    (λ told. c.each_segment.ensures.reports) c.each_segment.ensures.leaves

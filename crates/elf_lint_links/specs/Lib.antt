@@ -1,0 +1,4 @@
+pub mod Links
+pub mod StringTables
+pub mod Dynamic
+pub mod Chains

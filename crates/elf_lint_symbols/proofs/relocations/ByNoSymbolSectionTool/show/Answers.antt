@@ -1,0 +1,21 @@
+use Rattle.std.proofs.Common.{ap, sym, ◌∙◌}
+use Rattle.elf_types.specs.declared.records.ScnId.{ScnId}
+use Rattle.tool_objects.proofs.ElfSteps.{elf_left, elf_as, elf_says_none}
+use Rattle.elf_lint_findings.specs.Findings.{findings_shown}
+use Rattle.elf_lint_findings.proofs.FindingLemmas.{no_findings}
+use Rattle.elf_lint_symbols.specs.Relocations.{relocations_at}
+use Rattle.elf_lint_symbols.proofs.RelocationLemmas.{none_found}
+use Rattle.elf_lint_symbols.proofs.relocations.ByNoSymbolSectionTool.show.Goals as goal
+
+pub returns-in-Some : goal.returns-in-Some
+returns-in-Some g c =
+    let o = c.args.elf.now.o in
+    let by = c.args.self.now in
+    elf_as g.S.Source g.O.Sink g.E.Sink _ _ _ c.args.elf.now _ c.args.outputs.now _
+    (λ told. ap (λ (x : ScnId). findings_shown by.name.now (relocations_at by.number by.text.now o x.0)) (sym c.in-Some.ensures.section)) c.show_relocations.ensures
+
+pub returns-in-None : goal.returns-in-None
+returns-in-None g c =
+    let by = c.args.self.now in
+    elf_says_none g.S.Source g.O.Sink g.E.Sink _ c.args.elf.now _ c.args.outputs.now (elf_left g.S.Source c.args.elf.now)
+    (λ told. ap (findings_shown by.name.now) (none_found by.number by.text.now c.args.elf.now.o c.args.s.0 c.in-None.ensures.none) ∙ no_findings by.name.now)

@@ -1,7 +1,0 @@
-use Rattle.elf_update.proofs.FrontLaws.{section_row}
-use Rattle.elf_update.proofs.fronts.SectionRowsRows.put_row.Goals as goal
-
-pub returns : goal.returns
-returns g c =
-    section_row c.args.self.now.elf.now.o c.args.i c.put_section.new.out c.requires.there
-    c.put_section.ensures

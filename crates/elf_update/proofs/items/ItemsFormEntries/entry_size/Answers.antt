@@ -1,5 +1,0 @@
-use Rattle.elf_update.proofs.ItemLaws.{items_all}
-use Rattle.elf_update.proofs.items.ItemsFormEntries.entry_size.Goals as goal
-
-pub returns-clause-all : goal.returns-clause-all
-returns-clause-all c = items_all c.args.self.now.class c.args.self.now.order c.args.self.now.items.now

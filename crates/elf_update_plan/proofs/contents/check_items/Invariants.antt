@@ -1,0 +1,7 @@
+use Rattle.elf_descriptor.specs.elf_object.Object.{absent_section}
+use Rattle.elf_descriptor.specs.elf_object.Refusal.{unfit_in_section}
+use Rattle.elf_update_plan.proofs.RowLaws.{NoneBefore}
+use Rattle.elf_update_plan.proofs.contents.check_items.Given as goal
+
+abbrev pub invariant-loop-s : goal.invariant-loop-s
+invariant-loop-s g l = NoneBefore (unfit_in_section l.elf.o.header.class) absent_section l.elf.o.sections l.s

@@ -1,0 +1,3 @@
+mod CallsLemmas
+mod CallsUpdateLemmas
+mod RehashLemmas

@@ -1,0 +1,3 @@
+mod ObjectLemmas
+mod TitleLemmas
+mod TitledLemmas

@@ -1,4 +1,0 @@
-pub mod RuleLemmas
-mod OpenedLemmas
-mod NoFindings
-pub mod ReachLaws

@@ -1,5 +1,0 @@
-use Rattle.finding_laws.proofs.BuiltHold.{built_have_no_finding}
-use Rattle.finding_laws.proofs.laws.built_have_no_finding.Goals as goal
-
-pub returns : goal.returns
-returns c = built_have_no_finding c.built_are_whole.ensures

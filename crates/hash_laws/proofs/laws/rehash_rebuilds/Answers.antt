@@ -1,5 +1,0 @@
-use Rattle.hash_laws.proofs.RebuiltAgain as laws
-use Rattle.hash_laws.proofs.laws.rehash_rebuilds.Goals as goal
-
-pub returns : goal.returns
-returns c = laws.rehash_rebuilt c.reopen_law.ensures c.settling_keeps_items.ensures

@@ -1,4 +1,0 @@
-pub mod RangeLaws
-pub mod WalkLaws
-pub mod ImageLaws
-pub mod CheckLaws

@@ -1,9 +1,0 @@
-use Rattle.image_ranges.specs.Ranges.{kept_of_parts}
-use Rattle.image_ranges.proofs.RangeLaws.{part_extent}
-use Rattle.image_ranges.proofs.parts.RangedPartsImageParts.piece.Goals as goal
-
-pub returns : goal.returns
-returns g c =
-    part_extent (kept_of_parts g.S.Source c.args.self.now) c.args.part c.range_at.result
-    c.args._p c.extent_of.result c.range_at.ensures c.requires.ready c.requires.there
-    c.extent_of.ensures

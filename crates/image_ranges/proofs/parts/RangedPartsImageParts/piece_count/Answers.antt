@@ -1,8 +1,0 @@
-use Rattle.image_ranges.specs.Ranges.{kept_of_parts}
-use Rattle.image_ranges.proofs.RangeLaws.{part_count}
-use Rattle.image_ranges.proofs.parts.RangedPartsImageParts.piece_count.Goals as goal
-
-pub returns : goal.returns
-returns g c =
-    part_count (kept_of_parts g.S.Source c.args.self.now) c.args.part c.range_at.result
-    c.count_pieces.result c.range_at.ensures c.count_pieces.ensures

@@ -1,0 +1,23 @@
+mod NameLaws
+mod CountLaws
+mod SysvBuilt
+mod GnuBytes
+mod GnuBloom
+mod GnuBuilt
+mod BuiltHold
+mod StableLaws
+mod SameLaws
+mod RenumberedLaws
+mod TypeLaws
+mod ReorderedLaws
+mod OrderedNames
+mod ReorderedItems
+mod Shapes
+pub mod RehashedLaws
+mod RehashHold
+mod ReopenedSections
+mod WrittenSections
+mod RebuiltLaws
+mod RehashAgain
+mod NumberRanges
+mod RebuiltAgain

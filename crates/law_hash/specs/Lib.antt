@@ -1,0 +1,3 @@
+pub mod Built
+pub mod Rehash
+pub mod Find

@@ -1,0 +1,16 @@
+pub mod NoneRemoved
+pub mod EachChange
+pub mod NamesAndPlaces
+pub mod AllChanges
+pub mod SameItems
+pub mod Reopened
+pub mod KeptSections
+pub mod CopySteps
+pub mod OnePiece
+pub mod GivenBytes
+pub mod SectionStrings
+pub mod TableNames
+pub mod NamePlaces
+pub mod RenewedNames
+pub mod KeptNames
+pub mod CopyLaw

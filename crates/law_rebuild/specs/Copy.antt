@@ -1,0 +1,2 @@
+pub mod CopyOpens
+pub mod Passed

@@ -1,0 +1,5 @@
+mod PhdrLaws
+mod ScriptLaws
+mod CallsLaws
+mod WrittenLaws
+mod KeptLaws

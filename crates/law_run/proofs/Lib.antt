@@ -1,0 +1,10 @@
+mod Requests
+mod Written
+mod CopyRequests
+mod StripRuns
+mod CopyRuns
+mod RehashRuns
+mod SplitRuns
+mod CallsWritten
+mod ProgramWritten
+mod OpenedRuns

@@ -1,0 +1,2 @@
+mod FileKinds
+mod RejoinLaws

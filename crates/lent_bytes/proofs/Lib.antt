@@ -1,2 +1,0 @@
-pub mod LentFields
-pub mod Lending

@@ -1,8 +1,0 @@
-use Rattle.lint_findings.specs.Findings.{finding}
-use Rattle.lint_findings.proofs.FindingLemmas.{none_if}
-use Rattle.object_output.proofs.tool_output.ReportLemmas.{reports_none}
-use Rattle.lint_findings.proofs.findings.find_if.Goals as goal
-
-pub returns-else-holds-clause-reports : goal.returns-else-holds-clause-reports
-returns-else-holds-clause-reports g c =
-    rw (c.if-holds.false, none_if c.args.name.now (finding c.args.number c.args.place c.args.text.now)) (reports_none g.O.Sink g.E.Sink c.args.outputs.now)

@@ -1,8 +1,0 @@
-pub use Rattle.object_output.specs.elf_descriptor
-pub use Rattle.object_output.specs.elf_object
-pub use Rattle.object_output.specs.gelf_view
-pub use Rattle.object_output.specs as object_output
-pub mod Findings
-pub mod Looking
-pub mod Steps
-pub mod Passed

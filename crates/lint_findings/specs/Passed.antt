@@ -1,2 +1,0 @@
--- What the crates above may unfold of the crates below.
-unfoldable pub use Rattle.object_output.specs.elf_object.Object.{header_of}

@@ -1,9 +1,0 @@
-pub mod GnuWords
-pub mod GnuChains
-pub mod AllSteps
-pub mod LentLemmas
-pub mod ListedLemmas
-pub mod SysvWords
-pub mod PathLaws
-pub mod SysvWhole
-pub mod GnuWhole

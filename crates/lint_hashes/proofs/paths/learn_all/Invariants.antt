@@ -1,5 +1,0 @@
-use Rattle.lint_hashes.specs.Paths.{ArePaths}
-use Rattle.lint_hashes.proofs.paths.learn_all.Given as goal
-
-abbrev pub invariant-loop-done : goal.invariant-loop-done
-invariant-loop-done l = ArePaths l.words l.t l.paths

@@ -1,9 +1,0 @@
-use Rattle.update_plan.proofs.PartLaws.{table_is}
-use Rattle.listed_layout.proofs.PartLaws.{shnum_listed}
-use Rattle.listed_layout.proofs.parts.table_part.Goals as goal
-
-pub returns : goal.returns
-returns c = λ o object is.
-    table_is o c.args.x.now.header c.args.x.now.header.shnum c.shdr_size.result
-    c.table_alignment.result is.header (shnum_listed o c.args.x.now is) c.shdr_size.ensures
-    c.table_alignment.ensures object.section_count

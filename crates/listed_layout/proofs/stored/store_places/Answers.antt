@@ -1,9 +1,0 @@
-use Rattle.std.proofs.Common.{refl}
-use Rattle.listed_layout.proofs.StoreLaws.{stored_listed}
-use Rattle.listed_layout.proofs.stored.store_places.Goals as goal
-
-pub returns-in-Ok-clause-ok : goal.returns-in-Ok-clause-ok
-returns-in-Ok-clause-ok c = λ o is dirty known.
-    stored_listed o c.args.x _ c.args.places.now is dirty known
-    (c.placed_header-header.ensures o is)
-    (c.in-Ok.ensures.ok o is (c.placed_header-header.ensures o is)) refl

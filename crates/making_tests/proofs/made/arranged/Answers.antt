@@ -1,6 +1,0 @@
-use Rattle.std.proofs.Common.{inl, sym, ◌∙◌}
-use Rattle.update_plan.proofs.RowLaws.{ok_is}
-use Rattle.making_tests.proofs.made.arranged.Goals as goal
-
-pub arrange-requires : goal.arrange-requires
-arrange-requires g c = inl (sym (ok_is _ _ c.shstrndx.ensures) ∙ c.if-shstrndx-ne0.false)

@@ -1,7 +1,0 @@
-use Rattle.std.proofs.Common.{arith}
-use Rattle.update_plan.proofs.RowLaws.{ok_is}
-use Rattle.making_tests.proofs.made.is_added.Goals as goal
-
-pub add_section-requires : goal.add_section-requires
-add_section-requires g c =
-    let count = ok_is _ _ c.shnum.ensures in omega (arith, count, c.if-shnum-eq0.false)

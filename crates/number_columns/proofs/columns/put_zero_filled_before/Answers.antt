@@ -1,7 +1,0 @@
-use Rattle.std.proofs.Common.{refl}
-use Rattle.number_columns.specs.Columns.{zero_filled}
-use Rattle.number_columns.proofs.columns.put_zero_filled_before.Goals as goal
-
-pub returns-clause-ok : goal.returns-clause-ok
-unfolding zero_filled
-returns-clause-ok c = c.put_both_by.ensures.ok 48 refl

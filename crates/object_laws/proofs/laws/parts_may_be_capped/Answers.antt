@@ -1,5 +1,0 @@
-use Rattle.object_laws.proofs.CapLaws.{parts_may_be_capped}
-use Rattle.object_laws.proofs.laws.parts_may_be_capped.Goals as goal
-
-pub returns : goal.returns
-returns c = parts_may_be_capped

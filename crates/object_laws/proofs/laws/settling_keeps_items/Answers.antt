@@ -1,5 +1,0 @@
-use Rattle.object_laws.proofs.ItemLaws.{settling_keeps_items}
-use Rattle.object_laws.proofs.laws.settling_keeps_items.Goals as goal
-
-pub returns : goal.returns
-returns c = settling_keeps_items c.decodes_as_encoded.ensures

@@ -1,5 +1,0 @@
-use Rattle.object_making.specs.Placing.{StandsBelow}
-use Rattle.object_making.proofs.places.find_table_place.Given as goal
-
-abbrev pub invariant-loop-s : goal.invariant-loop-s
-invariant-loop-s g l = StandsBelow l.elf.o l.tail l.limit l.end l.s

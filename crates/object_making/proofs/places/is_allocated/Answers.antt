@@ -1,6 +1,0 @@
-use Rattle.std.proofs.Common.{◌∙◌}
-use Rattle.object_making.proofs.PlaceLaws.{allocated_same}
-use Rattle.object_making.proofs.places.is_allocated.Goals as goal
-
-pub returns : goal.returns
-returns c = c.is_allocated.ensures ∙ allocated_same c.args.h.now

@@ -1,3 +1,0 @@
-pub mod ObjectLemmas
-pub mod TitleLemmas
-pub mod TitledLemmas

@@ -1,6 +1,0 @@
-use Rattle.read_commands.specs.Readelf.{readelf_outcome}
-use Rattle.read_commands.proofs.commands.readelf.readelf.Goals as goal
-
-pub returns-clause-does : goal.returns-clause-does
-unfolding readelf_outcome
-returns-clause-does g c = λ told. rw (← c.len.ensures) (rw (← c.under.ensures) (c.each_object.ensures.does told))

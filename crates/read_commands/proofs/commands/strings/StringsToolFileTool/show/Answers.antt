@@ -1,5 +1,0 @@
-use Rattle.object_output.proofs.ImageLemmas.{on_ok}
-use Rattle.read_commands.proofs.commands.strings.StringsToolFileTool.show.Goals as goal
-
-pub returns-clause-asks : goal.returns-clause-asks
-returns-clause-asks g c = on_ok _ _ c.show_strings-shown.ensures.asks

@@ -1,7 +1,0 @@
-use Rattle.tool_output.proofs.ReportLemmas.{reports_none}
-use Rattle.read_commands.specs.Titles.{title_report}
-use Rattle.read_commands.proofs.titles.show_title.Goals as goal
-
-pub returns-in-Untitled-clause-reports : goal.returns-in-Untitled-clause-reports
-unfolding title_report
-returns-in-Untitled-clause-reports g c = rw c.in-Untitled.is (reports_none g.O.Sink g.E.Sink c.args.outputs.now)

@@ -1,2 +1,0 @@
-pub mod AtHandLemmas
-pub mod BlockLemmas

@@ -1,4 +1,0 @@
-pub mod RowLemmas
-pub mod FrontLemmas
-pub mod LineLemmas
-pub mod NameLemmas

@@ -1,0 +1,2 @@
+mod AtHandLemmas
+pub mod BlockLemmas

@@ -1,0 +1,5 @@
+use Rattle.readelf_tables.proofs.RelocationLemmas.{rel_rows_are}
+use Rattle.readelf_tables.proofs.relocations.RelTableRows.show_rows.Goals as goal
+
+pub show_relocations_of-requires-clause-lines : goal.show_relocations_of-requires-clause-lines
+show_relocations_of-requires-clause-lines g c = rel_rows_are

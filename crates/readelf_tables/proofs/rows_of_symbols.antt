@@ -1,0 +1,4 @@
+mod RowLemmas
+mod FrontLemmas
+mod LineLemmas
+mod NameLemmas

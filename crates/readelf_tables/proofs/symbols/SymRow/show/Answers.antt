@@ -1,4 +1,0 @@
-use Rattle.readelf_tables.proofs.symbols.SymRow.show.Goals as goal
-
-pub show_row-requires-clause-end : goal.show_row-requires-clause-end
-show_row-requires-clause-end g c = λ told. tt

@@ -1,0 +1,1 @@
+pub use Rattle.rebuild_model.proofs.elf_object

@@ -1,0 +1,319 @@
+-- A new table and the places of names, stored.
+use Rattle.std.proofs.Common.{◌≡◌, ◌≢◌, ◌+◌, ◌<◌, ◌≤◌, ℕ, Bool, true, false, not, List, [], ◌∷◌, length, map, get_or, Option, Some, None, Result, Ok, Err, refl, sym, ap, ◌∙◌, subst, inl, inr, arith}
+use Rattle.std.specs.Prelude.{nat_le, slice_get, slice_set, unwrap_or, if◌then◌else◌}
+use Rattle.std.specs.List.{enumerate_from}
+use Rattle.std.proofs.lemmas.Bool.{cases_eq, cases_lt, ne_eqb, lt-leb, leb-true}
+use Rattle.std.proofs.lemmas.List.{ext_get_or, length-map, get_or-map, set_past, set-get_or}
+use Rattle.std.proofs.lemmas.List.FromFn.{length-enumerate_from, get_or-enumerate_from}
+use Rattle.elf_types.specs.declared.records.Shdr.{Shdr}
+use Rattle.elf_types.specs.declared.records.Part.TheVariants as part
+use Rattle.elf_types.specs.declared.errors.ElfError.{ElfError}
+use Rattle.elf_types.specs.declared.errors.ElfError.TheVariants.{NoSection, Reserved, NoData, Unfit}
+use Rattle.elf_types.specs.Answers.{refused_if, first_refusal, answered}
+use Rattle.elf_xlate.specs.declared.content.Items.{Items}
+use Rattle.elf_xlate.specs.declared.content.Items.TheVariants as items
+use Rattle.elf_xlate.specs.Headers.{shdr_fits}
+use Rattle.elf_xlate.specs.Translation.{first_unfit}
+use Rattle.rebuild_changes.specs.elf_object.Object.{Object, Section, Piece, section_at, piece_at, absent_section}
+use Rattle.rebuild_changes.specs.elf_object.Answers.{no_section, no_data, reserved, piece_count}
+use Rattle.rebuild_changes.specs.elf_object.Steps.{with_section, with_piece_at, with_own, with_shdr, own_piece}
+use Rattle.rebuild_changes.specs.elf_object.Calls.{update_shdr_refusal, replace_refusal, unfit_items}
+use Rattle.rebuild_changes.specs.elf_object.Calls as calls
+use Rattle.rebuild_changes.specs.elf_object.Words.{handing_back}
+use Rattle.rebuild_changes.specs.elf_object.Valid.{IsObject}
+use Rattle.rebuild_changes.proofs.elf_object.StepLaws.{section_count-with_section, section_at-with_shdr, section_at-with_shdr_other}
+use Rattle.law_rebuild.proofs.law_object.KeepLaws.{section_at_is}
+use Rattle.rebuild_making.specs.elf_descriptor.State.{State}
+use Rattle.rebuild_making.specs.elf_descriptor.Edits.{stepped}
+use Rattle.rebuild_changes.specs.elf_object.Sections.{header_at}
+use Rattle.rebuild_making.proofs.RefusedLaws.{alone, passes_first}
+use Rattle.rebuild_edits.specs.declared.naming.NewNameTable.{NewNameTable}
+use Rattle.rebuild_edits.specs.Edits.Steps.{IsPresentSection, KeepsIndex, Alters}
+use Rattle.rebuild_edits.proofs.edits.StepLaws.{keeps_as, keeps_both}
+use Rattle.rebuild_edits.specs.Stores.{with_name_place, with_places, with_table}
+
+-- ---- One name
+
+fits_still : (o : Object) (h : Shdr) (place : ℕ)
+    → shdr_fits o.header.class (record h { name = place }) ≡ shdr_fits o.header.class h
+unfolding shdr_fits
+fits_still o h place = refl
+
+pub name_passes : (o : Object) (s place : ℕ) → IsObject o → IsPresentSection o s
+    → update_shdr_refusal o s (record (header_at o s) { name = place }) ≡ None
+unfolding update_shdr_refusal
+name_passes o s place is there =
+    let h = record (header_at o s) { name = place } in
+    let unfit = refused_if (not (shdr_fits o.header.class h)) (Unfit (part.Section s) 0) in
+    let first = there.0 in
+    passes_first (no_section o s) (reserved s ∷ unfit ∷ [])
+    (ap (λ (b : Bool). refused_if b (NoSection s (length o.sections)))
+    (lt-leb (length o.sections) s there.1))
+    ∙ passes_first (reserved s) (unfit ∷ [])
+    (ap (λ (b : Bool). refused_if b Reserved) (ne_eqb s 0 (λ none. omega (arith, none, first))))
+    ∙ alone unfit
+    ∙ ap (λ (b : Bool). refused_if (not b) (Unfit (part.Section s) 0))
+    (fits_still o (header_at o s) place ∙ (section_at_is o s is).fitting)
+
+-- ---- All names
+
+-- the sections below a number have the places of their names
+pub record PutBelow (places : List ℕ) (o now : Object) (s : ℕ) : Type 0 where
+  pub object : now ≡ record o { sections = now.sections }
+  pub long : length now.sections ≡ length o.sections
+  pub before : (t : ℕ) → t < s → t < length o.sections
+      → section_at now t ≡ with_name_place places t (section_at o t)
+  pub after : (t : ℕ) → s ≤ t → section_at now t ≡ section_at o t
+
+pub put_none : (places : List ℕ) (o : Object) → PutBelow places o o 1
+put_none places o = record {
+  object = refl;
+  long = refl;
+  before = λ t below there.
+      let zero_is : 0 ≡ t = omega (arith, below) in
+      subst (λ (k : ℕ). section_at o k ≡ with_name_place places k (section_at o k)) zero_is refl;
+  after = λ t above. refl;
+}
+
+stored_alone : (o : Object) (s : ℕ) (h : Shdr)
+    → with_shdr o s h ≡ record o { sections = (with_shdr o s h).sections }
+unfolding with_shdr with_section
+stored_alone o s h = refl
+
+module _ (places : List ℕ) (o now : Object) (s : ℕ) (so_far : PutBelow places o now s) where
+  pub put_there : 0 < s → s < length o.sections → IsPresentSection now s
+  put_there from below = let long = so_far.long in (from, omega (arith, below, long))
+
+  put_here : (place : ℕ) → 0 < s → s < length o.sections
+      → place ≡ unwrap_or (slice_get places s) 0
+      → section_at (with_shdr now s (record (header_at now s) { name = place })) s
+      ≡ with_name_place places s (section_at o s)
+  put_here place from below is =
+      let long = so_far.long in
+      section_at-with_shdr now s (record (header_at now s) { name = place })
+      (omega (arith, below, long))
+      ∙ ap (λ (k : ℕ). record (section_at now s) {
+        header = record (section_at now s).header { name = k };
+        marked = true;
+      }) is
+      ∙ ap (λ (c : Section). record c {
+        header = record c.header { name = unwrap_or (slice_get places s) 0 };
+        marked = true;
+      }) (so_far.after s (omega arith))
+      ∙ sym (ap (λ (b : Bool). if b then section_at o s else (record (section_at o s) {
+        header = record (section_at o s).header { name = unwrap_or (slice_get places s) 0 };
+        marked = true;
+      })) (ne_eqb s 0 (λ none. omega (arith, none, from))))
+
+  pub put_more : (place : ℕ) (new : Object) → 0 < s → s < length o.sections
+      → place ≡ unwrap_or (slice_get places s) 0
+      → new ≡ with_shdr now s (record (header_at now s) { name = place })
+      → PutBelow places o new (s + 1)
+  unfolding with_shdr
+  put_more place new from below is stored =
+      let h = record (header_at now s) { name = place } in
+      let other = λ (t : ℕ) (apart : t ≢ s).
+      ap (λ (q : Object). section_at q t) stored ∙ section_at-with_shdr_other now s t h apart
+      in
+      record {
+        object = stored ∙ stored_alone now s h
+            ∙ ap (λ (l : List Section). record now { sections = l })
+            (ap (λ (q : Object). q.sections) (sym stored))
+            ∙ ap (λ (q : Object). record q { sections = new.sections }) so_far.object;
+        long = ap (λ (q : Object). length q.sections) stored
+            ∙ section_count-with_section now s _ ∙ so_far.long;
+        before = λ t low there. elim (cases_eq t s) [
+          | inl same ↦
+              subst (λ (k : ℕ). section_at new k ≡ with_name_place places k (section_at o k))
+              (sym same)
+              (ap (λ (q : Object). section_at q s) stored ∙ put_here place from below is)
+          | inr apart ↦
+              other t apart ∙ so_far.before t (lower t low apart) there
+        ];
+        after = λ t high.
+            other t (λ same. omega (arith, same, high)) ∙ so_far.after t (omega (arith, high));
+      }
+    where
+      lower : (t : ℕ) → t < s + 1 → t ≢ s → t < s
+      lower t low apart = elim (cases_lt t s) [
+        | inl less ↦ less
+        | inr past ↦ absurd (apart (omega (arith, low, past)))
+      ]
+
+  pub put_all : length o.sections ≤ s → now ≡ with_places o places
+  unfolding with_places section_at
+  put_all all =
+      so_far.object
+      ∙ ap (λ (l : List Section). record o { sections = l })
+      (ext_get_or absent_section now.sections
+      (map (λ row. with_name_place places row.0 row.1) (enumerate_from 0 o.sections))
+      (so_far.long
+      ∙ sym (length-map (enumerate_from 0 o.sections) (λ row. with_name_place places row.0 row.1)
+      ∙ length-enumerate_from 0 o.sections))
+      (λ t below. let long = so_far.long in
+      so_far.before t (omega (arith, below, long, all)) (omega (arith, below, long))
+      ∙ sym (at_row t (omega (arith, below, long)))))
+    where
+      at_row : (t : ℕ) → t < length o.sections
+          → get_or (map (λ (row : ℕ × Section). with_name_place places row.0 row.1)
+          (enumerate_from 0 o.sections)) t absent_section
+          ≡ with_name_place places t (get_or o.sections t absent_section)
+      at_row t below =
+          let count = length-enumerate_from 0 o.sections in
+          let same : 0 + t ≡ t = omega arith in
+          get_or-map (λ (row : ℕ × Section). with_name_place places row.0 row.1)
+          (enumerate_from 0 o.sections) t (0, absent_section) absent_section
+          (omega (arith, below, count))
+          ∙ ap (λ (row : ℕ × Section). with_name_place places row.0 row.1)
+          (get_or-enumerate_from 0 o.sections t (0, absent_section) below)
+          ∙ ap (λ (k : ℕ). with_name_place places k (get_or o.sections t absent_section)) same
+
+-- ---- The table
+
+-- in a section without data nothing is replaced
+pub unpieced : (o : Object) (s : ℕ) (own : Items) → length (section_at o s).pieces ≤ 0
+    → with_own o s 0 own ≡ o
+unfolding with_own with_piece_at with_section section_at
+unpieced o s own none =
+    let piece = own_piece own (piece_at o s 0).align in
+    ap (λ (l : List Piece). record o {
+      sections = slice_set o.sections s
+          (record (get_or o.sections s absent_section) { pieces = l });
+    }) (set_past (get_or o.sections s absent_section).pieces 0 piece none)
+    ∙ ap (λ (l : List Section). record o { sections = l }) (set-get_or o.sections s absent_section)
+
+bytes_fit : (o : Object) (s : ℕ) (bytes : List ℕ) → unfit_items o s 0 (items.Bytes bytes) ≡ None
+unfolding first_unfit
+bytes_fit o s bytes = refl
+
+-- a table is refused where the section has no data
+no_pieces : (o : Object) (s : ℕ) (bytes : List ℕ) (e : ElfError) → IsPresentSection o s
+    → replace_refusal o s 0 (items.Bytes bytes) ≡ Some e → length (section_at o s).pieces ≤ 0
+unfolding replace_refusal piece_count
+no_pieces o s bytes e there refused = by_test (nat_le (piece_count o s) 0) refl
+  where
+    unfit : Option ElfError
+    unfit = unfit_items o s 0 (items.Bytes bytes)
+
+    last : (second : Option ElfError)
+        → first_refusal (second ∷ None ∷ []) ≡ first_refusal (second ∷ [])
+    last None = refl
+    last (Some d) = refl
+
+    passed : (second : Option ElfError)
+        → first_refusal (no_section o s ∷ reserved s ∷ second ∷ unfit ∷ [])
+        ≡ first_refusal (second ∷ [])
+    passed second =
+        let first = there.0 in
+        passes_first (no_section o s) (reserved s ∷ second ∷ unfit ∷ [])
+        (ap (λ (b : Bool). refused_if b (NoSection s (length o.sections)))
+        (lt-leb (length o.sections) s there.1))
+        ∙ passes_first (reserved s) (second ∷ unfit ∷ [])
+        (ap (λ (b : Bool). refused_if b Reserved)
+        (ne_eqb s 0 (λ none. omega (arith, none, first))))
+        ∙ ap (λ (r : Option ElfError). first_refusal (second ∷ r ∷ [])) (bytes_fit o s bytes)
+        ∙ last second
+
+    by_test : (b : Bool) → nat_le (piece_count o s) 0 ≡ b → piece_count o s ≤ 0
+    by_test true is = leb-true (piece_count o s) 0 is
+    by_test false is =
+        let none : ◌≡◌ {A = Option ElfError} None (Some e) =
+        sym (passed (no_data o s 0)
+        ∙ ap (λ (b : Bool). first_refusal (refused_if b (NoData 0 (piece_count o s)) ∷ [])) is)
+        ∙ refused in
+        cc
+
+handed : (own back : Items) (e : ElfError) (r : Option ElfError)
+    → ◌≡◌ {A = Result (Unit {0}) (Items × ElfError)} (Err (back, e))
+    (handing_back own (answered r tt)) → r ≡ Some e
+handed own back e None came = cc
+handed own back e (Some d) came =
+    let pair : (back, e) ≡ (own, d) = cc in
+    ap (λ (p : Items × ElfError). Some p.1) (sym pair)
+
+pub table_replaced : {S : Type 0} (s : ℕ) (own : Items) (old new : State S)
+    → new ≡ stepped (calls.replace s 0 own) old → new.o ≡ with_own old.o s 0 own
+table_replaced {S} s own old new is = ap (λ (x : State S). x.o) is
+
+pub refused_table_same : {S : Type 0} (s : ℕ) (bytes : List ℕ) (back : Items) (e : ElfError)
+    (old new : State S) → IsPresentSection old.o s
+    → ◌≡◌ {A = Result (Unit {0}) (Items × ElfError)} (Err (back, e))
+    (handing_back (items.Bytes bytes) ((calls.replace s 0 (items.Bytes bytes)).answer old.o))
+    → new ≡ old → new.o ≡ with_own old.o s 0 (items.Bytes bytes)
+refused_table_same {S} s bytes back e old new there came same =
+    ap (λ (x : State S). x.o) same
+    ∙ sym (unpieced old.o s (items.Bytes bytes)
+    (no_pieces old.o s bytes e there
+    (handed (items.Bytes bytes) back e (replace_refusal old.o s 0 (items.Bytes bytes)) came)))
+
+-- ---- All of it
+
+places_keep : (o : Object) (places : List ℕ)
+    → length (with_places o places).sections ≡ length o.sections
+unfolding with_places
+places_keep o places =
+    length-map (enumerate_from 0 o.sections) (λ row. with_name_place places row.0 row.1)
+    ∙ length-enumerate_from 0 o.sections
+
+index_stays : (o : Object) (places : List ℕ)
+    → (with_places o places).header.shstrndx ≡ o.header.shstrndx
+unfolding with_places
+index_stays o places = refl
+
+pub table_there : (o mid : Object) (places : List ℕ) → mid ≡ with_places o places
+    → IsPresentSection o o.header.shstrndx → IsPresentSection mid mid.header.shstrndx
+table_there o mid places is there =
+    subst (λ (q : Object). IsPresentSection q q.header.shstrndx) (sym is)
+    (let index = index_stays o places in
+    let count = places_keep o places in
+    let from = there.0 in
+    let below = there.1 in
+    (omega (arith, index, from), omega (arith, index, count, below)))
+
+pub table_stored : (o mid new : Object) (names : NewNameTable) → mid ≡ with_places o names.places
+    → new ≡ with_own mid mid.header.shstrndx 0 (items.Bytes names.table)
+    → new ≡ with_table o names
+unfolding with_table
+table_stored o mid new names is stored =
+    stored
+    ∙ ap (λ (q : Object). with_own q q.header.shstrndx 0 (items.Bytes names.table)) is
+    ∙ ap (λ (n : ℕ). with_own (with_places o names.places) n 0 (items.Bytes names.table))
+    (index_stays o names.places)
+
+index_kept : (o : Object) (s : ℕ) (c : Section)
+    → (with_section o s c).header.shstrndx ≡ o.header.shstrndx
+unfolding with_section
+index_kept o s c = refl
+
+places_kept : (o : Object) (places : List ℕ) → KeepsIndex o (with_places o places)
+places_kept o places =
+    let before = places_keep o places in
+    record { index = index_stays o places; count = omega (arith, before) }
+
+section_kept : (o : Object) (s : ℕ) (c : Section) → KeepsIndex o (with_section o s c)
+section_kept o s c =
+    let count = section_count-with_section o s c in
+    record { index = index_kept o s c; count = omega (arith, count) }
+
+own_kept : (o : Object) (s : ℕ) (own : Items) → KeepsIndex o (with_own o s 0 own)
+unfolding with_own with_piece_at
+own_kept o s own =
+    section_kept o s (record (section_at o s) {
+      pieces = slice_set (section_at o s).pieces 0 (own_piece own (piece_at o s 0).align);
+    })
+
+pub keeps_table : (o : Object) (names : NewNameTable) → KeepsIndex o (with_table o names)
+unfolding with_table
+keeps_table o names =
+    keeps_both o (with_places o names.places) (with_table o names) (places_kept o names.places)
+    (own_kept (with_places o names.places) o.header.shstrndx (items.Bytes names.table))
+
+pub names_stored : {S : Type 0} (names : NewNameTable) (old new : State S)
+    → new.o ≡ with_table old.o names → new.told ≡ old.told
+    → Alters {T = Unit {0}} (Ok (with_table old.o names)) (Ok tt) old new
+names_stored names old new is told = record {
+  told = told;
+  keeps = keeps_as old.o (with_table old.o names) new.o is (keeps_table old.o names);
+  unread = tt;
+  altered = λ t. ap (λ (o : Object). Ok o) (sym is);
+}

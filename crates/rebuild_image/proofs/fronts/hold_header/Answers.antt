@@ -1,0 +1,14 @@
+use Rattle.elf_xlate.specs.Headers.{ehdr_bytes}
+use Rattle.rebuild_image.proofs.FrontLaws.{appended_bytes_held, behind}
+use Rattle.rebuild_image.proofs.fronts.hold_header.Goals as goal
+
+pub range_behind-requires : goal.range_behind-requires
+range_behind-requires c =
+    behind (ehdr_bytes c.args.h.now c.args.pad) c.args.held.now c.append_header.new.held
+    c.len-at.result c.in-Ok.ensures.ok c.len-at.ensures
+
+pub returns-in-Ok-clause-ok : goal.returns-in-Ok-clause-ok
+returns-in-Ok-clause-ok c =
+    appended_bytes_held (ehdr_bytes c.args.h.now c.args.pad) c.args.held.now c.append_header.new.held
+    c.len-at.result c.range_behind.result c.in-Ok.ensures.ok c.len-at.ensures
+    c.range_behind.ensures.held c.range_behind.ensures.at c.range_behind.ensures.len

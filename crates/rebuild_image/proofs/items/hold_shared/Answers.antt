@@ -1,0 +1,13 @@
+use Rattle.rebuild_image.proofs.FrontLaws.{appended_bytes_held, behind}
+use Rattle.rebuild_image.proofs.items.hold_shared.Goals as goal
+
+pub range_behind-requires : goal.range_behind-requires
+range_behind-requires c =
+    behind c.args.bytes.now c.args.held.now c.append_shared.new.self c.len-at.result
+    c.in-Ok.ensures.ok c.len-at.ensures
+
+pub returns-in-Ok-clause-ok : goal.returns-in-Ok-clause-ok
+returns-in-Ok-clause-ok c =
+    appended_bytes_held c.args.bytes.now c.args.held.now c.append_shared.new.self c.len-at.result
+    c.range_behind.result c.in-Ok.ensures.ok c.len-at.ensures c.range_behind.ensures.held
+    c.range_behind.ensures.at c.range_behind.ensures.len

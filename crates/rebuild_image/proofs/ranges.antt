@@ -1,0 +1,4 @@
+pub mod RangeLaws
+mod WalkLaws
+pub mod ImageLaws
+pub mod CheckLaws

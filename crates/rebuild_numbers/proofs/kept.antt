@@ -1,0 +1,3 @@
+mod RangeLaws
+pub mod KeptLaws
+mod FirstLaws

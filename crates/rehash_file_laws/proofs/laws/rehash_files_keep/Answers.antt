@@ -1,7 +1,0 @@
-use Rattle.rehash_file_laws.proofs.RehashFiles.{rehash_files_keep}
-use Rattle.rehash_file_laws.proofs.laws.rehash_files_keep.Goals as goal
-
-pub returns : goal.returns
-returns c =
-    rehash_files_keep c.rehash_opens.ensures c.rehash_writes.ensures c.rehash_rebuilds.ensures
-    c.built_have_no_finding.ensures c.built_are_found.ensures

@@ -1,5 +1,0 @@
-use Rattle.reopen_laws.proofs.CallsLaws.{calls_reopen}
-use Rattle.reopen_laws.proofs.laws.calls_reopen.Goals as goal
-
-pub returns : goal.returns
-returns c = calls_reopen c.reopen_law.ensures

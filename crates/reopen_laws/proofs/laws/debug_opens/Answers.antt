@@ -1,5 +1,0 @@
-use Rattle.reopen_laws.proofs.WrittenLaws.{debug_opens}
-use Rattle.reopen_laws.proofs.laws.debug_opens.Goals as goal
-
-pub returns : goal.returns
-returns c = debug_opens c.reopen_law.ensures

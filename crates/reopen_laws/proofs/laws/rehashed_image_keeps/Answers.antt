@@ -1,5 +1,0 @@
-use Rattle.reopen_laws.proofs.KeptLaws.{rehashed_image_keeps}
-use Rattle.reopen_laws.proofs.laws.rehashed_image_keeps.Goals as goal
-
-pub returns : goal.returns
-returns c = rehashed_image_keeps c.rehash_opens.ensures c.rehash_law.ensures

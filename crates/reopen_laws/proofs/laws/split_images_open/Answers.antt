@@ -1,5 +1,0 @@
-use Rattle.reopen_laws.proofs.KeptLaws.{split_images_open}
-use Rattle.reopen_laws.proofs.laws.split_images_open.Goals as goal
-
-pub returns : goal.returns
-returns c = split_images_open c.reopen_law.ensures

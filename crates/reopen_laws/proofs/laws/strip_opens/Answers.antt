@@ -1,5 +1,0 @@
-use Rattle.reopen_laws.proofs.WrittenLaws.{strip_opens}
-use Rattle.reopen_laws.proofs.laws.strip_opens.Goals as goal
-
-pub returns : goal.returns
-returns c = strip_opens c.reopen_law.ensures

@@ -1,5 +1,0 @@
-use Rattle.reopen_laws.proofs.KeptLaws.{stripped_image_keeps}
-use Rattle.reopen_laws.proofs.laws.stripped_image_keeps.Goals as goal
-
-pub returns : goal.returns
-returns c = stripped_image_keeps c.reopen_law.ensures c.stripped_half_keeps.ensures

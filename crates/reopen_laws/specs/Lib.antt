@@ -1,5 +1,0 @@
-pub use Rattle.calls_tool.specs as calls_tool
-pub mod Phdrs
-pub mod Scripts
-pub mod Written
-pub mod Kept

@@ -1,5 +1,0 @@
-use Rattle.run_laws.proofs.SplitRuns.{runs_rejoin}
-use Rattle.run_laws.proofs.laws.runs_rejoin.Goals as goal
-
-pub returns : goal.returns
-returns c = runs_rejoin c.split_files_rejoin.ensures

@@ -1,9 +1,0 @@
-use Rattle.std.proofs.Common.{◌-◌, length}
-use Rattle.shared_bytes.specs.Pieces.{IsCopiedTo}
-use Rattle.shared_bytes.proofs.bytes.SharedBytes.copy_at.Given as goal
-
-abbrev pub invariant-loop-done : goal.invariant-loop-done
-invariant-loop-done l = IsCopiedTo l.self l.at l.initial.buf l.buf l.done
-
-abbrev pub decreases-loop-done : goal.decreases-loop-done
-decreases-loop-done l = length l.buf - l.done

@@ -1,3 +1,0 @@
-//! What `shared_bytes` passes on of the crates below it.
-
-pub use elf_xlate::{Items, XlateError, ehdr_size, phdr_size, to_memory};

@@ -1,5 +1,0 @@
-use Rattle.sought_names.proofs.RowLaws.{no_rows}
-use Rattle.sought_names.proofs.sections.NameIndex.clear.Goals as goal
-
-pub returns-clause-none : goal.returns-clause-none
-returns-clause-none c = λ q t. no_rows c.clear.new.self.keys q t c.clear.ensures.empty

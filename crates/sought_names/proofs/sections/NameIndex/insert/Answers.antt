@@ -1,7 +1,0 @@
-use Rattle.sought_names.proofs.RowLaws.{row_put}
-use Rattle.sought_names.proofs.sections.NameIndex.insert.Goals as goal
-
-pub returns-clause-ok : goal.returns-clause-ok
-returns-clause-ok c = λ q t.
-    row_put c.args.self.now.rows c.insert.new.self
-    (record { name = c.args.name; section = c.args.s }) q t c.in_ok-insert.ensures.updates

@@ -1,8 +1,0 @@
-//! Two sources as one: the bytes of the first, and behind them those of the second. What is copied
-//! out of two files goes through such a pair.
-#![tactic(auto)]
-
-pub mod pairs;
-mod reading;
-
-pub use pairs::SourcePair;

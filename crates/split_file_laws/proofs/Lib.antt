@@ -1,2 +1,0 @@
-pub mod FileKinds
-pub mod RejoinLaws

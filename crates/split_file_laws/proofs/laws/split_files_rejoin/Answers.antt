@@ -1,7 +1,0 @@
-use Rattle.split_file_laws.proofs.RejoinLaws.{split_files_rejoin}
-use Rattle.split_file_laws.proofs.laws.split_files_rejoin.Goals as goal
-
-pub returns : goal.returns
-returns c =
-    split_files_rejoin c.reopen_law.ensures c.halves_combine.ensures c.split_law.ensures
-    c.alike_images_answer_alike.ensures

@@ -1,7 +1,0 @@
-use Rattle.split_laws.proofs.SplitLaws.{split_law}
-use Rattle.split_laws.proofs.laws.split_law.Goals as goal
-
-pub returns : goal.returns
-returns c =
-    split_law c.reopen_law.ensures c.debug_half_keeps.ensures c.stripped_half_keeps.ensures
-    c.halves_combine.ensures

@@ -1,5 +1,0 @@
-use Rattle.split_laws.proofs.StrippedHalf.{stripped_half_keeps}
-use Rattle.split_laws.proofs.laws.stripped_half_keeps.Goals as goal
-
-pub returns : goal.returns
-returns c = stripped_half_keeps c.reopen_law.ensures

@@ -1,7 +1,0 @@
-use Rattle.strip_contents.proofs.KeepingLaws.{first_pushed}
-use Rattle.strip_contents.proofs.contents.Contents.push_first.Goals as goal
-
-pub returns-clause-first : goal.returns-clause-first
-returns-clause-first c =
-    first_pushed c.args.self.now c.push.new.self c.push.result c.requires.headers
-    c.requires.sizes c.requires.ranges c.push.ensures.pushed

@@ -1,9 +1,0 @@
-use Rattle.std.proofs.Common.{◌≡◌}
-use Rattle.strip_items.specs.Numbers.{numbers_without, kept_below}
-use Rattle.strip_items.proofs.numbering.fill_numbers.Given as goal
-
-abbrev pub invariant-loop-s : goal.invariant-loop-s
-invariant-loop-s l = record {
-  numbers : l.numbers ≡ numbers_without l.removed l.s;
-  next : l.next ≡ kept_below l.removed l.s;
-}

@@ -1,7 +1,0 @@
-use Rattle.std.proofs.Common.{sym, ◌∙◌}
-use Rattle.strip_kept.proofs.KeptLaws.{kept_among}
-use Rattle.strip_kept.proofs.kept.is_kept.Goals as goal
-
-pub returns : goal.returns
-returns g c =
-    c.is_left.ensures ∙ sym (kept_among c.args.elf.now.o c.args.removed.now c.args.s)

@@ -1,5 +1,0 @@
-//! What `strip_removed` passes on of the crates below it.
-
-pub use command_objects::prelude::Source;
-pub use gelf_view::prelude::{Elf, Held};
-pub use gelf_view::{is_named, section_name as gelf_view_section_name, string_in};

@@ -1,5 +1,0 @@
-use Rattle.strip_stream.proofs.StreamLaws.{streamed_parts_are_ranges}
-use Rattle.strip_stream.proofs.laws.streamed_parts_are_ranges.Goals as goal
-
-pub returns : goal.returns
-returns c = streamed_parts_are_ranges

@@ -1,9 +1,0 @@
-use Rattle.std.proofs.Common.{subst}
-use Rattle.elf_types.specs.declared.records.Kind.{Kind}
-use Rattle.strip_tables.specs.Finding.{HoldsKind}
-use Rattle.strip_tables.proofs.finding.holds_words.Goals as goal
-
-pub returns-in-Some : goal.returns-in-Some
-returns-in-Some g c = λ yes.
-    subst (λ (kind : Kind). HoldsKind c.args.elf.now.o c.args.s.0 kind) (c.is_of_words.ensures yes)
-    c.in-Some.ensures

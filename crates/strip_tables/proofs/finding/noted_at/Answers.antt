@@ -1,7 +1,0 @@
-use Rattle.strip_rebuild.proofs.KeeperLaws.{number_is}
-use Rattle.strip_tables.proofs.finding.noted_at.Goals as goal
-
-pub returns : goal.returns
-returns c =
-    rw (c.unwrap_or.ensures, c.get.ensures, c.from.ensures)
-    (number_is c.args.numbers.now c.args.i)

@@ -1,0 +1,4 @@
+mod StretchLaws
+mod PartLaws
+mod ShareLaws
+mod CopyLaws

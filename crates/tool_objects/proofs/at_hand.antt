@@ -1,0 +1,4 @@
+pub mod OneTable
+pub mod Ends
+pub mod HeldItems
+pub mod Passing

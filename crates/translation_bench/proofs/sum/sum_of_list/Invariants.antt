@@ -1,7 +1,0 @@
--- The sum of the symbols so far.
-use Rattle.std.proofs.Common.{◌≡◌, take}
-use Rattle.translation_bench.specs.Sums.{with_symbols}
-use Rattle.translation_bench.proofs.sum.sum_of_list.Given as goal
-
-abbrev pub invariant-loop-symbol : goal.invariant-loop-symbol
-invariant-loop-symbol l = l.sum ≡ with_symbols 0 (take l.symbol-index l.symbols)

@@ -1,7 +1,0 @@
-use Rattle.unstrip_join.proofs.AllLaws.{JoinsBelow}
-use Rattle.unstrip_join.proofs.combining.add_all.Given as goal
-
-abbrev pub invariant-loop-s : goal.invariant-loop-s
-invariant-loop-s g l =
-    JoinsBelow g.S.Source g.T.Source l.initial.stripped l.stripped l.initial.debug l.debug
-    l.initial.made l.made l.taken l.s

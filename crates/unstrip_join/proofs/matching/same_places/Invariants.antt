@@ -1,5 +1,0 @@
-use Rattle.unstrip_join.proofs.MatchLaws.{RestTells, alike}
-use Rattle.unstrip_join.proofs.matching.same_places.Given as goal
-
-abbrev pub invariant-loop-i : goal.invariant-loop-i
-invariant-loop-i g l = RestTells (alike l.stripped.o l.debug.o) l.loaded l.others l.i

@@ -1,8 +1,0 @@
-use Rattle.std.proofs.Common.{◌≡◌}
-use Rattle.elf_update.specs.writing_laws.Marks.{marked_all}
-use Rattle.update_in_place.proofs.MarkSteps.{parts_before}
-use Rattle.update_in_place.proofs.marks.mark_moved.Given as goal
-
-abbrev pub invariant-loop-s : goal.invariant-loop-s
-invariant-loop-s g l =
-    l.elf ≡ record l.fn.elf { o = marked_all l.fn.elf.o (parts_before l.fn.elf.o l.moves l.s) }

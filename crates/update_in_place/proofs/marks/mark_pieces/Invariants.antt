@@ -1,8 +1,0 @@
-use Rattle.std.proofs.Common.{◌≡◌}
-use Rattle.elf_update.specs.writing_laws.Marks.{marked_all}
-use Rattle.update_in_place.proofs.MarkSteps.{pieces_before}
-use Rattle.update_in_place.proofs.marks.mark_pieces.Given as goal
-
-abbrev pub invariant-loop-p : goal.invariant-loop-p
-invariant-loop-p g l =
-    l.elf ≡ record l.initial.elf { o = marked_all l.initial.elf.o (pieces_before l.s l.p) }

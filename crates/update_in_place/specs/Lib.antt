@@ -1,5 +1,0 @@
-pub mod Rooms
-pub mod Loads
-pub mod Marks
-pub mod Fronts
-pub mod Updates

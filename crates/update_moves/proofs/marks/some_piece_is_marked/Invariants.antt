@@ -1,8 +1,0 @@
-use Rattle.std.proofs.Common.{◌≡◌, false, take}
-use Rattle.std.specs.List.{list_any}
-use Rattle.elf_update.specs.elf_object.Object.{section_at}
-use Rattle.update_moves.proofs.marks.some_piece_is_marked.Given as goal
-
-abbrev pub invariant-loop-p : goal.invariant-loop-p
-invariant-loop-p g l =
-    list_any (λ p. p.marked) (take l.p (section_at l.elf.o l.s).pieces) ≡ false

@@ -1,6 +1,0 @@
-use Rattle.std.proofs.Common.{◌≡◌, false, take}
-use Rattle.std.specs.List.{list_any}
-use Rattle.update_moves.proofs.marks.some_section_is_marked.Given as goal
-
-abbrev pub invariant-loop-s : goal.invariant-loop-s
-invariant-loop-s g l = list_any (λ s. s.marked) (take l.s l.elf.o.sections) ≡ false

@@ -1,6 +1,0 @@
-use Rattle.std.proofs.Common.{◌≡◌, take, map}
-use Rattle.update_plan.specs.Plans.{part_of_rank}
-use Rattle.update_plan.proofs.plans.pick.Given as goal
-
-abbrev pub invariant-loop-rank : goal.invariant-loop-rank
-invariant-loop-rank l = l.picked ≡ map (part_of_rank l.parts) (take l.rank-index l.ranks)

@@ -1,8 +1,0 @@
-pub use Rattle.object_laws.specs as object_laws
-pub mod Lines
-pub mod Plan
-pub mod Marks
-pub mod Ready
-pub mod Based
-pub mod Writing
-pub mod Examples
