@@ -192,11 +192,8 @@ elf_getarhdr (Elf *elf)
 }
 
 /* elf_getaroff: the place of a member's header in its archive. */
-PUBLIC int64_t
-elf_getaroff (Elf *elf)
-{
-  return elf == NULL || elf->member == NULL ? 0 : (int64_t) elf->member->at;
-}
+PUBLIC int64_t elf_getaroff (Elf *elf)
+{ return elf == NULL || elf->member == NULL ? 0 : (int64_t) elf->member->at; }
 
 /* Whether the first member is a table of symbols, as an archive with an empty table has it. */
 static bool

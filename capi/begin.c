@@ -233,7 +233,7 @@ free_sections (Elf *elf)
         free (scn);
     }
   free (elf->added.at);
-  free (elf->sections);
+  free_array (elf);
 }
 
 /* elf_end: lets one reference go, and with the last one everything. An archive stays until its
@@ -252,11 +252,7 @@ elf_end (Elf *elf)
     leave_archive (elf);
   if (elf->archive != NULL)
     end_archive (elf->archive);
-  if (elf->handle.ptr != NULL)
-    {
-      struct elfkit_lent back = { NULL, 0 };
-      elfkit_end (&elf->handle, &back);
-    }
+  end_object (&elf->handle);
   free_sections (elf);
   free_chunks (elf);
   free (elf->phdr);
@@ -281,18 +277,10 @@ elf_cntl (Elf *elf, Elf_Cmd cmd)
 }
 
 /* elf_kind: what the descriptor is over. */
-PUBLIC Elf_Kind
-elf_kind (Elf *elf)
-{
-  return elf == NULL ? ELF_K_NONE : elf->kind;
-}
+PUBLIC Elf_Kind elf_kind (Elf *elf) { return elf == NULL ? ELF_K_NONE : elf->kind; }
 
 /* elf_getbase: where it begins in the file. */
-PUBLIC int64_t
-elf_getbase (Elf *elf)
-{
-  return elf == NULL ? -1 : elf->start;
-}
+PUBLIC int64_t elf_getbase (Elf *elf) { return elf == NULL ? -1 : elf->start; }
 
 /* elf_getident: the identification. */
 PUBLIC char *

@@ -43,14 +43,5 @@ gelf_checksum (Elf *elf)
   return (long int) sum;
 }
 
-PUBLIC long int
-elf32_checksum (Elf *elf)
-{
-  return gelf_checksum (elf);
-}
-
-PUBLIC long int
-elf64_checksum (Elf *elf)
-{
-  return gelf_checksum (elf);
-}
+PUBLIC long int elf32_checksum (Elf *elf) { return gelf_checksum (elf); }
+PUBLIC long int elf64_checksum (Elf *elf) { return gelf_checksum (elf); }

@@ -133,73 +133,52 @@ deflated (Elf_Scn *scn, size_t header, const struct whole *w, size_t *size)
   return NULL;
 }
 
-/* What zlib makes of a section where it is to be had: NULL with 0 where that is not shorter, and
-   with -1 and an error where there is none. */
-static uint8_t *
-shortened (Elf_Scn *scn, size_t header, unsigned int flags, struct whole *w, size_t *size,
-           int *answer)
-{
-  const size_t least = 11;      /* what a stream of zlib takes besides */
-  bool is_forced = flags & ELF_CHF_FORCE;
-  *answer = -1;
-  if (!measure (scn, w))
-    return NULL;
-  *answer = 0;
-  if (!is_forced && w->pieces == 1 && w->size <= header + least)
-    return NULL;
-  uint8_t *bytes = deflated (scn, header, w, size);
-  if (bytes == NULL)
-    *answer = -1;
-  else if (!is_forced && *size >= w->size)
-    {
-      free (bytes);
-      return NULL;
-    }
-  return bytes;
-}
-
-/* Compresses a section behind a compression header. */
-static int
-compress_section (Elf_Scn *scn, GElf_Shdr *shdr, unsigned int flags)
+/* Puts a header before what zlib made of a section: a compression header, or GNU's. */
+static bool
+put_header (const Elf_Scn *scn, const GElf_Shdr *shdr, const struct whole *w, uint8_t *bytes,
+            bool is_gnu)
 {
   unsigned int class = scn->elf->class;
-  size_t header = item_size (ELF_T_CHDR, class), size;
-  struct whole w;
-  int answer;
-  if (shdr->sh_flags & SHF_COMPRESSED)
-    return negative_with (E_ALREADY_COMPRESSED);
-  uint8_t *bytes = shortened (scn, header, flags, &w, &size, &answer);
-  if (bytes == NULL)
-    return answer;
-  GElf_Chdr chdr = { .ch_type = ELFCOMPRESS_ZLIB, .ch_size = w.size,
-                     .ch_addralign = class == ELFCLASS64 ? shdr->sh_addralign : w.align };
-  if (!from_gelf (ELF_T_CHDR, class, bytes, &chdr)
-      || (is_foreign (scn->elf, ELF_T_CHDR)
-          && !translate (ELF_T_CHDR, class, false, bytes, bytes, size)))
+  if (is_gnu)
     {
-      free (bytes);
-      return -1;
+      memcpy (bytes, "ZLIB", 4);
+      put_number (bytes + 4, 8, true, w->size);
+      return true;
     }
-  shdr->sh_size = size;
-  shdr->sh_addralign = item_align (ELF_T_CHDR, class);
-  shdr->sh_flags |= SHF_COMPRESSED;
-  return replace_section (scn, shdr, bytes, 1, ELF_T_CHDR);
+  GElf_Chdr chdr = { .ch_type = ELFCOMPRESS_ZLIB, .ch_size = w->size,
+                     .ch_addralign = class == ELFCLASS64 ? shdr->sh_addralign : w->align };
+  return from_gelf (ELF_T_CHDR, class, bytes, &chdr)
+         && (!is_foreign (scn->elf, ELF_T_CHDR)
+             || translate (ELF_T_CHDR, class, false, bytes, bytes, item_size (ELF_T_CHDR, class)));
 }
 
-/* Compresses a section behind GNU's header. */
+/* Compresses a section: 1, 0 where it would not get shorter, or -1 and an error. */
 static int
-compress_gnu (Elf_Scn *scn, GElf_Shdr *shdr, unsigned int flags)
+compress_section (Elf_Scn *scn, GElf_Shdr *shdr, unsigned int flags, bool is_gnu)
 {
-  size_t size;
+  const size_t least = 11;      /* what a stream of zlib takes besides */
+  size_t header = is_gnu ? GNU_HEADER : item_size (ELF_T_CHDR, scn->elf->class), size = 0;
   struct whole w;
-  int answer;
-  uint8_t *bytes = shortened (scn, GNU_HEADER, flags, &w, &size, &answer);
+  if (!measure (scn, &w))
+    return -1;
+  if (!(flags & ELF_CHF_FORCE) && w.pieces == 1 && w.size <= header + least)
+    return 0;
+  uint8_t *bytes = deflated (scn, header, &w, &size);
   if (bytes == NULL)
-    return answer;
-  memcpy (bytes, "ZLIB", 4);
-  put_number (bytes + 4, 8, true, w.size);
+    return -1;
+  bool is_shorter = (flags & ELF_CHF_FORCE) || size < w.size;
+  if (!is_shorter || !put_header (scn, shdr, &w, bytes, is_gnu))
+    {
+      free (bytes);
+      return is_shorter ? -1 : 0;
+    }
   shdr->sh_size = size;
-  return replace_section (scn, shdr, bytes, 1, ELF_T_BYTE);
+  if (!is_gnu)
+    {
+      shdr->sh_addralign = item_align (ELF_T_CHDR, scn->elf->class);
+      shdr->sh_flags |= SHF_COMPRESSED;
+    }
+  return replace_section (scn, shdr, bytes, 1, is_gnu ? ELF_T_BYTE : ELF_T_CHDR);
 }
 
 /* ---- Taking out */
@@ -284,15 +263,12 @@ elf_compress (Elf_Scn *scn, int type, unsigned int flags)
   GElf_Shdr shdr;
   if (scn == NULL || !is_open_to (scn, flags, 0, &shdr))
     return -1;
-  switch (type)
-    {
-    case ELFCOMPRESS_ZLIB:
-      return compress_section (scn, &shdr, flags);
-    case 0:
-      return take_out (scn, &shdr);
-    default:
-      return negative_with (E_UNKNOWN_COMPRESSION_TYPE);
-    }
+  if (type == 0)
+    return take_out (scn, &shdr);
+  if (type != ELFCOMPRESS_ZLIB)
+    return negative_with (E_UNKNOWN_COMPRESSION_TYPE);
+  return (shdr.sh_flags & SHF_COMPRESSED) ? negative_with (E_ALREADY_COMPRESSED)
+                                          : compress_section (scn, &shdr, flags, false);
 }
 
 /* elf_compress_gnu: the same in GNU's form, which the section header does not tell: 1 compresses, 0
@@ -303,13 +279,7 @@ elf_compress_gnu (Elf_Scn *scn, int compress, unsigned int flags)
   GElf_Shdr shdr;
   if (scn == NULL || !is_open_to (scn, flags, SHF_COMPRESSED, &shdr))
     return -1;
-  switch (compress)
-    {
-    case 1:
-      return compress_gnu (scn, &shdr, flags);
-    case 0:
-      return take_gnu_out (scn, &shdr);
-    default:
-      return negative_with (E_UNKNOWN_COMPRESSION_TYPE);
-    }
+  if (compress != 0 && compress != 1)
+    return negative_with (E_UNKNOWN_COMPRESSION_TYPE);
+  return compress == 0 ? take_gnu_out (scn, &shdr) : compress_section (scn, &shdr, flags, true);
 }

@@ -1,9 +1,7 @@
 /* core.h: the proved core's calls and records, as C sees them. Each declaration stands for the
    function of the same name in crates/elfkit_c/src, and each struct for the one of
-   crates/lent_bytes, crates/object_handle, crates/gelf_records, crates/archive_handle and
-   crates/c_archives that its comment names;
-   capi/check-core compares them. A parameter of the allocator's type has no bytes, and so none
-   here. */
+   crates/c_handles, crates/c_records or crates/c_calls that its comment names; capi/check-core
+   compares them. A parameter of the allocator's type has no bytes, and so none here. */
 #ifndef ELFKIT_CORE_H
 #define ELFKIT_CORE_H 1
 
@@ -43,6 +41,18 @@ struct elfkit_ar_symbol
   uint64_t at, namesz;
 };
 
+/* WritesHandle: the writes of an update; a null pointer where there are none. */
+struct elfkit_writes
+{
+  void *ptr;
+};
+
+/* WriteRecord: a write: the length of the file from then on, and where bytes are put. */
+struct elfkit_write
+{
+  uint64_t size, at, len;
+};
+
 /* EhdrRecord: an ELF header with its true counts. */
 struct elfkit_ehdr
 {
@@ -75,7 +85,7 @@ struct elfkit_note
 #include <elf.h>
 
 /* The numbers that calls answer: 0 for a value, and refusals that the layer looks at
-   (crates/gelf_records, Codes.antt). */
+   (crates/c_records, Codes.antt). */
 enum
 {
   REFUSED_NOT = 0,
@@ -88,7 +98,7 @@ enum
   REFUSED_UNENDED = 24
 };
 
-/* The kinds of items (crates/gelf_records, Forms.antt, kind_number). */
+/* The kinds of items (crates/c_records, Forms.antt, kind_number). */
 enum { BYTES = 1, HALVES, WORDS, ADDRESSES, SYMBOLS, RELS, RELAS, DYNS };
 
 /* Opening and closing. */
@@ -152,6 +162,10 @@ void elfkit_fill (struct elfkit_handle *h, uint8_t byte);
 /* Updating. */
 uint32_t elfkit_size (struct elfkit_handle *h, uint64_t *out);
 uint32_t elfkit_update (struct elfkit_handle *h, uint8_t *out, size_t length);
+uint32_t elfkit_plan (struct elfkit_handle *h, struct elfkit_writes *w, struct elfkit_lent *back);
+uint32_t elfkit_write (struct elfkit_writes *w, uint64_t i, struct elfkit_write *out);
+void elfkit_write_bytes (struct elfkit_writes *w, uint64_t i, uint8_t *out, size_t length);
+void elfkit_writes_end (struct elfkit_writes *w);
 
 /* Archives. */
 uint32_t elfkit_ar_begin (struct elfkit_lent image, struct elfkit_ar_handle *h,

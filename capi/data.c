@@ -98,32 +98,6 @@ elf_rawdata (Elf_Scn *scn, Elf_Data *data)
   return scn->raw != NULL ? &scn->raw->d : null_with (scn->raw_error);
 }
 
-/* The core's kind of items that data of a type has; types that the core has no items of are bytes
-   to it. */
-static uint32_t
-kind_of_type (Elf_Type type)
-{
-  switch (type)
-    {
-    case ELF_T_HALF:
-      return HALVES;
-    case ELF_T_WORD:
-      return WORDS;
-    case ELF_T_ADDR:
-      return ADDRESSES;
-    case ELF_T_SYM:
-      return SYMBOLS;
-    case ELF_T_REL:
-      return RELS;
-    case ELF_T_RELA:
-      return RELAS;
-    case ELF_T_DYN:
-      return DYNS;
-    default:
-      return BYTES;
-    }
-}
-
 /* Whether the core says that a section has such items; an error where it does not. */
 static bool
 has_items (Elf_Scn *scn, Elf_Type type)
@@ -131,7 +105,7 @@ has_items (Elf_Scn *scn, Elf_Type type)
   uint32_t kind;
   if (!is_given (elfkit_kind (&scn->elf->handle, scn->index, 0, &kind)))
     return false;
-  return kind == kind_of_type (type) || false_with (E_INVALID_DATA);
+  return kind == (types[type].kind != 0 ? types[type].kind : BYTES) || false_with (E_INVALID_DATA);
 }
 
 /* The data of a section. */

@@ -6,63 +6,10 @@ static __thread int last_error;
 
 _Atomic bool version_is_set;
 
-static const char *const texts[E_COUNT] = {
-  [E_NONE] = "no error",
-  [E_UNKNOWN] = "unknown error",
-  [E_UNKNOWN_VERSION] = "unknown version",
-  [E_UNKNOWN_TYPE] = "unknown type",
-  [E_INVALID_HANDLE] = "invalid `Elf' handle",
-  [E_SOURCE_SIZE] = "invalid size of source operand",
-  [E_DEST_SIZE] = "invalid size of destination operand",
-  [E_INVALID_ENCODING] = "invalid encoding",
-  [E_NOMEM] = "out of memory",
-  [E_INVALID_FILE] = "invalid file descriptor",
-  [E_INVALID_ELF] = "invalid ELF file data",
-  [E_INVALID_OP] = "invalid operation",
-  [E_NO_VERSION] = "ELF version not set",
-  [E_INVALID_CMD] = "invalid command",
-  [E_RANGE] = "offset out of range",
-  [E_ARCHIVE_FMAG] = "invalid fmag field in archive header",
-  [E_INVALID_ARCHIVE] = "invalid archive file",
-  [E_NO_ARCHIVE] = "descriptor is not for an archive",
-  [E_NO_INDEX] = "no index available",
-  [E_READ_ERROR] = "cannot read data from file",
-  [E_WRITE_ERROR] = "cannot write data to file",
-  [E_INVALID_CLASS] = "invalid binary class",
-  [E_INVALID_INDEX] = "invalid section index",
-  [E_INVALID_OPERAND] = "invalid operand",
-  [E_INVALID_SECTION] = "invalid section",
-  [E_INVALID_COMMAND] = "invalid command",
-  [E_WRONG_ORDER_EHDR] = "executable header not created first",
-  [E_FD_DISABLED] = "file descriptor disabled",
-  [E_FD_MISMATCH] = "archive/member file descriptor mismatch",
-  [E_OFFSET_RANGE] = "offset out of range",
-  [E_NOT_NUL_SECTION] = "cannot manipulate null section",
-  [E_DATA_MISMATCH] = "data/scn mismatch",
-  [E_INVALID_SECTION_HEADER] = "invalid section header",
-  [E_INVALID_DATA] = "invalid data",
-  [E_DATA_ENCODING] = "unknown data encoding",
-  [E_SECTION_TOO_SMALL] = "section `sh_size' too small for data",
-  [E_INVALID_ALIGN] = "invalid section alignment",
-  [E_INVALID_SHENTSIZE] = "invalid section entry size",
-  [E_UPDATE_RO] = "update() for write on read-only file",
-  [E_NO_FILE] = "no such file",
-  [E_GROUP_NOT_REL] = "only relocatable files can contain section groups",
-  [E_INVALID_PHDR] =
-    "program header only allowed in executables, shared objects, and core files",
-  [E_NO_PHDR] = "file has no program header",
-  [E_INVALID_OFFSET] = "invalid offset",
-  [E_NOT_COMPRESSED] = "section does not contain compressed data",
-  [E_ALREADY_COMPRESSED] = "section contains compressed data",
-  [E_UNKNOWN_COMPRESSION_TYPE] = "unknown compression type",
-  [E_COMPRESS_ERROR] = "cannot compress data",
-  [E_DECOMPRESS_ERROR] = "cannot decompress data",
-  [E_INVALID_SECTION_TYPE] = "invalid section type",
-  [E_INVALID_SECTION_FLAGS] = "invalid section flags",
-  [E_UNSUPPORTED] = "not supported by this library",
-};
+#define TEXT(name, text) text,
+static const char *const texts[E_COUNT] = { ERRORS (TEXT) };
 
-/* The refusals of the core, by their numbers (crates/gelf_records, Codes.antt). */
+/* The refusals of the core, by their numbers (crates/c_records, Codes.antt). */
 static const uint8_t errors[] = {
   [0] = E_NONE,
   [1] = E_NOMEM,                /* Memory */
@@ -136,6 +83,5 @@ elf_errmsg (int error)
     return NULL;
   if (error == 0 || error == -1)
     error = last_error;
-  bool is_known = error >= 0 && error < E_COUNT && texts[error] != NULL;
-  return texts[is_known ? error : E_UNKNOWN];
+  return texts[error >= 0 && error < E_COUNT ? error : E_UNKNOWN];
 }

@@ -11,64 +11,65 @@
 
 #include "core.h"
 
-/* The error numbers, as elfutils 0.188 has them, since eu-readelf compares one. Their texts are in
-   errors.c. */
-enum
-{
-  E_NONE,
-  E_UNKNOWN,
-  E_UNKNOWN_VERSION,
-  E_UNKNOWN_TYPE,
-  E_INVALID_HANDLE,
-  E_SOURCE_SIZE,
-  E_DEST_SIZE,
-  E_INVALID_ENCODING,
-  E_NOMEM,
-  E_INVALID_FILE,
-  E_INVALID_ELF,
-  E_INVALID_OP,
-  E_NO_VERSION,
-  E_INVALID_CMD,
-  E_RANGE,
-  E_ARCHIVE_FMAG,
-  E_INVALID_ARCHIVE,
-  E_NO_ARCHIVE,
-  E_NO_INDEX,
-  E_READ_ERROR,
-  E_WRITE_ERROR,
-  E_INVALID_CLASS,
-  E_INVALID_INDEX,
-  E_INVALID_OPERAND,
-  E_INVALID_SECTION,
-  E_INVALID_COMMAND,
-  E_WRONG_ORDER_EHDR,
-  E_FD_DISABLED,
-  E_FD_MISMATCH,
-  E_OFFSET_RANGE,
-  E_NOT_NUL_SECTION,
-  E_DATA_MISMATCH,
-  E_INVALID_SECTION_HEADER,
-  E_INVALID_DATA,
-  E_DATA_ENCODING,
-  E_SECTION_TOO_SMALL,
-  E_INVALID_ALIGN,
-  E_INVALID_SHENTSIZE,
-  E_UPDATE_RO,
-  E_NO_FILE,
-  E_GROUP_NOT_REL,
-  E_INVALID_PHDR,
-  E_NO_PHDR,
-  E_INVALID_OFFSET,
-  E_INVALID_SECTION_TYPE,
-  E_INVALID_SECTION_FLAGS,
-  E_NOT_COMPRESSED,
-  E_ALREADY_COMPRESSED,
-  E_UNKNOWN_COMPRESSION_TYPE,
-  E_COMPRESS_ERROR,
-  E_DECOMPRESS_ERROR,
-  E_UNSUPPORTED,                /* of this library alone */
-  E_COUNT
-};
+/* The errors by their numbers, which are those of elfutils 0.188, since eu-readelf compares one,
+   and their texts. The last one is of this library alone. */
+#define ERRORS(E) \
+  E (E_NONE, "no error") \
+  E (E_UNKNOWN, "unknown error") \
+  E (E_UNKNOWN_VERSION, "unknown version") \
+  E (E_UNKNOWN_TYPE, "unknown type") \
+  E (E_INVALID_HANDLE, "invalid `Elf' handle") \
+  E (E_SOURCE_SIZE, "invalid size of source operand") \
+  E (E_DEST_SIZE, "invalid size of destination operand") \
+  E (E_INVALID_ENCODING, "invalid encoding") \
+  E (E_NOMEM, "out of memory") \
+  E (E_INVALID_FILE, "invalid file descriptor") \
+  E (E_INVALID_ELF, "invalid ELF file data") \
+  E (E_INVALID_OP, "invalid operation") \
+  E (E_NO_VERSION, "ELF version not set") \
+  E (E_INVALID_CMD, "invalid command") \
+  E (E_RANGE, "offset out of range") \
+  E (E_ARCHIVE_FMAG, "invalid fmag field in archive header") \
+  E (E_INVALID_ARCHIVE, "invalid archive file") \
+  E (E_NO_ARCHIVE, "descriptor is not for an archive") \
+  E (E_NO_INDEX, "no index available") \
+  E (E_READ_ERROR, "cannot read data from file") \
+  E (E_WRITE_ERROR, "cannot write data to file") \
+  E (E_INVALID_CLASS, "invalid binary class") \
+  E (E_INVALID_INDEX, "invalid section index") \
+  E (E_INVALID_OPERAND, "invalid operand") \
+  E (E_INVALID_SECTION, "invalid section") \
+  E (E_INVALID_COMMAND, "invalid command") \
+  E (E_WRONG_ORDER_EHDR, "executable header not created first") \
+  E (E_FD_DISABLED, "file descriptor disabled") \
+  E (E_FD_MISMATCH, "archive/member file descriptor mismatch") \
+  E (E_OFFSET_RANGE, "offset out of range") \
+  E (E_NOT_NUL_SECTION, "cannot manipulate null section") \
+  E (E_DATA_MISMATCH, "data/scn mismatch") \
+  E (E_INVALID_SECTION_HEADER, "invalid section header") \
+  E (E_INVALID_DATA, "invalid data") \
+  E (E_DATA_ENCODING, "unknown data encoding") \
+  E (E_SECTION_TOO_SMALL, "section `sh_size' too small for data") \
+  E (E_INVALID_ALIGN, "invalid section alignment") \
+  E (E_INVALID_SHENTSIZE, "invalid section entry size") \
+  E (E_UPDATE_RO, "update() for write on read-only file") \
+  E (E_NO_FILE, "no such file") \
+  E (E_GROUP_NOT_REL, "only relocatable files can contain section groups") \
+  E (E_INVALID_PHDR, "program header only allowed in executables, shared objects, and core files") \
+  E (E_NO_PHDR, "file has no program header") \
+  E (E_INVALID_OFFSET, "invalid offset") \
+  E (E_INVALID_SECTION_TYPE, "invalid section type") \
+  E (E_INVALID_SECTION_FLAGS, "invalid section flags") \
+  E (E_NOT_COMPRESSED, "section does not contain compressed data") \
+  E (E_ALREADY_COMPRESSED, "section contains compressed data") \
+  E (E_UNKNOWN_COMPRESSION_TYPE, "unknown compression type") \
+  E (E_COMPRESS_ERROR, "cannot compress data") \
+  E (E_DECOMPRESS_ERROR, "cannot decompress data") \
+  E (E_UNSUPPORTED, "not supported by this library")
+
+#define NAME(name, text) name,
+enum { ERRORS (NAME) E_COUNT };
+#undef NAME
 
 /* Sets the error number of this thread. */
 void set_error (int error);

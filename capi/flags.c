@@ -16,36 +16,18 @@ flagged (uint8_t *flags, Elf_Cmd cmd, unsigned int which)
 }
 
 /* elf_flagelf, elf_flagehdr, elf_flagphdr: of the object, its header, its program headers. */
-PUBLIC unsigned int
-elf_flagelf (Elf *elf, Elf_Cmd cmd, unsigned int flags)
-{
-  return elf == NULL ? 0 : flagged (&elf->flags, cmd, flags);
-}
-
-PUBLIC unsigned int
-elf_flagehdr (Elf *elf, Elf_Cmd cmd, unsigned int flags)
-{
-  return elf == NULL ? 0 : flagged (&elf->ehdr_flags, cmd, flags);
-}
-
-PUBLIC unsigned int
-elf_flagphdr (Elf *elf, Elf_Cmd cmd, unsigned int flags)
-{
-  return elf == NULL ? 0 : flagged (&elf->phdr_flags, cmd, flags);
-}
+PUBLIC unsigned int elf_flagelf (Elf *elf, Elf_Cmd cmd, unsigned int flags)
+{ return elf == NULL ? 0 : flagged (&elf->flags, cmd, flags); }
+PUBLIC unsigned int elf_flagehdr (Elf *elf, Elf_Cmd cmd, unsigned int flags)
+{ return elf == NULL ? 0 : flagged (&elf->ehdr_flags, cmd, flags); }
+PUBLIC unsigned int elf_flagphdr (Elf *elf, Elf_Cmd cmd, unsigned int flags)
+{ return elf == NULL ? 0 : flagged (&elf->phdr_flags, cmd, flags); }
 
 /* elf_flagscn, elf_flagshdr, elf_flagdata: of a section, its header, its data. */
-PUBLIC unsigned int
-elf_flagscn (Elf_Scn *scn, Elf_Cmd cmd, unsigned int flags)
-{
-  return scn == NULL ? 0 : flagged (&scn->flags, cmd, flags);
-}
-
-PUBLIC unsigned int
-elf_flagshdr (Elf_Scn *scn, Elf_Cmd cmd, unsigned int flags)
-{
-  return scn == NULL ? 0 : flagged (&scn->shdr_flags, cmd, flags);
-}
+PUBLIC unsigned int elf_flagscn (Elf_Scn *scn, Elf_Cmd cmd, unsigned int flags)
+{ return scn == NULL ? 0 : flagged (&scn->flags, cmd, flags); }
+PUBLIC unsigned int elf_flagshdr (Elf_Scn *scn, Elf_Cmd cmd, unsigned int flags)
+{ return scn == NULL ? 0 : flagged (&scn->shdr_flags, cmd, flags); }
 
 PUBLIC unsigned int
 elf_flagdata (Elf_Data *data, Elf_Cmd cmd, unsigned int flags)

@@ -138,15 +138,35 @@ open_front (Elf *elf)
   return (uint8_t *) elf->lent;
 }
 
-/* Begins over the image of a descriptor; the number of the core's refusal, or 0. */
+/* Lends bytes to the core; the number of its refusal, or 0. */
+static uint32_t
+lend (const uint8_t *bytes, size_t size, struct elfkit_handle *h)
+{
+  struct elfkit_lent back = { NULL, 0 };
+  return elfkit_begin ((struct elfkit_lent) { bytes, size }, h, &back);
+}
+
+bool
+begin_over (const uint8_t *bytes, size_t size, struct elfkit_handle *h)
+{
+  return is_given (lend (bytes, size, h));
+}
+
+void
+end_object (struct elfkit_handle *h)
+{
+  struct elfkit_lent back = { NULL, 0 };
+  if (h->ptr != NULL)
+    elfkit_end (h, &back);
+}
+
 uint32_t
 begin_core (Elf *elf)
 {
   elf->tables = tables_of (elf->lent);
   for (;;)
     {
-      struct elfkit_lent image = { elf->lent, elf->size }, back = { NULL, 0 };
-      uint32_t number = elfkit_begin (image, &elf->handle, &back);
+      uint32_t number = lend (elf->lent, elf->size, &elf->handle);
       if (number != REFUSED_VERSION && number != REFUSED_SH_TABLE && number != REFUSED_PH_TABLE)
         return number;
       uint8_t *front = open_front (elf);

@@ -19,24 +19,12 @@ is_elf (Elf *elf, unsigned int class)
 }
 
 /* gelf_getclass: the class, ELFCLASSNONE where it is no ELF image. */
-PUBLIC int
-gelf_getclass (Elf *elf)
-{
-  return elf == NULL || elf->kind != ELF_K_ELF ? ELFCLASSNONE : (int) elf->class;
-}
+PUBLIC int gelf_getclass (Elf *elf)
+{ return elf == NULL || elf->kind != ELF_K_ELF ? ELFCLASSNONE : (int) elf->class; }
 
 /* elf32_getehdr, elf64_getehdr: the native ELF header. */
-PUBLIC Elf32_Ehdr *
-elf32_getehdr (Elf *elf)
-{
-  return is_elf (elf, ELFCLASS32) ? elf->ehdr : NULL;
-}
-
-PUBLIC Elf64_Ehdr *
-elf64_getehdr (Elf *elf)
-{
-  return is_elf (elf, ELFCLASS64) ? elf->ehdr : NULL;
-}
+PUBLIC Elf32_Ehdr *elf32_getehdr (Elf *elf) { return is_elf (elf, ELFCLASS32) ? elf->ehdr : NULL; }
+PUBLIC Elf64_Ehdr *elf64_getehdr (Elf *elf) { return is_elf (elf, ELFCLASS64) ? elf->ehdr : NULL; }
 
 /* gelf_getehdr: the ELF header, whose counts are as they stand in the image. */
 PUBLIC GElf_Ehdr *
@@ -116,17 +104,8 @@ elf_getshdrstrndx (Elf *elf, size_t *index)
 }
 
 /* elf_getshnum, elf_getshstrndx: the old names of the two. */
-PUBLIC int
-elf_getshnum (Elf *elf, size_t *count)
-{
-  return elf_getshdrnum (elf, count);
-}
-
-PUBLIC int
-elf_getshstrndx (Elf *elf, size_t *index)
-{
-  return elf_getshdrstrndx (elf, index);
-}
+PUBLIC int elf_getshnum (Elf *elf, size_t *count) { return elf_getshdrnum (elf, count); }
+PUBLIC int elf_getshstrndx (Elf *elf, size_t *index) { return elf_getshdrstrndx (elf, index); }
 
 /* A program header in native form, of those that there are. */
 static void *
@@ -184,17 +163,10 @@ gelf_update_phdr (Elf *elf, int ndx, GElf_Phdr *src)
   return 1;
 }
 
-PUBLIC Elf32_Phdr *
-elf32_getphdr (Elf *elf)
-{
-  return is_elf (elf, ELFCLASS32) ? native_phdrs (elf) : NULL;
-}
-
-PUBLIC Elf64_Phdr *
-elf64_getphdr (Elf *elf)
-{
-  return is_elf (elf, ELFCLASS64) ? native_phdrs (elf) : NULL;
-}
+PUBLIC Elf32_Phdr *elf32_getphdr (Elf *elf)
+{ return is_elf (elf, ELFCLASS32) ? native_phdrs (elf) : NULL; }
+PUBLIC Elf64_Phdr *elf64_getphdr (Elf *elf)
+{ return is_elf (elf, ELFCLASS64) ? native_phdrs (elf) : NULL; }
 
 /* The core's header of a section. Where the image has headers in the very form that is asked for,
    it is read there; a library that is built with ELFKIT_CHECK compares it with the core's. */
@@ -245,17 +217,8 @@ native_shdr (Elf_Scn *scn, unsigned int class)
   return scn->shdr;
 }
 
-PUBLIC Elf32_Shdr *
-elf32_getshdr (Elf_Scn *scn)
-{
-  return native_shdr (scn, ELFCLASS32);
-}
-
-PUBLIC Elf64_Shdr *
-elf64_getshdr (Elf_Scn *scn)
-{
-  return native_shdr (scn, ELFCLASS64);
-}
+PUBLIC Elf32_Shdr *elf32_getshdr (Elf_Scn *scn) { return native_shdr (scn, ELFCLASS32); }
+PUBLIC Elf64_Shdr *elf64_getshdr (Elf_Scn *scn) { return native_shdr (scn, ELFCLASS64); }
 
 bool
 put_shdr (Elf_Scn *scn, const GElf_Shdr *src)
@@ -320,14 +283,5 @@ native_chdr (Elf_Scn *scn, unsigned int class)
   return data == NULL ? NULL : data->d_buf;
 }
 
-PUBLIC Elf32_Chdr *
-elf32_getchdr (Elf_Scn *scn)
-{
-  return native_chdr (scn, ELFCLASS32);
-}
-
-PUBLIC Elf64_Chdr *
-elf64_getchdr (Elf_Scn *scn)
-{
-  return native_chdr (scn, ELFCLASS64);
-}
+PUBLIC Elf32_Chdr *elf32_getchdr (Elf_Scn *scn) { return native_chdr (scn, ELFCLASS32); }
+PUBLIC Elf64_Chdr *elf64_getchdr (Elf_Scn *scn) { return native_chdr (scn, ELFCLASS64); }

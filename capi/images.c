@@ -1,7 +1,7 @@
 /* images.c: where the bytes of an image are. The layer maps the file twice, privately: one mapping
    is lent to the core and nobody writes it, the other is what programs see, since some write into
    the data of a section. Of ELF_C_READ_MMAP both are one mapping, which nobody can write. A file
-   that cannot be mapped is read. */
+   that cannot be mapped is read, and so is a small one of ELF_C_READ, which takes less time. */
 #define _GNU_SOURCE
 #include <sys/mman.h>
 #include <sys/stat.h>
@@ -36,6 +36,23 @@ map_file (Elf *elf, int fd, size_t size)
   return true;
 }
 
+/* Up to this size a file is read. */
+enum { SMALL = 32768 };
+
+/* The bytes of a small file; NULL where it is none or is not to be had so. */
+static uint8_t *
+read_small (const Elf *elf, int fd, const struct stat *st)
+{
+  size_t size = st->st_size;
+  if (elf->cmd != ELF_C_READ || !S_ISREG (st->st_mode) || size == 0 || size > SMALL)
+    return NULL;
+  uint8_t *bytes = malloc (size);
+  if (bytes != NULL && pread (fd, bytes, size, 0) == (ssize_t) size)
+    return bytes;
+  free (bytes);
+  return NULL;
+}
+
 /* The bytes of a file up to its end, and their number; NULL and an error where they cannot be
    read. */
 static uint8_t *
@@ -58,11 +75,10 @@ read_bytes (int fd, size_t *size)
   return bytes;
 }
 
-/* Reads the file, once for the core and once for programs. */
+/* Has the bytes that were read, once for the core and once for programs. */
 static bool
-read_file (Elf *elf, int fd)
+take_bytes (Elf *elf, uint8_t *bytes)
 {
-  uint8_t *bytes = read_bytes (fd, &elf->size);
   uint8_t *shown = bytes == NULL ? NULL : new_copy (bytes, elf->size);
   if (shown == NULL)
     {
@@ -81,49 +97,92 @@ take_file (Elf *elf, int fd)
   struct stat st;
   if (fstat (fd, &st) != 0)
     return false_with (E_INVALID_FILE);
-  bool is_mapped = S_ISREG (st.st_mode) && st.st_size > 0 && map_file (elf, fd, st.st_size);
-  if (!is_mapped && !read_file (elf, fd))
+  uint8_t *small = read_small (elf, fd, &st);
+  elf->size = st.st_size;
+  bool is_mapped = small == NULL && S_ISREG (st.st_mode) && st.st_size > 0
+                   && map_file (elf, fd, st.st_size);
+  if (!is_mapped && !take_bytes (elf, small != NULL ? small : read_bytes (fd, &elf->size)))
     return false;
   elf->map = elf->shown;
   return true;
 }
 
 void
+drop_bytes (void *at, size_t size, bool is_mapped)
+{
+  if (is_mapped)
+    munmap (at, size);
+  else
+    free (at);
+}
+
+void
 let_go (Elf *elf)
 {
-  if (elf->memory == MAPPED)
-    munmap ((void *) elf->lent, elf->size);
-  if (elf->memory == MAPPED || elf->memory == MAPPED_ONCE || elf->memory == WRITTEN)
-    munmap (elf->shown, elf->size);
-  if (elf->memory == COPIED || elf->memory == WRITTEN)
-    free ((void *) elf->lent);
-  if (elf->memory == COPIED || (elf->memory == BORROWED && (elf->marks & IS_HANDED_OVER)))
-    free (elf->shown);
+  bool is_twice = elf->memory == MAPPED || elf->memory == COPIED || elf->memory == WRITTEN;
+  if (is_twice)
+    drop_bytes ((void *) elf->lent, elf->size, elf->memory == MAPPED);
+  if (is_twice || elf->memory == MAPPED_ONCE
+      || (elf->memory == BORROWED && (elf->marks & IS_HANDED_OVER)))
+    drop_bytes (elf->shown, elf->size, elf->memory != COPIED && elf->memory != BORROWED);
   free (elf->front);
   for (struct kept *next, *k = elf->kept; k != NULL; k = next)
     {
       next = k->next;
-      if (k->is_mapped)
-        munmap (k->at, k->size);
-      else
-        free (k->at);
+      drop_bytes (k->at, k->size, k->is_mapped);
       free (k);
     }
 }
 
-bool
-make_private (Elf *elf)
+/* Has the pages of a mapping in memory that a range lies in: what is written is a mapping's own. */
+static void
+touch (uint8_t *map, size_t size, uint64_t from, uint64_t to)
 {
-  if (elf->memory != MAPPED && elf->memory != WRITTEN)
+  size_t page = sysconf (_SC_PAGESIZE);
+  for (uint64_t at = from - from % page; from < to && at < to && at < size; at += page)
+    {
+      volatile uint8_t *first = map + at;
+      *first = *first;
+    }
+}
+
+void
+keep_pages (Elf *elf, uint64_t from, uint64_t to)
+{
+  if (elf->memory == MAPPED || elf->memory == WRITTEN)
+    touch (elf->shown, elf->size, from, to);
+  for (struct kept *k = elf->kept; k != NULL; k = k->next)
+    if (k->is_mapped)
+      touch (k->at, k->size, from, to);
+}
+
+/* Has a mapping in memory from a place on, at the same place: where a file gets shorter, what was
+   written of a mapping behind its end is lost too. */
+static bool
+hold (uint8_t *map, size_t size, uint64_t from)
+{
+  from -= from % sysconf (_SC_PAGESIZE);
+  if (from >= size)
     return true;
-  void *own = mmap (NULL, elf->size, PROT_READ | PROT_WRITE, MAP_PRIVATE | MAP_ANONYMOUS, -1, 0);
+  void *own = mmap (NULL, size - from, PROT_READ | PROT_WRITE, MAP_PRIVATE | MAP_ANONYMOUS, -1, 0);
   if (own == MAP_FAILED)
     return false_with (E_NOMEM);
-  memcpy (own, elf->shown, elf->size);
-  if (mremap (own, elf->size, elf->size, MREMAP_MAYMOVE | MREMAP_FIXED, elf->shown) != MAP_FAILED)
+  memcpy (own, map + from, size - from);
+  if (mremap (own, size - from, size - from, MREMAP_MAYMOVE | MREMAP_FIXED, map + from)
+      != MAP_FAILED)
     return true;
-  munmap (own, elf->size);
+  munmap (own, size - from);
   return false_with (E_NOMEM);
+}
+
+bool
+keep_end (Elf *elf, uint64_t from)
+{
+  bool done = (elf->memory != MAPPED && elf->memory != WRITTEN)
+              || hold (elf->shown, elf->size, from);
+  for (struct kept *k = elf->kept; done && k != NULL; k = k->next)
+    done = !k->is_mapped || hold (k->at, k->size, from);
+  return done;
 }
 
 bool
@@ -131,25 +190,21 @@ own_image (Elf *elf)
 {
   if (elf->kind == ELF_K_AR || elf->parent != NULL)
     return false_with (E_UNSUPPORTED);  /* its members are lent from the same place */
+  if (!keep_end (elf, 0))
+    return false;
   if (elf->memory != MAPPED)
     return true;
-  if (!make_private (elf))
-    return false;
   uint8_t *copy = new_copy (elf->lent, elf->size);
   if (copy == NULL)
     return false;
-  struct elfkit_lent image = { copy, elf->size }, back = { NULL, 0 };
   struct elfkit_handle handle = { NULL };
-  if (elf->handle.ptr != NULL)
+  if (elf->handle.ptr != NULL && !begin_over (copy, elf->size, &handle))
     {
-      if (!is_given (elfkit_begin (image, &handle, &back)))
-        {
-          free (copy);
-          return false;
-        }
-      elfkit_end (&elf->handle, &back);
-      elf->handle = handle;
+      free (copy);
+      return false;
     }
+  end_object (&elf->handle);
+  elf->handle = handle;
   munmap ((void *) elf->lent, elf->size);
   elf->lent = copy;
   elf->memory = WRITTEN;

@@ -5,21 +5,13 @@
    core's. */
 #include "object.h"
 
-/* Whether the core has items of a type. */
-static inline bool
-is_known (Elf_Type type)
-{
-  return type == ELF_T_SYM || type == ELF_T_REL || type == ELF_T_RELA || type == ELF_T_DYN
-         || type == ELF_T_HALF || type == ELF_T_WORD;
-}
-
 /* Whether an item is asked of the core: of a section as the image has it, and in another form than
    the one that is asked for. Numbers have one form in both classes. */
 static inline bool
 is_asked (const struct elfkit_data *d, Elf_Type type)
 {
   bool has_form = d->is_native && (d->is_64 || type == ELF_T_HALF || type == ELF_T_WORD);
-  return !has_form && d->from_core && is_known (type);
+  return !has_form && d->from_core && types[type].kind != 0;
 }
 
 /* The core's item at an index. */
@@ -50,7 +42,7 @@ check_item (const struct elfkit_data *d, int ndx, const void *dst, size_t size)
 {
 #ifdef ELFKIT_CHECK
   uint64_t item[sizeof (GElf_Move) / sizeof (uint64_t)];        /* the longest one */
-  if (d->from_core && is_known (d->d.d_type)
+  if (d->from_core && types[d->d.d_type].kind != 0
       && (core_item (d, ndx, item) != REFUSED_NOT || memcmp (item, dst, size) != 0))
     abort ();
 #else
@@ -86,11 +78,8 @@ get_item (Elf_Data *data, Elf_Type type, int ndx, void *dst, size_t size)
 }
 
 /* gelf_getsym: a symbol. */
-PUBLIC GElf_Sym *
-gelf_getsym (Elf_Data *data, int ndx, GElf_Sym *dst)
-{
-  return get_item (data, ELF_T_SYM, ndx, dst, sizeof *dst);
-}
+PUBLIC GElf_Sym *gelf_getsym (Elf_Data *data, int ndx, GElf_Sym *dst)
+{ return get_item (data, ELF_T_SYM, ndx, dst, sizeof *dst); }
 
 /* gelf_getsymshndx: a symbol, and its word in the table of extended indexes, 0 without one. */
 PUBLIC GElf_Sym *
@@ -109,54 +98,27 @@ gelf_getsymshndx (Elf_Data *symdata, Elf_Data *shndxdata, int ndx, GElf_Sym *sym
 }
 
 /* gelf_getrel, gelf_getrela: a relocation, without an addend and with one. */
-PUBLIC GElf_Rel *
-gelf_getrel (Elf_Data *data, int ndx, GElf_Rel *dst)
-{
-  return get_item (data, ELF_T_REL, ndx, dst, sizeof *dst);
-}
-
-PUBLIC GElf_Rela *
-gelf_getrela (Elf_Data *data, int ndx, GElf_Rela *dst)
-{
-  return get_item (data, ELF_T_RELA, ndx, dst, sizeof *dst);
-}
+PUBLIC GElf_Rel *gelf_getrel (Elf_Data *data, int ndx, GElf_Rel *dst)
+{ return get_item (data, ELF_T_REL, ndx, dst, sizeof *dst); }
+PUBLIC GElf_Rela *gelf_getrela (Elf_Data *data, int ndx, GElf_Rela *dst)
+{ return get_item (data, ELF_T_RELA, ndx, dst, sizeof *dst); }
 
 /* gelf_getdyn: an entry of the dynamic section. */
-PUBLIC GElf_Dyn *
-gelf_getdyn (Elf_Data *data, int ndx, GElf_Dyn *dst)
-{
-  return get_item (data, ELF_T_DYN, ndx, dst, sizeof *dst);
-}
+PUBLIC GElf_Dyn *gelf_getdyn (Elf_Data *data, int ndx, GElf_Dyn *dst)
+{ return get_item (data, ELF_T_DYN, ndx, dst, sizeof *dst); }
 
 /* gelf_getversym: the version of a symbol. */
-PUBLIC GElf_Versym *
-gelf_getversym (Elf_Data *data, int ndx, GElf_Versym *dst)
-{
-  return get_item (data, ELF_T_HALF, ndx, dst, sizeof *dst);
-}
+PUBLIC GElf_Versym *gelf_getversym (Elf_Data *data, int ndx, GElf_Versym *dst)
+{ return get_item (data, ELF_T_HALF, ndx, dst, sizeof *dst); }
 
 /* gelf_getauxv: an entry of the auxiliary vector, which is of no section. */
-PUBLIC GElf_auxv_t *
-gelf_getauxv (Elf_Data *data, int ndx, GElf_auxv_t *dst)
-{
-  return get_item (data, ELF_T_AUXV, ndx, dst, sizeof *dst);
-}
+PUBLIC GElf_auxv_t *gelf_getauxv (Elf_Data *data, int ndx, GElf_auxv_t *dst)
+{ return get_item (data, ELF_T_AUXV, ndx, dst, sizeof *dst); }
 
 /* gelf_getlib, gelf_getmove, gelf_getsyminfo: records that the core does not know. */
-PUBLIC GElf_Lib *
-gelf_getlib (Elf_Data *data, int ndx, GElf_Lib *dst)
-{
-  return get_item (data, ELF_T_LIB, ndx, dst, sizeof *dst);
-}
-
-PUBLIC GElf_Move *
-gelf_getmove (Elf_Data *data, int ndx, GElf_Move *dst)
-{
-  return get_item (data, ELF_T_MOVE, ndx, dst, sizeof *dst);
-}
-
-PUBLIC GElf_Syminfo *
-gelf_getsyminfo (Elf_Data *data, int ndx, GElf_Syminfo *dst)
-{
-  return get_item (data, ELF_T_SYMINFO, ndx, dst, sizeof *dst);
-}
+PUBLIC GElf_Lib *gelf_getlib (Elf_Data *data, int ndx, GElf_Lib *dst)
+{ return get_item (data, ELF_T_LIB, ndx, dst, sizeof *dst); }
+PUBLIC GElf_Move *gelf_getmove (Elf_Data *data, int ndx, GElf_Move *dst)
+{ return get_item (data, ELF_T_MOVE, ndx, dst, sizeof *dst); }
+PUBLIC GElf_Syminfo *gelf_getsyminfo (Elf_Data *data, int ndx, GElf_Syminfo *dst)
+{ return get_item (data, ELF_T_SYMINFO, ndx, dst, sizeof *dst); }

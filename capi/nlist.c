@@ -31,8 +31,7 @@ static int
 compare_names (const void *left, const void *right)
 {
   const struct nlist *a = *(struct nlist *const *) left, *b = *(struct nlist *const *) right;
-  int order = strcmp (a->n_name, b->n_name);
-  return order != 0 ? order : a < b ? -1 : a > b;
+  return strcmp (a->n_name, b->n_name);
 }
 
 /* Sets all entries of a list to zeros, and sorts them; false and an error where there is no
@@ -52,20 +51,17 @@ sort_list (struct nlist *list, struct wanted *w)
   return true;
 }
 
-/* The first entry with a name, NULL where there is none. */
-static struct nlist *
-find_entry (const struct wanted *w, const char *name)
+/* Sets the entries with a name, which stand side by side. */
+static void
+fill_entries (const struct wanted *w, const char *name, const GElf_Sym *sym)
 {
-  size_t low = 0, high = w->count;
-  while (low < high)
-    {
-      size_t middle = low + (high - low) / 2;
-      if (strcmp (w->entries[middle]->n_name, name) < 0)
-        low = middle + 1;
-      else
-        high = middle;
-    }
-  return low < w->count && strcmp (w->entries[low]->n_name, name) == 0 ? w->entries[low] : NULL;
+  const struct nlist key = { .n_name = (char *) name }, *at = &key;
+  struct nlist **found = bsearch (&at, w->entries, w->count, sizeof *w->entries, compare_names);
+  while (found != NULL && found > w->entries && compare_names (found - 1, &at) == 0)
+    found--;
+  for (; found != NULL && found < w->entries + w->count && compare_names (found, &at) == 0; found++)
+    set_entry (*found, (long int) sym->st_value, (short int) sym->st_shndx,
+               GELF_ST_TYPE (sym->st_info));
 }
 
 /* The first symbol table of an image, or else its last one of dynamic symbols; NULL where there is
@@ -107,24 +103,10 @@ fill_list (Elf *elf, const struct wanted *w)
                          ? NULL : elf_strptr (elf, shdr.sh_link, sym.st_name);
       if (name == NULL)
         return false;
-      struct nlist *entry = name[0] == '\0' ? NULL : find_entry (w, name);
-      if (entry != NULL)
-        set_entry (entry, (long int) sym.st_value, (short int) sym.st_shndx,
-                   GELF_ST_TYPE (sym.st_info));
+      if (name[0] != '\0')
+        fill_entries (w, name, &sym);
     }
   return true;
-}
-
-/* Gives entries with the same name the same value. */
-static void
-fill_twins (const struct wanted *w)
-{
-  for (size_t i = 1; i < w->count; i++)
-    {
-      const struct nlist *before = w->entries[i - 1];
-      if (strcmp (before->n_name, w->entries[i]->n_name) == 0)
-        set_entry (w->entries[i], before->n_value, before->n_scnum, before->n_type);
-    }
 }
 
 /* nlist: the values of the symbols of a list, by a file's table of symbols. */
@@ -143,11 +125,8 @@ nlist (const char *filename, struct nlist *list)
       elf_version (EV_CURRENT);
       Elf *elf = elf_begin (fd, ELF_C_READ_MMAP, NULL);
       done = elf != NULL && fill_list (elf, &w);
-      if (done)
-        fill_twins (&w);
-      else
-        for (size_t i = 0; i < w.count; i++)
-          set_entry (w.entries[i], 0, 0, 0);
+      for (size_t i = 0; !done && i < w.count; i++)
+        set_entry (w.entries[i], 0, 0, 0);
       elf_end (elf);
       close (fd);
     }

@@ -109,6 +109,7 @@ struct Elf
   uint8_t flags, ehdr_flags, phdr_flags;
   bool has_parts;               /* a program asked for more of a section than its place */
   bool is_bare;                 /* an image that is made anew: there is no object of it */
+  bool is_torn;                 /* a write failed: the file may have other bytes than the image */
   struct kept *kept;
   struct elfkit_member *member;         /* its header, where it is a member of an archive */
   struct elfkit_archive *archive;       /* its members, where the kind is ELF_K_AR */
@@ -161,47 +162,62 @@ extern _Atomic bool version_is_set;
 /* The byte order of the machine. */
 enum { NATIVE_ORDER = ELFDATA2LSB };
 
-/* The size of one item of a type in the file, for class 32 and class 64. */
-static const uint8_t item_sizes[ELF_T_NUM][2] = {
-  [ELF_T_BYTE] = { 1, 1 },
-  [ELF_T_ADDR] = { 4, 8 },
-  [ELF_T_DYN] = { 8, 16 },
-  [ELF_T_EHDR] = { 52, 64 },
-  [ELF_T_HALF] = { 2, 2 },
-  [ELF_T_OFF] = { 4, 8 },
-  [ELF_T_PHDR] = { 32, 56 },
-  [ELF_T_RELA] = { 12, 24 },
-  [ELF_T_REL] = { 8, 16 },
-  [ELF_T_SHDR] = { 40, 64 },
-  [ELF_T_SWORD] = { 4, 4 },
-  [ELF_T_SYM] = { 16, 24 },
-  [ELF_T_WORD] = { 4, 4 },
-  [ELF_T_XWORD] = { 8, 8 },
-  [ELF_T_SXWORD] = { 8, 8 },
-  [ELF_T_VDEF] = { 20, 20 },
-  [ELF_T_VDAUX] = { 8, 8 },
-  [ELF_T_VNEED] = { 16, 16 },
-  [ELF_T_VNAUX] = { 16, 16 },
-  [ELF_T_NHDR] = { 12, 12 },
-  [ELF_T_SYMINFO] = { 4, 4 },
-  [ELF_T_MOVE] = { 24, 32 },
-  [ELF_T_LIB] = { 20, 20 },
-  [ELF_T_GNUHASH] = { 4, 4 },
-  [ELF_T_AUXV] = { 8, 16 },
-  [ELF_T_CHDR] = { 12, 24 },
-  [ELF_T_NHDR8] = { 12, 12 },
+/* What is known of a type of data, for class 32 and class 64. */
+struct type
+{
+  uint8_t size[2], align[2];    /* of an item in the file, and what C wants of it in memory */
+  uint8_t kind;                 /* the core's kind of such items; 0 where it has bytes alone */
+  bool is_list;                 /* its items are of several sizes */
 };
 
-/* The same; 0 for a type or a class that is not known. */
+static const struct type types[ELF_T_NUM] = {
+  [ELF_T_BYTE] = { { 1, 1 }, { 1, 1 }, 0, false },
+  [ELF_T_ADDR] = { { 4, 8 }, { 4, 8 }, ADDRESSES, false },
+  [ELF_T_DYN] = { { 8, 16 }, { 4, 8 }, DYNS, false },
+  [ELF_T_EHDR] = { { 52, 64 }, { 4, 8 }, 0, false },
+  [ELF_T_HALF] = { { 2, 2 }, { 2, 2 }, HALVES, false },
+  [ELF_T_OFF] = { { 4, 8 }, { 4, 8 }, 0, false },
+  [ELF_T_PHDR] = { { 32, 56 }, { 4, 8 }, 0, false },
+  [ELF_T_RELA] = { { 12, 24 }, { 4, 8 }, RELAS, false },
+  [ELF_T_REL] = { { 8, 16 }, { 4, 8 }, RELS, false },
+  [ELF_T_SHDR] = { { 40, 64 }, { 4, 8 }, 0, false },
+  [ELF_T_SWORD] = { { 4, 4 }, { 4, 4 }, 0, false },
+  [ELF_T_SYM] = { { 16, 24 }, { 4, 8 }, SYMBOLS, false },
+  [ELF_T_WORD] = { { 4, 4 }, { 4, 4 }, WORDS, false },
+  [ELF_T_XWORD] = { { 8, 8 }, { 8, 8 }, 0, false },
+  [ELF_T_SXWORD] = { { 8, 8 }, { 8, 8 }, 0, false },
+  [ELF_T_VDEF] = { { 20, 20 }, { 4, 4 }, 0, true },
+  [ELF_T_VDAUX] = { { 8, 8 }, { 4, 4 }, 0, false },
+  [ELF_T_VNEED] = { { 16, 16 }, { 4, 4 }, 0, true },
+  [ELF_T_VNAUX] = { { 16, 16 }, { 4, 4 }, 0, false },
+  [ELF_T_NHDR] = { { 12, 12 }, { 4, 4 }, 0, true },
+  [ELF_T_SYMINFO] = { { 4, 4 }, { 2, 2 }, 0, false },
+  [ELF_T_MOVE] = { { 24, 32 }, { 8, 8 }, 0, false },
+  [ELF_T_LIB] = { { 20, 20 }, { 4, 4 }, 0, false },
+  [ELF_T_GNUHASH] = { { 4, 4 }, { 4, 8 }, 0, true },
+  [ELF_T_AUXV] = { { 8, 16 }, { 4, 8 }, 0, false },
+  [ELF_T_CHDR] = { { 12, 24 }, { 4, 8 }, 0, true },
+  [ELF_T_NHDR8] = { { 12, 12 }, { 8, 8 }, 0, true },
+};
+
+/* The size of an item; 0 for a type or a class that is not known. */
 size_t item_size (Elf_Type type, unsigned int class);
 
-/* The alignment that C wants of an item in memory. */
-size_t item_align (Elf_Type type, unsigned int class);
+/* The alignment that C wants of an item in memory, of a type that is known. */
+static inline size_t
+item_align (Elf_Type type, unsigned int class)
+{
+  return types[type].align[class == ELFCLASS64];
+}
 
 /* Whether a number of bytes is one of whole items; of a type with items of several sizes any is. */
-bool is_whole (Elf_Type type, unsigned int class, size_t size);
+static inline bool
+is_whole (Elf_Type type, unsigned int class, size_t size)
+{
+  return types[type].is_list || size % types[type].size[class == ELFCLASS64] == 0;
+}
 
-/* The type of the data of a section with that header, and the same of a type of sections. */
+/* The type of the data of a section with that header. */
 Elf_Type section_type (const GElf_Shdr *shdr);
 
 /* Puts a record into the form of gelf(3E), that of class 64, and back from it; false and an error
@@ -243,6 +259,9 @@ void free_pieces (Elf_Scn *scn);
    memory. */
 bool has_sections (Elf *elf);
 
+/* Frees the array of the sections of the image. */
+void free_array (Elf *elf);
+
 /* Whether it is an ELF image, of that class unless it is 0, with an ELF header. */
 bool is_elf (Elf *elf, unsigned int class);
 
@@ -262,13 +281,19 @@ bool take_file (Elf *elf, int fd);
 /* Lets go of the image, and of what programs saw of images before. */
 void let_go (Elf *elf);
 
+/* Unmaps bytes, or frees them. */
+void drop_bytes (void *at, size_t size, bool is_mapped);
+
 /* Maps the file as programs see it, privately; NULL where it cannot be mapped. */
 uint8_t *map_shown (int fd, size_t size);
 
-/* Has what programs see of a file in memory, at the same place, so that a write of the file does
-   not change it, nor take it away where the file gets shorter; false and an error where there is no
-   memory. */
-bool make_private (Elf *elf);
+/* Has what programs see of a range of a file in memory, and what they saw before, so that a write
+   of it does not change it. */
+void keep_pages (Elf *elf, uint64_t from, uint64_t to);
+
+/* The same from a place on, so that a file that is cut there does not take it away; false and an
+   error where there is no memory. */
+bool keep_end (Elf *elf, uint64_t from);
 
 /* Has a copy of the image lent, so that a write of the file does not change what is lent; false and
    an error where there is no memory, and for an archive and its members. */
@@ -295,6 +320,12 @@ is_writing (Elf_Cmd cmd)
 {
   return changes_file (cmd) || cmd == ELF_C_WRITE || cmd == ELF_C_WRITE_MMAP;
 }
+
+/* Begins an object of the core over bytes; false and an error where it is refused. */
+bool begin_over (const uint8_t *bytes, size_t size, struct elfkit_handle *h);
+
+/* Ends an object of the core, where there is one. */
+void end_object (struct elfkit_handle *h);
 
 /* Begins over the image of a descriptor; the number of the core's refusal, or 0. */
 uint32_t begin_core (Elf *elf);
@@ -377,7 +408,7 @@ item_of (Elf_Data *data, Elf_Type type, int ndx)
 {
   struct elfkit_data *d = data_of (data);
   if (d == NULL || data->d_type != type || d->elf == NULL || ndx < 0 || data->d_buf == NULL
-      || ((size_t) ndx + 1) * item_sizes[type][d->is_64] > data->d_size)
+      || ((size_t) ndx + 1) * types[type].size[d->is_64] > data->d_size)
     return no_item (data, type);
   return d;
 }
@@ -386,7 +417,7 @@ item_of (Elf_Data *data, Elf_Type type, int ndx)
 static inline void *
 at_index (const struct elfkit_data *d, Elf_Type type, int ndx)
 {
-  return (uint8_t *) d->d.d_buf + (size_t) ndx * item_sizes[type][d->is_64];
+  return (uint8_t *) d->d.d_buf + (size_t) ndx * types[type].size[d->is_64];
 }
 
 #endif /* object.h */

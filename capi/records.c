@@ -85,7 +85,7 @@ narrow_form (const struct field *f, uint64_t *number)
 void
 to_gelf (Elf_Type type, unsigned int class, void *to, const void *from)
 {
-  const size_t size = item_sizes[type][1];
+  const size_t size = types[type].size[1];
   if (is_same (type, class))
     {
       memcpy (to, from, size);
@@ -105,7 +105,7 @@ from_gelf (Elf_Type type, unsigned int class, void *to, const void *from)
   uint8_t made[sizeof (Elf32_Ehdr)] = { 0 };    /* the longest of class 32 */
   if (is_same (type, class))
     {
-      memcpy (to, from, item_sizes[type][1]);
+      memcpy (to, from, types[type].size[1]);
       return true;
     }
   for (const struct field *f = fields[type]; f->width[0] != 0; f++)
@@ -115,7 +115,7 @@ from_gelf (Elf_Type type, unsigned int class, void *to, const void *from)
         return false;
       put_number (made + f->at[0], f->width[0], false, number);
     }
-  memcpy (to, made, item_sizes[type][0]);
+  memcpy (to, made, types[type].size[0]);
   return true;
 }
 

@@ -1,7 +1,39 @@
 /* sections.c: the sections by number and by place, and where their bytes are. A section is an entry
    of one array, which is made when the first one is asked for. */
 #define _GNU_SOURCE
+#include <sys/mman.h>
+
 #include "object.h"
+
+/* The size of a large page. An array of sections that is larger is mapped, in such pages where the
+   system has them: a walk over many sections takes most of its time for new pages else. */
+enum { LARGE = 1 << 21 };
+
+static size_t
+array_size (const Elf *elf)
+{
+  size_t size = elf->opened * sizeof *elf->sections;
+  return size <= LARGE ? size : round_up (size, LARGE);
+}
+
+static Elf_Scn *
+new_array (size_t size)
+{
+  if (size <= LARGE)
+    return new_zeros (size);
+  void *made = mmap (NULL, size, PROT_READ | PROT_WRITE, MAP_PRIVATE | MAP_ANONYMOUS, -1, 0);
+  if (made == MAP_FAILED)
+    return null_with (E_NOMEM);
+  madvise (made, size, MADV_HUGEPAGE);
+  return made;
+}
+
+void
+free_array (Elf *elf)
+{
+  if (elf->sections != NULL)
+    drop_bytes (elf->sections, array_size (elf), array_size (elf) > LARGE);
+}
 
 bool
 has_sections (Elf *elf)
@@ -11,7 +43,7 @@ has_sections (Elf *elf)
   if (elf->kind != ELF_K_ELF)
     return false_with (E_INVALID_HANDLE);
   if (elf->sections == NULL && elf->opened > 0)
-    elf->sections = new_zeros (elf->opened * sizeof *elf->sections);
+    elf->sections = new_array (array_size (elf));
   return elf->sections != NULL || elf->opened == 0;
 }
 
@@ -61,11 +93,7 @@ elf_nextscn (Elf *elf, Elf_Scn *scn)
 }
 
 /* elf_ndxscn: a section's number. */
-PUBLIC size_t
-elf_ndxscn (Elf_Scn *scn)
-{
-  return scn == NULL ? SHN_UNDEF : scn->index;
-}
+PUBLIC size_t elf_ndxscn (Elf_Scn *scn) { return scn == NULL ? SHN_UNDEF : scn->index; }
 
 /* gelf_offscn: the section that begins at a place: the first that has bytes, or the last. */
 PUBLIC Elf_Scn *
@@ -86,17 +114,10 @@ gelf_offscn (Elf *elf, GElf_Off offset)
   return found != NULL ? found : null_with (E_INVALID_OFFSET);
 }
 
-PUBLIC Elf_Scn *
-elf32_offscn (Elf *elf, Elf32_Off offset)
-{
-  return gelf_getclass (elf) == ELFCLASS32 ? gelf_offscn (elf, offset) : NULL;
-}
-
-PUBLIC Elf_Scn *
-elf64_offscn (Elf *elf, Elf64_Off offset)
-{
-  return gelf_getclass (elf) == ELFCLASS64 ? gelf_offscn (elf, offset) : NULL;
-}
+PUBLIC Elf_Scn *elf32_offscn (Elf *elf, Elf32_Off offset)
+{ return gelf_getclass (elf) == ELFCLASS32 ? gelf_offscn (elf, offset) : NULL; }
+PUBLIC Elf_Scn *elf64_offscn (Elf *elf, Elf64_Off offset)
+{ return gelf_getclass (elf) == ELFCLASS64 ? gelf_offscn (elf, offset) : NULL; }
 
 /* Notes of each section which one has its extended indexes: the first that links to it. One pass
    serves all sections, until a header is stored. */

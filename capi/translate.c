@@ -4,48 +4,38 @@
    are walked. */
 #include "object.h"
 
-/* The kind of a type's items in the core, for class 32 and class 64; 0 where it has none. */
-static const uint8_t kinds[ELF_T_NUM][2] = {
-  [ELF_T_BYTE] = { BYTES, BYTES },
-  [ELF_T_ADDR] = { ADDRESSES, ADDRESSES },
-  [ELF_T_DYN] = { DYNS, DYNS },
-  [ELF_T_HALF] = { HALVES, HALVES },
-  [ELF_T_OFF] = { ADDRESSES, ADDRESSES },
-  [ELF_T_PHDR] = { WORDS, 0 },
-  [ELF_T_RELA] = { RELAS, RELAS },
-  [ELF_T_REL] = { RELS, RELS },
-  [ELF_T_SHDR] = { WORDS, 0 },
-  [ELF_T_SWORD] = { WORDS, WORDS },
-  [ELF_T_SYM] = { SYMBOLS, SYMBOLS },
-  [ELF_T_WORD] = { WORDS, WORDS },
-  [ELF_T_VDAUX] = { WORDS, WORDS },
-  [ELF_T_SYMINFO] = { HALVES, HALVES },
-  [ELF_T_LIB] = { WORDS, WORDS },
-  [ELF_T_AUXV] = { ADDRESSES, ADDRESSES },
-};
-
-/* The widths of the fields of other records, for class 32 and class 64. */
+/* The widths of the fields of an item, for class 32 and class 64, where the core has no such
+   items. */
 static const char *const fields[ELF_T_NUM][2] = {
   [ELF_T_EHDR] = { "11111111111111112244444222222", "11111111111111112248884222222" },
-  [ELF_T_PHDR] = { NULL, "44888888" },
-  [ELF_T_SHDR] = { NULL, "4488884488" },
+  [ELF_T_OFF] = { "4", "8" },
+  [ELF_T_PHDR] = { "44444444", "44888888" },
+  [ELF_T_SHDR] = { "4444444444", "4488884488" },
+  [ELF_T_SWORD] = { "4", "4" },
   [ELF_T_XWORD] = { "8", "8" },
   [ELF_T_SXWORD] = { "8", "8" },
+  [ELF_T_VDAUX] = { "44", "44" },
   [ELF_T_VNAUX] = { "42244", "42244" },
+  [ELF_T_SYMINFO] = { "22", "22" },
   [ELF_T_MOVE] = { "844221111", "888221111" },
+  [ELF_T_LIB] = { "44444", "44444" },
+  [ELF_T_AUXV] = { "44", "88" },
+  [ELF_T_CHDR] = { "444", "4488" },
 };
 
-/* Translates whole items of a kind where they are, a page at a time, so that the core takes memory
-   for no more. */
+/* Copies whole items of a kind, and translates them there, a page at a time, so that the core takes
+   memory for no more. */
 static bool
 translate_items (unsigned int kind, unsigned int class, bool to_memory, uint8_t *bytes,
-                 size_t size)
+                 const uint8_t *from, size_t size)
 {
   const unsigned int foreign = NATIVE_ORDER == ELFDATA2LSB ? ELFDATA2MSB : ELFDATA2LSB;
   const size_t page = 3 * 16384;        /* which the size of each item divides */
-  for (size_t n; size > 0; bytes += n, size -= n)
+  for (size_t n; size > 0; bytes += n, from += n, size -= n)
     {
       n = size < page ? size : page;
+      if (bytes != from)
+        memcpy (bytes, from, n);
       if (!is_given (elfkit_translate (kind, class, to_memory ? foreign : NATIVE_ORDER,
                                        to_memory ? NATIVE_ORDER : foreign, bytes, n)))
         return false;
@@ -59,7 +49,7 @@ translate_numbers (unsigned int width, bool to_memory, uint8_t *bytes, size_t co
 {
   static const uint8_t by_width[9] = { [2] = HALVES, [4] = WORDS, [8] = ADDRESSES };
   return width == 1
-         || translate_items (by_width[width], ELFCLASS64, to_memory, bytes, width * count);
+         || translate_items (by_width[width], ELFCLASS64, to_memory, bytes, bytes, width * count);
 }
 
 /* Translates the fields of one record where they are. */
@@ -198,20 +188,20 @@ translate_gnu_hash (unsigned int class, bool to_memory, uint8_t *bytes, size_t s
          && translate_numbers (4, to_memory, bytes + at + 8 * bloom, (size - at - 8 * bloom) / 4);
 }
 
-/* Records of one size. */
+/* Items of one size, and no more than whole ones: at once where all their numbers have one
+   width. */
 static bool
 translate_records (Elf_Type type, unsigned int class, bool to_memory, uint8_t *bytes, size_t size)
 {
-  unsigned int kind = kinds[type][class == ELFCLASS64];
   const char *widths = fields[type][class == ELFCLASS64];
   size_t record = item_size (type, class);
-  if (kind == BYTES || (kind == 0 && widths == NULL))
+  size -= size % record;
+  if (widths == NULL)
     return true;
-  if (kind != 0)
-    return translate_items (kind, class, to_memory, bytes, size - size % record);
-  if (widths[1] == '\0')
-    return translate_numbers (widths[0] - '0', to_memory, bytes, size / record);
-  for (size_t at = 0; at + record <= size; at += record)
+  unsigned int width = widths[0] - '0';
+  if (strspn (widths, (char[]) { widths[0], '\0' }) == strlen (widths))
+    return translate_numbers (width, to_memory, bytes, size / width);
+  for (size_t at = 0; at < size; at += record)
     if (!translate_fields (to_memory, bytes + at, widths))
       return false;
   return true;
@@ -221,8 +211,12 @@ bool
 translate (Elf_Type type, unsigned int class, bool to_memory, void *to, const void *from,
            size_t size)
 {
-  if (to != from && size > 0)
-    memmove (to, from, size);
+  size_t rest = types[type].kind == 0 ? size : size % item_size (type, class);
+  uint8_t *end = (uint8_t *) to + (size - rest);
+  if (to != from && rest > 0)
+    memcpy (end, (const uint8_t *) from + (size - rest), rest);
+  if (types[type].kind != 0)
+    return translate_items (types[type].kind, class, to_memory, to, from, size - rest);
   switch (type)
     {
     case ELF_T_VDEF:
@@ -237,7 +231,7 @@ translate (Elf_Type type, unsigned int class, bool to_memory, void *to, const vo
       return translate_gnu_hash (class, to_memory, to, size);
     case ELF_T_CHDR:
       return size < item_size (type, class)
-             || translate_fields (to_memory, to, class == ELFCLASS64 ? "4488" : "444");
+             || translate_fields (to_memory, to, fields[type][class == ELFCLASS64]);
     default:
       return translate_records (type, class, to_memory, to, size);
     }
@@ -279,38 +273,15 @@ xlate (Elf_Data *dest, const Elf_Data *src, unsigned int encode, unsigned int cl
   return dest;
 }
 
-PUBLIC Elf_Data *
-elf32_xlatetom (Elf_Data *dest, const Elf_Data *src, unsigned int encode)
-{
-  return xlate (dest, src, encode, ELFCLASS32, true);
-}
-
-PUBLIC Elf_Data *
-elf64_xlatetom (Elf_Data *dest, const Elf_Data *src, unsigned int encode)
-{
-  return xlate (dest, src, encode, ELFCLASS64, true);
-}
-
-PUBLIC Elf_Data *
-elf32_xlatetof (Elf_Data *dest, const Elf_Data *src, unsigned int encode)
-{
-  return xlate (dest, src, encode, ELFCLASS32, false);
-}
-
-PUBLIC Elf_Data *
-elf64_xlatetof (Elf_Data *dest, const Elf_Data *src, unsigned int encode)
-{
-  return xlate (dest, src, encode, ELFCLASS64, false);
-}
-
-PUBLIC Elf_Data *
-gelf_xlatetom (Elf *elf, Elf_Data *dest, const Elf_Data *src, unsigned int encode)
-{
-  return elf == NULL ? NULL : xlate (dest, src, encode, elf->class, true);
-}
-
-PUBLIC Elf_Data *
-gelf_xlatetof (Elf *elf, Elf_Data *dest, const Elf_Data *src, unsigned int encode)
-{
-  return elf == NULL ? NULL : xlate (dest, src, encode, elf->class, false);
-}
+PUBLIC Elf_Data *elf32_xlatetom (Elf_Data *dest, const Elf_Data *src, unsigned int encode)
+{ return xlate (dest, src, encode, ELFCLASS32, true); }
+PUBLIC Elf_Data *elf64_xlatetom (Elf_Data *dest, const Elf_Data *src, unsigned int encode)
+{ return xlate (dest, src, encode, ELFCLASS64, true); }
+PUBLIC Elf_Data *elf32_xlatetof (Elf_Data *dest, const Elf_Data *src, unsigned int encode)
+{ return xlate (dest, src, encode, ELFCLASS32, false); }
+PUBLIC Elf_Data *elf64_xlatetof (Elf_Data *dest, const Elf_Data *src, unsigned int encode)
+{ return xlate (dest, src, encode, ELFCLASS64, false); }
+PUBLIC Elf_Data *gelf_xlatetom (Elf *elf, Elf_Data *dest, const Elf_Data *src, unsigned int encode)
+{ return elf == NULL ? NULL : xlate (dest, src, encode, elf->class, true); }
+PUBLIC Elf_Data *gelf_xlatetof (Elf *elf, Elf_Data *dest, const Elf_Data *src, unsigned int encode)
+{ return elf == NULL ? NULL : xlate (dest, src, encode, elf->class, false); }

@@ -7,54 +7,7 @@ item_size (Elf_Type type, unsigned int class)
 {
   if ((unsigned int) type >= ELF_T_NUM || (class != ELFCLASS32 && class != ELFCLASS64))
     return 0;
-  return item_sizes[type][class == ELFCLASS64];
-}
-
-size_t
-item_align (Elf_Type type, unsigned int class)
-{
-  switch (type)
-    {
-    case ELF_T_BYTE:
-      return 1;
-    case ELF_T_HALF:
-    case ELF_T_SYMINFO:
-      return 2;
-    case ELF_T_XWORD:
-    case ELF_T_SXWORD:
-    case ELF_T_MOVE:
-    case ELF_T_NHDR8:
-      return 8;
-    case ELF_T_SWORD:
-    case ELF_T_WORD:
-    case ELF_T_VDEF:
-    case ELF_T_VDAUX:
-    case ELF_T_VNEED:
-    case ELF_T_VNAUX:
-    case ELF_T_NHDR:
-    case ELF_T_LIB:
-      return 4;
-    default:
-      return class == ELFCLASS64 ? 8 : 4;
-    }
-}
-
-bool
-is_whole (Elf_Type type, unsigned int class, size_t size)
-{
-  const size_t item = item_size (type, class);
-  switch (type)
-    {
-    case ELF_T_VDEF:
-    case ELF_T_VNEED:
-    case ELF_T_NHDR:
-    case ELF_T_NHDR8:
-    case ELF_T_GNUHASH:
-    case ELF_T_CHDR:
-      return true;
-    default:
-      return item != 0 && size % item == 0;
-    }
+  return types[type].size[class == ELFCLASS64];
 }
 
 /* The types of sections whose data has another type than ELF_T_BYTE, whatever their header says. */
@@ -109,17 +62,10 @@ fsize (Elf_Type type, size_t count, unsigned int version, unsigned int class)
   return false_with (version != EV_CURRENT ? E_UNKNOWN_VERSION : E_UNKNOWN_TYPE);
 }
 
-PUBLIC size_t
-elf32_fsize (Elf_Type type, size_t count, unsigned int version)
-{
-  return fsize (type, count, version, ELFCLASS32);
-}
-
-PUBLIC size_t
-elf64_fsize (Elf_Type type, size_t count, unsigned int version)
-{
-  return fsize (type, count, version, ELFCLASS64);
-}
+PUBLIC size_t elf32_fsize (Elf_Type type, size_t count, unsigned int version)
+{ return fsize (type, count, version, ELFCLASS32); }
+PUBLIC size_t elf64_fsize (Elf_Type type, size_t count, unsigned int version)
+{ return fsize (type, count, version, ELFCLASS64); }
 
 PUBLIC size_t
 gelf_fsize (Elf *elf, Elf_Type type, size_t count, unsigned int version)

@@ -67,16 +67,13 @@ place_headers (struct update *u)
 static bool
 begin_update (struct update *u)
 {
-  Elf *elf = u->elf;
-  struct elfkit_lent back = { NULL, 0 }, image = { elf->lent, elf->size };
+  const Elf *elf = u->elf;
   if (elf->is_cut || elf->lacks_phdrs)
     return false_with (E_INVALID_ELF);
-  if (u->is_anew)
-    {
-      make_front (u->bare, u->ehdr.e_ident);
-      image = (struct elfkit_lent) { u->bare, u->ehdr.e_ehsize };
-    }
-  return is_given (elfkit_begin (image, &u->handle, &back));
+  if (!u->is_anew)
+    return begin_over (elf->lent, elf->size, &u->handle);
+  make_front (u->bare, u->ehdr.e_ident);
+  return begin_over (u->bare, u->ehdr.e_ehsize, &u->handle);
 }
 
 /* Hands the ELF header over, once the sections are there. */
@@ -252,10 +249,6 @@ elf_update (Elf *elf, Elf_Cmd cmd)
   if (!complete_ehdr (&u) || !begin_update (&u))
     return -1;
   int64_t size = update (&u, cmd != ELF_C_NULL);
-  if (u.handle.ptr != NULL)
-    {
-      struct elfkit_lent back = { NULL, 0 };
-      elfkit_end (&u.handle, &back);
-    }
+  end_object (&u.handle);
   return size;
 }

@@ -53,11 +53,8 @@ store_item (Elf_Data *data, Elf_Type type, int ndx, const void *src)
 }
 
 /* gelf_update_sym, gelf_update_symshndx: a symbol, and its extended index. */
-PUBLIC int
-gelf_update_sym (Elf_Data *data, int ndx, GElf_Sym *src)
-{
-  return store_item (data, ELF_T_SYM, ndx, src);
-}
+PUBLIC int gelf_update_sym (Elf_Data *data, int ndx, GElf_Sym *src)
+{ return store_item (data, ELF_T_SYM, ndx, src); }
 
 PUBLIC int
 gelf_update_symshndx (Elf_Data *symdata, Elf_Data *shndxdata, int ndx, GElf_Sym *sym,
@@ -72,57 +69,30 @@ gelf_update_symshndx (Elf_Data *symdata, Elf_Data *shndxdata, int ndx, GElf_Sym 
 }
 
 /* gelf_update_rel, gelf_update_rela: a relocation. */
-PUBLIC int
-gelf_update_rel (Elf_Data *data, int ndx, GElf_Rel *src)
-{
-  return store_item (data, ELF_T_REL, ndx, src);
-}
-
-PUBLIC int
-gelf_update_rela (Elf_Data *data, int ndx, GElf_Rela *src)
-{
-  return store_item (data, ELF_T_RELA, ndx, src);
-}
+PUBLIC int gelf_update_rel (Elf_Data *data, int ndx, GElf_Rel *src)
+{ return store_item (data, ELF_T_REL, ndx, src); }
+PUBLIC int gelf_update_rela (Elf_Data *data, int ndx, GElf_Rela *src)
+{ return store_item (data, ELF_T_RELA, ndx, src); }
 
 /* gelf_update_dyn: an entry of the dynamic section. */
-PUBLIC int
-gelf_update_dyn (Elf_Data *data, int ndx, GElf_Dyn *src)
-{
-  return store_item (data, ELF_T_DYN, ndx, src);
-}
+PUBLIC int gelf_update_dyn (Elf_Data *data, int ndx, GElf_Dyn *src)
+{ return store_item (data, ELF_T_DYN, ndx, src); }
 
 /* gelf_update_versym: the version of a symbol. */
-PUBLIC int
-gelf_update_versym (Elf_Data *data, int ndx, GElf_Versym *src)
-{
-  return store_item (data, ELF_T_HALF, ndx, src);
-}
+PUBLIC int gelf_update_versym (Elf_Data *data, int ndx, GElf_Versym *src)
+{ return store_item (data, ELF_T_HALF, ndx, src); }
 
 /* gelf_update_syminfo, gelf_update_lib, gelf_update_move: Sun's and GNU's records. */
-PUBLIC int
-gelf_update_syminfo (Elf_Data *data, int ndx, GElf_Syminfo *src)
-{
-  return store_item (data, ELF_T_SYMINFO, ndx, src);
-}
-
-PUBLIC int
-gelf_update_lib (Elf_Data *data, int ndx, GElf_Lib *src)
-{
-  return store_item (data, ELF_T_LIB, ndx, src);
-}
-
-PUBLIC int
-gelf_update_move (Elf_Data *data, int ndx, GElf_Move *src)
-{
-  return store_item (data, ELF_T_MOVE, ndx, src);
-}
+PUBLIC int gelf_update_syminfo (Elf_Data *data, int ndx, GElf_Syminfo *src)
+{ return store_item (data, ELF_T_SYMINFO, ndx, src); }
+PUBLIC int gelf_update_lib (Elf_Data *data, int ndx, GElf_Lib *src)
+{ return store_item (data, ELF_T_LIB, ndx, src); }
+PUBLIC int gelf_update_move (Elf_Data *data, int ndx, GElf_Move *src)
+{ return store_item (data, ELF_T_MOVE, ndx, src); }
 
 /* gelf_update_auxv: an entry of the auxiliary vector. */
-PUBLIC int
-gelf_update_auxv (Elf_Data *data, int ndx, GElf_auxv_t *src)
-{
-  return store_item (data, ELF_T_AUXV, ndx, src);
-}
+PUBLIC int gelf_update_auxv (Elf_Data *data, int ndx, GElf_auxv_t *src)
+{ return store_item (data, ELF_T_AUXV, ndx, src); }
 
 /* A record of both classes at a place. */
 static int
@@ -137,26 +107,11 @@ store_record (Elf_Data *data, Elf_Type type, int offset, const void *src, size_t
 }
 
 /* gelf_update_verdef and its like: version records. */
-PUBLIC int
-gelf_update_verdef (Elf_Data *data, int offset, GElf_Verdef *src)
-{
-  return store_record (data, ELF_T_VDEF, offset, src, sizeof *src);
-}
-
-PUBLIC int
-gelf_update_verdaux (Elf_Data *data, int offset, GElf_Verdaux *src)
-{
-  return store_record (data, ELF_T_VDEF, offset, src, sizeof *src);
-}
-
-PUBLIC int
-gelf_update_verneed (Elf_Data *data, int offset, GElf_Verneed *src)
-{
-  return store_record (data, ELF_T_VNEED, offset, src, sizeof *src);
-}
-
-PUBLIC int
-gelf_update_vernaux (Elf_Data *data, int offset, GElf_Vernaux *src)
-{
-  return store_record (data, ELF_T_VNEED, offset, src, sizeof *src);
-}
+PUBLIC int gelf_update_verdef (Elf_Data *data, int offset, GElf_Verdef *src)
+{ return store_record (data, ELF_T_VDEF, offset, src, sizeof *src); }
+PUBLIC int gelf_update_verdaux (Elf_Data *data, int offset, GElf_Verdaux *src)
+{ return store_record (data, ELF_T_VDEF, offset, src, sizeof *src); }
+PUBLIC int gelf_update_verneed (Elf_Data *data, int offset, GElf_Verneed *src)
+{ return store_record (data, ELF_T_VNEED, offset, src, sizeof *src); }
+PUBLIC int gelf_update_vernaux (Elf_Data *data, int offset, GElf_Vernaux *src)
+{ return store_record (data, ELF_T_VNEED, offset, src, sizeof *src); }

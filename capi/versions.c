@@ -1,5 +1,6 @@
 /* versions.c: version records and notes, by their places. Those of a section are the core's; those
-   of a chunk of the file are read from its buffer, which is in memory form. */
+   of a chunk of the file are read from its buffer, which is in memory form, and so is a note of a
+   section in the machine's order. */
 #include "object.h"
 
 #define RECORD(call, type) \
@@ -13,40 +14,27 @@
 
 /* gelf_getverdef, gelf_getverdaux, gelf_getverneed, gelf_getvernaux: a version definition, one of
    its names, the needs of a file, a needed version. */
-PUBLIC GElf_Verdef *
-gelf_getverdef (Elf_Data *data, int offset, GElf_Verdef *dst)
-{
-  RECORD (elfkit_verdef, ELF_T_VDEF);
-}
+PUBLIC GElf_Verdef *gelf_getverdef (Elf_Data *data, int offset, GElf_Verdef *dst)
+{ RECORD (elfkit_verdef, ELF_T_VDEF); }
+PUBLIC GElf_Verdaux *gelf_getverdaux (Elf_Data *data, int offset, GElf_Verdaux *dst)
+{ RECORD (elfkit_verdaux, ELF_T_VDEF); }
+PUBLIC GElf_Verneed *gelf_getverneed (Elf_Data *data, int offset, GElf_Verneed *dst)
+{ RECORD (elfkit_verneed, ELF_T_VNEED); }
+PUBLIC GElf_Vernaux *gelf_getvernaux (Elf_Data *data, int offset, GElf_Vernaux *dst)
+{ RECORD (elfkit_vernaux, ELF_T_VNEED); }
 
-PUBLIC GElf_Verdaux *
-gelf_getverdaux (Elf_Data *data, int offset, GElf_Verdaux *dst)
-{
-  RECORD (elfkit_verdaux, ELF_T_VDEF);
-}
-
-PUBLIC GElf_Verneed *
-gelf_getverneed (Elf_Data *data, int offset, GElf_Verneed *dst)
-{
-  RECORD (elfkit_verneed, ELF_T_VNEED);
-}
-
-PUBLIC GElf_Vernaux *
-gelf_getvernaux (Elf_Data *data, int offset, GElf_Vernaux *dst)
-{
-  RECORD (elfkit_vernaux, ELF_T_VNEED);
-}
-
-/* A note of a chunk of the file, as the core finds one: header, name and descriptor lie in it;
+/* A note in the buffer, as the core finds one: header, name and descriptor lie in it;
    false and an error where they do not. */
 static bool
 note_in (const Elf_Data *data, size_t offset, struct elfkit_note *note)
 {
   Elf64_Nhdr n;
   size_t size = data->d_size, align = data->d_type == ELF_T_NHDR8 ? 8 : 4;
-  *note = (struct elfkit_note) { 0 };
   if (offset == size)
-    return true;
+    {
+      *note = (struct elfkit_note) { 0 };
+      return true;
+    }
   if (!lies_in (offset, sizeof n, size))
     return false_with (E_OFFSET_RANGE);
   memcpy (&n, (const uint8_t *) data->d_buf + offset, sizeof n);
@@ -62,6 +50,24 @@ note_in (const Elf_Data *data, size_t offset, struct elfkit_note *note)
   return true;
 }
 
+/* A note of data; false and an error where it does not lie in it. A library that is built with
+   ELFKIT_CHECK compares what it reads itself with the core's. */
+static bool
+note_of (const struct elfkit_data *d, size_t offset, struct elfkit_note *note)
+{
+  if (d->from_core && !d->is_native)
+    return is_given (elfkit_note (&d->elf->handle, d->scn->index, 0, offset, note));
+  bool is_there = note_in (&d->d, offset, note);
+#ifdef ELFKIT_CHECK
+  struct elfkit_note x;
+  if (d->from_core
+      && ((elfkit_note (&d->elf->handle, d->scn->index, 0, offset, &x) == REFUSED_NOT) != is_there
+          || (is_there && memcmp (&x, note, sizeof x) != 0)))
+    abort ();
+#endif
+  return is_there;
+}
+
 /* gelf_getnote: a note, and the place of the next one; 0 at the end and where there is none. */
 PUBLIC size_t
 gelf_getnote (Elf_Data *data, size_t offset, GElf_Nhdr *nhdr, size_t *name_offset,
@@ -75,10 +81,7 @@ gelf_getnote (Elf_Data *data, size_t offset, GElf_Nhdr *nhdr, size_t *name_offse
   if (data->d_buf == NULL || offset > data->d_size)
     return false_with (E_OFFSET_RANGE);
   struct elfkit_note note;
-  bool is_there = d->from_core
-                  ? is_given (elfkit_note (&d->elf->handle, d->scn->index, 0, offset, &note))
-                  : note_in (data, offset, &note);
-  if (!is_there || note.found == 0)
+  if (!note_of (d, offset, &note) || note.found == 0)
     return 0;
   *nhdr = (GElf_Nhdr) { .n_namesz = note.namesz, .n_descsz = note.descsz, .n_type = note.ntype };
   *name_offset = note.name_at;

@@ -31,23 +31,10 @@ new_ehdr (Elf *elf, unsigned int class)
 }
 
 /* elf32_newehdr, elf64_newehdr, gelf_newehdr: a new ELF header, or the one that there is. */
-PUBLIC Elf32_Ehdr *
-elf32_newehdr (Elf *elf)
-{
-  return new_ehdr (elf, ELFCLASS32);
-}
-
-PUBLIC Elf64_Ehdr *
-elf64_newehdr (Elf *elf)
-{
-  return new_ehdr (elf, ELFCLASS64);
-}
-
-PUBLIC void *
-gelf_newehdr (Elf *elf, int class)
-{
-  return new_ehdr (elf, class == ELFCLASS32 ? ELFCLASS32 : ELFCLASS64);
-}
+PUBLIC Elf32_Ehdr *elf32_newehdr (Elf *elf) { return new_ehdr (elf, ELFCLASS32); }
+PUBLIC Elf64_Ehdr *elf64_newehdr (Elf *elf) { return new_ehdr (elf, ELFCLASS64); }
+PUBLIC void *gelf_newehdr (Elf *elf, int class)
+{ return new_ehdr (elf, class == ELFCLASS32 ? ELFCLASS32 : ELFCLASS64); }
 
 /* Notes the number of program headers in the ELF header. */
 static void
@@ -93,17 +80,10 @@ new_phdrs (Elf *elf, size_t count, unsigned int class)
 }
 
 /* elf32_newphdr, elf64_newphdr, gelf_newphdr: a new table of program headers. */
-PUBLIC Elf32_Phdr *
-elf32_newphdr (Elf *elf, size_t count)
-{
-  return new_phdrs (elf, count, ELFCLASS32);
-}
-
-PUBLIC Elf64_Phdr *
-elf64_newphdr (Elf *elf, size_t count)
-{
-  return new_phdrs (elf, count, ELFCLASS64);
-}
+PUBLIC Elf32_Phdr *elf32_newphdr (Elf *elf, size_t count)
+{ return new_phdrs (elf, count, ELFCLASS32); }
+PUBLIC Elf64_Phdr *elf64_newphdr (Elf *elf, size_t count)
+{ return new_phdrs (elf, count, ELFCLASS64); }
 
 PUBLIC void *
 gelf_newphdr (Elf *elf, size_t count)

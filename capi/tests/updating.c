@@ -2,7 +2,9 @@
    leaves of a file whose layout is the program's. In both classes and both orders. */
 #define _GNU_SOURCE
 #include <fcntl.h>
+#include <signal.h>
 #include <stddef.h>
+#include <sys/resource.h>
 #include <sys/stat.h>
 
 #include "archive.h"
@@ -198,6 +200,82 @@ write_longer (void)
   close (fd);
 }
 
+/* Has writes behind a place of a file fail, or none for RLIM_INFINITY. */
+static void
+limit_files (rlim_t most)
+{
+  struct rlimit limit;
+  CHECK (getrlimit (RLIMIT_FSIZE, &limit) == 0);
+  limit.rlim_cur = most < limit.rlim_max ? most : limit.rlim_max;
+  CHECK (setrlimit (RLIMIT_FSIZE, &limit) == 0);
+}
+
+/* A write that fails in the middle can be done again: the file is then as without a failure. */
+static void
+write_again (unsigned int flags)
+{
+  static uint8_t files[2][20000];
+  int64_t size = 0;
+  for (int fails = 0; fails < 2; fails++)
+    {
+      int fd = file_of (image.bytes, image.size);
+      CHECK (ftruncate (fd, sizeof files[0]) == 0);
+      Elf *elf = elf_begin (fd, ELF_C_RDWR, NULL);
+      CHECK (elf_flagelf (elf, ELF_C_SET, flags) == flags);
+      GElf_Ehdr ehdr;
+      GElf_Shdr shdr;
+      CHECK (gelf_getehdr (elf, &ehdr) == &ehdr);
+      ehdr.e_flags = 5;
+      CHECK (gelf_update_ehdr (elf, &ehdr) == 1);
+      Elf_Scn *scn = elf_getscn (elf, STRINGS);
+      CHECK (gelf_getshdr (scn, &shdr) == &shdr);
+      shdr.sh_offset = 16000;
+      if (flags == 0)
+        shdr.sh_addralign = 16384;
+      CHECK (gelf_update_shdr (scn, &shdr) == 1);
+      limit_files (fails ? 8192 : RLIM_INFINITY);
+      int64_t found = elf_update (elf, ELF_C_WRITE);
+      limit_files (RLIM_INFINITY);
+      if (fails)
+        {
+          CHECK (found == -1 && elf_errno () == WRITE_ERROR);
+          CHECK (strcmp (elf_strptr (elf, STRINGS, 1), "first") != 0);
+          found = elf_update (elf, ELF_C_WRITE);
+        }
+      CHECK (strcmp (elf_strptr (elf, STRINGS, 1), "first") == 0 && elf_end (elf) == 0);
+      CHECK (found > 16000 && (!fails || found == size));
+      size = found;
+      CHECK (pread (fd, files[fails], sizeof files[0], 0) == size);
+      close (fd);
+    }
+  CHECK (memcmp (files[0], files[1], size) == 0);
+}
+
+/* An image with sections of another size in its header is opened with those that there are, which
+   it has when it was changed. */
+static void
+write_mended (void)
+{
+  uint8_t now[sizeof image.bytes];
+  const size_t place = (image.is64 ? 58 : 46) + (image.msb ? 1 : 0);
+  image.bytes[place]++;
+  int fd;
+  GElf_Sym sym;
+  Elf *elf = open_copy (&fd, ELF_F_LAYOUT);
+  image.bytes[place]--;
+  Elf_Data *data = elf_getdata (elf_getscn (elf, SYMBOLS), NULL);
+  CHECK (gelf_getsym (data, 1, &sym) == &sym);
+  sym.st_size++;
+  CHECK (gelf_update_sym (data, 1, &sym) == 1);
+  CHECK (elf_update (elf, ELF_C_WRITE) == (int64_t) image.size && elf_end (elf) == 0);
+  CHECK (pread (fd, now, sizeof now, 0) == (ssize_t) image.size);
+  size_t differ = 0;
+  for (size_t i = 0; i < image.size; i++)
+    differ += now[i] != image.bytes[i];
+  CHECK (differ == 1 && now[place] == image.bytes[place]);
+  close (fd);
+}
+
 /* With ELF_F_PERMISSIVE a size may be one of no whole entries. */
 static void
 write_ragged (void)
@@ -258,6 +336,7 @@ int
 main (void)
 {
   elf_version (EV_CURRENT);
+  signal (SIGXFSZ, SIG_IGN);
   begin_without_header ();
   for (int kind = 0; kind < 4; kind++)
     {
@@ -266,6 +345,9 @@ main (void)
       refuse_group ();
       refuse_files ();
       write_longer ();
+      write_again (ELF_F_LAYOUT);
+      write_again (0);
+      write_mended ();
       write_ragged ();
       write_segments ();
     }

@@ -294,6 +294,25 @@ clone_in_place (struct image *m)
   close (fd);
 }
 
+/* What programs saw of an image that was written stays where a clone then writes the file. */
+static void
+clone_written (struct image *m)
+{
+  int fd = file_of (m->bytes, m->size);
+  Elf *elf = elf_begin (fd, ELF_C_RDWR, NULL);
+  size_t size;
+  uint8_t before[4096];
+  CHECK (elf_update (elf, ELF_C_WRITE) > 0);
+  char *raw = elf_rawfile (elf, &size);
+  CHECK (raw != NULL && size <= sizeof before);
+  memcpy (before, raw, size);
+  Elf *clone = elf_clone (elf, ELF_C_EMPTY);
+  CHECK (gelf_newehdr (clone, gelf_getclass (elf)) != NULL && elf_update (clone, ELF_C_WRITE) > 0);
+  CHECK (memcmp (raw, before, size) == 0);
+  CHECK (elf_end (clone) == 0 && elf_end (elf) == 0);
+  close (fd);
+}
+
 /* What programs saw of a file stays where the file gets shorter by some pages, whether a clone
    writes it or the descriptor itself. */
 static void
@@ -367,6 +386,7 @@ main (void)
       change_in_place (&m);
       grow_in_place (&m);
       clone_in_place (&m);
+      clone_written (&m);
       shorten_in_place (&m, 0);
       shorten_in_place (&m, 1);
       refuse (&m);

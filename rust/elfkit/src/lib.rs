@@ -176,6 +176,7 @@ pub use section::{Place, Section, Sections};
 pub use strings::Strings;
 pub use table::{Items, Table};
 pub use versions::{DefinitionNames, NeededVersions, VersionDefinitions, VersionNeeds};
+pub use write::{Change, Changes};
 
 /// The hash of a name in a section of type `SHT_HASH`.
 ///

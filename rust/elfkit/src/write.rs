@@ -1,11 +1,13 @@
 //! The image of what was edited, and how it is written.
 
+use std::fmt;
 use std::fs::File;
 use std::io::{ErrorKind, Read, Seek, SeekFrom, Write};
 use std::path::Path;
 
 use crate::editor::Editor;
 use crate::error::Result;
+use crate::raw::Writes;
 
 /// How much longer an image may be than what it is made of: a place in a header can tell more.
 const MOST_GAPS: u64 = 1 << 30;
@@ -61,6 +63,17 @@ impl Editor<'_> {
         Ok(image.len() as u64)
     }
 
+    /// The writes that make the bytes that were opened the image, in their order: the parts that
+    /// change, and the fill between parts. The image is not held. There are none where nothing was
+    /// edited.
+    ///
+    /// Rests on `elfkit_plan`, `elfkit_write` and `elfkit_write_bytes`. It refuses as
+    /// [`Editor::lay_out`].
+    pub fn changes(mut self) -> Result<Changes> {
+        self.hand_over()?;
+        Ok(Changes { writes: self.object.plan()?, next: 0 })
+    }
+
     /// Makes a file the image, and gives its length. Of the file it writes what differs alone, and
     /// then its length; so a file that was opened as the image gets the edits.
     ///
@@ -85,6 +98,41 @@ impl Editor<'_> {
         }
         file.set_len(at)?;
         Ok(at)
+    }
+}
+
+/// A write that an update makes: what is written has the length `size` from then on, cut or
+/// lengthened by zeros, and the bytes are put over it at the place `at`.
+#[derive(Clone, Debug, PartialEq, Eq)]
+pub struct Change {
+    /// The length.
+    pub size: u64,
+    /// The place of the bytes.
+    pub at: u64,
+    /// The bytes.
+    pub bytes: Vec<u8>,
+}
+
+/// The writes that an update makes, in their order: [`Editor::changes`] gives them.
+pub struct Changes {
+    writes: Writes,
+    next: u64,
+}
+
+impl Iterator for Changes {
+    type Item = Result<Change>;
+
+    /// The next write. It refuses [`Error::Memory`](crate::Error::Memory).
+    fn next(&mut self) -> Option<Result<Change>> {
+        let found = self.writes.get(self.next).transpose()?;
+        self.next = self.next.saturating_add(1);
+        Some(found.map(|(write, bytes)| Change { size: write.size, at: write.at, bytes }))
+    }
+}
+
+impl fmt::Debug for Changes {
+    fn fmt(&self, f: &mut fmt::Formatter<'_>) -> fmt::Result {
+        f.debug_struct("Changes").field("next", &self.next).finish_non_exhaustive()
     }
 }
 

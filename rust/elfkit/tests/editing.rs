@@ -4,8 +4,8 @@ mod common;
 
 use common::*;
 use elfkit::{
-    elf, Class, Dynamic, Editor, Error, Image, Kind, Order, Places, ProgramHeader, Rel, Rela,
-    SectionHeader, Symbol,
+    elf, Changes, Class, Dynamic, Editor, Error, Image, Kind, Order, Places, ProgramHeader, Rel,
+    Rela, SectionHeader, Symbol,
 };
 use std::fs;
 
@@ -255,6 +255,44 @@ fn an_image_is_written_to_a_file_and_in_place() {
         assert_eq!(shorter.len() as u64, length);
         assert!(Image::parse(&shorter).unwrap().section(NOTES).unwrap().data().unwrap().is_empty());
         assert!(matches!(editor.write_in_place("no such file"), Err(Error::Io(_))));
+    }
+}
+
+/// What the writes of an update make of bytes, and how many bytes they have.
+fn changed(bytes: &[u8], changes: Changes) -> (Vec<u8>, usize) {
+    let (mut made, mut count) = (bytes.to_vec(), 0);
+    for change in changes {
+        let change = change.unwrap();
+        made.resize(change.size.try_into().unwrap(), 0);
+        let at = usize::try_from(change.at).unwrap();
+        made[at..at + change.bytes.len()].copy_from_slice(&change.bytes);
+        count += change.bytes.len();
+    }
+    (made, count)
+}
+
+#[test]
+fn the_changes_make_the_image() {
+    for form in FORMS {
+        let bytes = make_image(form);
+        assert_eq!(Editor::parse(&bytes, Places::Kept).unwrap().changes().unwrap().count(), 0);
+        let mut editor = Editor::parse(&bytes, Places::Kept).unwrap();
+        let mut symbol = editor.item::<Symbol>(SYMBOLS, 1).unwrap();
+        symbol.value = 0x1234;
+        editor.set_symbol(SYMBOLS, 1, &symbol).unwrap();
+        let image = editor.image().unwrap();
+        let table = editor.section_header(SYMBOLS).unwrap().size;
+        let (made, count) = changed(&bytes, editor.changes().unwrap());
+        assert!(made == image && count as u64 == table);
+        // longer, and shorter again
+        let mut editor = Editor::parse(&bytes, Places::Laid).unwrap();
+        editor.set_data(NOTES, &[7; 70_000]).unwrap();
+        let longer = editor.image().unwrap();
+        assert_eq!(changed(&bytes, editor.changes().unwrap()).0, longer);
+        let mut editor = Editor::parse(&longer, Places::Laid).unwrap();
+        editor.set_data(NOTES, b"").unwrap();
+        let shorter = editor.image().unwrap();
+        assert_eq!(changed(&longer, editor.changes().unwrap()).0, shorter);
     }
 }
 

@@ -38,6 +38,22 @@ pub(crate) struct ArchiveHandle {
     pub ptr: *mut u8,
 }
 
+/// The writes of an update; a null pointer where there are none.
+#[repr(C)]
+#[derive(Clone, Copy)]
+pub(crate) struct WritesHandle {
+    pub ptr: *mut u8,
+}
+
+/// A write: the length of the file from then on, and where bytes are put over it.
+#[repr(C)]
+#[derive(Clone, Copy, Debug, Default)]
+pub(crate) struct WriteRecord {
+    pub size: u64,
+    pub at: u64,
+    pub len: u64,
+}
+
 /// A range of bytes.
 #[repr(C)]
 #[derive(Clone, Copy, Debug, Default, PartialEq, Eq)]
@@ -165,6 +181,10 @@ extern "C" {
 
     pub fn elfkit_size(h: *mut Handle, out: *mut u64) -> u32;
     pub fn elfkit_update(h: *mut Handle, out: *mut u8, length: usize) -> u32;
+    pub fn elfkit_plan(h: *mut Handle, w: *mut WritesHandle, back: *mut Lent) -> u32;
+    pub fn elfkit_write(w: *mut WritesHandle, i: u64, out: *mut WriteRecord) -> u32;
+    pub fn elfkit_write_bytes(w: *mut WritesHandle, i: u64, out: *mut u8, length: usize);
+    pub fn elfkit_writes_end(w: *mut WritesHandle);
 
     pub fn elfkit_ar_begin(image: Lent, h: *mut ArchiveHandle, back: *mut Lent) -> u32;
     pub fn elfkit_ar_end(h: *mut ArchiveHandle, back: *mut Lent);

@@ -7,8 +7,9 @@
 //!   as long as its length says, and used by nobody else until the call is back. Here each one
 //!   comes from a Rust reference or from the `Cell` of a handle.
 //! - *of a handle*: it is all zeros, or what a call of the core left there, and one thread uses it
-//!   at a time. [`Object`] and [`Walk`] own theirs: they are made full by the call that begins,
-//!   no other call leaves them empty, and `drop` ends them. They are not `Sync`.
+//!   at a time. [`Object`], [`Walk`] and [`Writes`] own theirs: they are made full by the call that
+//!   begins, no other call leaves them empty but `Object::plan`, which takes its own, and `drop`
+//!   ends them. They are not `Sync`.
 //! - *of lent bytes*: they are there, fewer than 2^63 at a place that is not null, and nobody
 //!   writes them until they are back. A slice of the lifetime `'data` is that for as long as
 //!   the object lives; the same bytes may be lent several times.
@@ -20,6 +21,7 @@ mod exports;
 mod held;
 
 use std::cell::Cell;
+use std::mem::ManuallyDrop;
 use std::ptr::null_mut;
 
 use crate::error::{Error, Result};
@@ -28,7 +30,7 @@ use crate::records::{
     Verneed,
 };
 use exports::*;
-pub(crate) use exports::{ArSymRecord, Extent, MemberRecord, NoteRecord};
+pub(crate) use exports::{ArSymRecord, Extent, MemberRecord, NoteRecord, WriteRecord};
 pub(crate) use held::HeldImage;
 
 // A length is a number of eight bytes for the core, which is built for machines of 64 bits.
@@ -258,6 +260,16 @@ impl<'data> Object<'data> {
         told(unsafe { elfkit_update(self.handle.as_ptr(), at, len) })?;
         Ok(image)
     }
+
+    /// Closes it, and gives the writes that make the bytes the image.
+    pub fn plan(self) -> Result<Writes> {
+        let object = ManuallyDrop::new(self);
+        let (mut handle, mut back) = (WritesHandle { ptr: null_mut() }, Lent::NONE);
+        // SAFETY: the handle holds an object and is this thread's, and is not used again: the call
+        // leaves it empty, and `drop` is not run. `handle` is empty; it and `back` are locals.
+        told(unsafe { elfkit_plan(object.handle.as_ptr(), &mut handle, &mut back) })?;
+        Ok(Writes { handle: Cell::new(handle) })
+    }
 }
 
 impl Drop for Object<'_> {
@@ -266,6 +278,39 @@ impl Drop for Object<'_> {
         // SAFETY: the handle holds an object and is this thread's, and is not used again; the
         // lent bytes are still there. `back` is a local of that type.
         unsafe { elfkit_end(self.handle.as_ptr(), &mut back) };
+    }
+}
+
+/// The writes of an update. Their handle is full from `Object::plan` to `drop`.
+pub(crate) struct Writes {
+    handle: Cell<WritesHandle>,
+}
+
+// SAFETY: as of `Object`.
+unsafe impl Send for Writes {}
+
+impl Writes {
+    /// The write at an index, and its bytes; nothing where there is none.
+    pub fn get(&self, i: u64) -> Result<Option<(WriteRecord, Vec<u8>)>> {
+        let mut write = WriteRecord::default();
+        // SAFETY: the handle holds writes and is this thread's; `write` is a local.
+        match told(unsafe { elfkit_write(self.handle.as_ptr(), i, &mut write) }) {
+            Err(Error::NoEntry) => return Ok(None),
+            done => done?,
+        }
+        let mut bytes = zeros(write.len)?;
+        let (at, len) = (bytes.as_mut_ptr(), bytes.len());
+        // SAFETY: the handle holds writes and is this thread's. There is a write with that index,
+        // and the buffer has as many bytes.
+        unsafe { elfkit_write_bytes(self.handle.as_ptr(), i, at, len) };
+        Ok(Some((write, bytes)))
+    }
+}
+
+impl Drop for Writes {
+    fn drop(&mut self) {
+        // SAFETY: the handle holds writes and is this thread's, and is not used again.
+        unsafe { elfkit_writes_end(self.handle.as_ptr()) };
     }
 }
 
