@@ -5,7 +5,7 @@ use Rattle.elf_types.specs.Answers.{or_refused, ◌>>=◌}
 use Rattle.elf_outside.specs.Names.{Map}
 use Rattle.rebuild_changes.specs.declared.options.NamedFile.{NamedFile}
 use Rattle.tool_output.specs.Made.{Complaint, complaint}
-use Rattle.strip_tool.specs.elfkit_outcomes.Files.{bytes_named, bytes_of_each}
+use Rattle.rebuild_files.specs.elfkit_outcomes.Files.{bytes_named, bytes_of_each}
 use Rattle.copy_tool.specs.Files.{length_held, lengths_named, with_file, onto}
 
 abbrev pub NamedPairs : Type 0

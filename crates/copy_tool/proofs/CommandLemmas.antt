@@ -5,8 +5,8 @@ use Rattle.elf_outside.specs.Names.{Map}
 use Rattle.elf_outside.specs.declared.sinks.Sink.{Ghosts as SinkGhosts}
 use Rattle.elf_outside.specs.declared.file_sets.Files.{Ghosts as FilesGhosts}
 use Rattle.rebuild_model.specs.Copied.{Changes}
-use Rattle.strip_tool.specs.elfkit_outcomes.Files.{bytes_of_each, object_named}
-use Rattle.strip_tool.specs.elfkit_outcomes.Copy.{changes_with, copy_done, copy_outcome}
+use Rattle.rebuild_files.specs.elfkit_outcomes.Files.{bytes_of_each, object_named}
+use Rattle.rebuild_files.specs.elfkit_outcomes.Copy.{changes_with, copy_done, copy_outcome}
 use Rattle.rebuild_changes.specs.declared.options.CopyChanges.{CopyChanges}
 use Rattle.tool_output.specs.declared.stops.Stop.{Stop}
 use Rattle.tool_output.specs.declared.outputs.Outputs.{Outputs}
@@ -19,8 +19,8 @@ use Rattle.tool_output.specs.Made.{Done, Complaint, of_file, written_outcome}
 use Rattle.tool_output.proofs.StepLemmas.{writes_went, stops_as}
 use Rattle.tool_output.proofs.FileLemmas.{told_after}
 use Rattle.tool_output.proofs.MadeLemmas.{does_then, report_done, stopped_done}
-use Rattle.strip_tool.specs.tool_objects.Images.{file_object}
-use Rattle.strip_tool.specs.tool_files.ElfImages.Writes.{named_done}
+use Rattle.rebuild_files.specs.tool_objects.Images.{file_object}
+use Rattle.rebuild_files.specs.tool_files.ElfImages.Writes.{named_done}
 use Rattle.copy_tool.specs.Files.{ReadsFiles}
 use Rattle.copy_tool.specs.Words.{word_changes, words_due}
 use Rattle.copy_tool.specs.Writes.{copied_done}

@@ -9,12 +9,12 @@ use Rattle.elf_outside.specs.declared.sources.Source.{Ghosts as SourceGhosts}
 use Rattle.elf_outside.specs.declared.sinks.Sink.{Ghosts as SinkGhosts}
 use Rattle.elf_outside.specs.declared.file_sets.Files.{Ghosts as FilesGhosts}
 use Rattle.elf_object.specs.Object.{Object}
-use Rattle.strip_tool.specs.elf_descriptor.State.{State}
+use Rattle.rebuild_files.specs.elf_descriptor.State.{State}
 use Rattle.rebuild_model.specs.Arranged.{Rebuilt}
 use Rattle.rebuild_model.specs.Copied.{Changes, CopyFault as StatedFault, or_strip, copied}
 use Rattle.rebuild_model.specs.Copied.CopyFault.{NoSection, NoBytes, Allocated, Fixed, NoTable, Strip}
 use Rattle.rebuild_model.specs.Files.{file_of}
-use Rattle.strip_tool.specs.elfkit_outcomes.Copy.{copy_text}
+use Rattle.rebuild_files.specs.elfkit_outcomes.Copy.{copy_text}
 use Rattle.tool_output.specs.declared.stops.Stop.{Stop}
 use Rattle.tool_output.specs.declared.stops.Stop.TheVariants as stops
 use Rattle.tool_output.specs.declared.outputs.Outputs.{Outputs}
@@ -26,9 +26,9 @@ use Rattle.tool_output.specs.Made.{Done, Complaint, made_file_alone, complaint, 
 use Rattle.tool_output.proofs.StepLemmas.{keeps_none}
 use Rattle.tool_output.proofs.FileLemmas.{totals_none}
 use Rattle.tool_output.proofs.OutcomeLemmas.{nothing_done}
-use Rattle.strip_tool.specs.tool_objects.Steps.{SourceRose}
-use Rattle.strip_tool.specs.tool_files.ElfImages.Writes.{WritesFile}
-use Rattle.strip_tool.proofs.tool_files.elf_images.WriteLemmas.{DoesHere, outputs_leave, said_done}
+use Rattle.rebuild_files.specs.tool_objects.Steps.{SourceRose}
+use Rattle.rebuild_files.specs.tool_files.ElfImages.Writes.{WritesFile}
+use Rattle.rebuild_files.proofs.tool_files.elf_images.WriteLemmas.{DoesHere, outputs_leave, said_done}
 use Rattle.rebuild_changes.specs.declared.faults.CopyFault.{CopyFault}
 use Rattle.rebuild_changes.specs.declared.faults.CopyFault.TheVariants as faults
 use Rattle.rebuild_changes.specs.Stated.{stated_copy_fault, outer_result}
@@ -62,7 +62,8 @@ done_as_file file out (Err f) = refl
 done_as_file file out (Ok m) = by (file_of m.object)
   where
     by : (q : Result (List ℕ) ElfError)
-        → (of_file file q >>= λ bytes. Ok (made_file_alone out bytes)) ≡ file_done file out (or_strip q)
+        → (of_file file q >>= λ bytes. Ok (made_file_alone out bytes)) ≡ file_done file out
+        (or_strip q)
     by (Ok bytes) = refl
     by (Err e) = refl
 

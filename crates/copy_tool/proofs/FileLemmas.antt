@@ -21,7 +21,7 @@ use Rattle.tool_output.specs.Stops.{value_or_stop}
 use Rattle.tool_output.specs.Files.{Totals, LeavesFiles}
 use Rattle.tool_output.specs.Made.{Complaint}
 use Rattle.tool_output.proofs.StepLemmas.{keeps_none, went_none, writes_went, writes_nothing}
-use Rattle.strip_tool.specs.elfkit_outcomes.Files.{bytes_named}
+use Rattle.rebuild_files.specs.elfkit_outcomes.Files.{bytes_named}
 use Rattle.copy_tool.specs.Files.{ReadsWhole, length_held}
 use Rattle.copy_tool.proofs.ByteLemmas.{bytes_are_there, bytes_are_absent}
 use Rattle.copy_tool.proofs.ReadLemmas.{SaysRead, says_value}

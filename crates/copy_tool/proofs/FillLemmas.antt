@@ -8,8 +8,8 @@ use Rattle.rebuild_changes.specs.declared.options.CopyChanges.{CopyChanges}
 use Rattle.rebuild_changes.specs.declared.options.NamedFile.{NamedFile}
 use Rattle.tool_output.specs.declared.stops.Stop.{Stop}
 use Rattle.tool_output.specs.declared.outputs.Outputs.{Outputs}
-use Rattle.strip_tool.specs.elfkit_outcomes.Copy.{changes_with}
-use Rattle.strip_tool.specs.elfkit_outcomes.Files.{bytes_of_each}
+use Rattle.rebuild_files.specs.elfkit_outcomes.Copy.{changes_with}
+use Rattle.rebuild_files.specs.elfkit_outcomes.Files.{bytes_of_each}
 use Rattle.copy_tool.specs.Words.{added_changes}
 use Rattle.copy_tool.specs.Files.{ReadsFiles, length_held, lengths_named, with_file, onto}
 use Rattle.copy_tool.proofs.ByteLemmas.{NamedPairs, ReadPairs, SameMap, onto_none, each_same, with_file_same, read_upto, due_upto, upto_all, upto_left, due_left, upto_more, due_more}

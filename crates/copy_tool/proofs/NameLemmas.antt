@@ -10,7 +10,7 @@ use Rattle.rebuild_changes.specs.Names.{is_section_name}
 use Rattle.rebuild_changes.specs.Names.{HasNames}
 use Rattle.tool_output.specs.declared.stops.Stop.{Stop}
 use Rattle.tool_output.specs.declared.stops.Stop.TheVariants.{Memory}
-use Rattle.strip_tool.specs.elfkit_outcomes.Copy.{changes_with}
+use Rattle.rebuild_files.specs.elfkit_outcomes.Copy.{changes_with}
 use Rattle.rebuild_changes.specs.declared.changes.NameBits.{NameBits}
 use Rattle.rebuild_changes.specs.declared.changes.NameBytes.{NameBytes}
 use Rattle.rebuild_changes.specs.Stated.{bytes_pair, bits_pair, stated_changes}

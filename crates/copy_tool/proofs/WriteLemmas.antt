@@ -6,21 +6,21 @@ use Rattle.elf_outside.specs.declared.sources.Source.{Ghosts as SourceGhosts}
 use Rattle.elf_outside.specs.declared.sinks.Sink.{Ghosts as SinkGhosts}
 use Rattle.elf_outside.specs.declared.file_sets.Files.{Ghosts as FilesGhosts}
 use Rattle.elf_object.specs.Object.{Object}
-use Rattle.strip_tool.specs.elf_descriptor.State.{State}
+use Rattle.rebuild_files.specs.elf_descriptor.State.{State}
 use Rattle.rebuild_model.specs.Arranged.{Rebuilt}
 use Rattle.rebuild_model.specs.Copied.{Changes, CopyFault, copied}
 use Rattle.rebuild_model.specs.Files.{file_of}
-use Rattle.strip_tool.specs.elfkit_outcomes.Copy.{copy_text}
-use Rattle.strip_tool.specs.elfkit_outcomes.Strip.{or_complaint}
+use Rattle.rebuild_files.specs.elfkit_outcomes.Copy.{copy_text}
+use Rattle.rebuild_files.specs.elfkit_outcomes.Strip.{or_complaint}
 use Rattle.tool_output.specs.declared.stops.Stop.{Stop}
 use Rattle.tool_output.specs.declared.outputs.Outputs.{Outputs}
 use Rattle.tool_output.specs.Outcomes.{write_of}
 use Rattle.tool_output.specs.Made.{Complaint, made_file_alone, complaint, of_file, written_outcome}
-use Rattle.strip_tool.specs.tool_files.ElfImages.Writes.{written_done, image_done, WritesFile}
-use Rattle.strip_tool.proofs.tool_files.elf_images.NamedLemmas.{unwritten, unwritten_image}
+use Rattle.rebuild_files.specs.tool_files.ElfImages.Writes.{written_done, image_done, WritesFile}
+use Rattle.rebuild_files.proofs.tool_files.elf_images.NamedLemmas.{unwritten, unwritten_image}
 use Rattle.rebuild_copy.specs.rebuild_plan.declared.plans.RangedPlan.{RangedPlan}
-use Rattle.strip_tool.specs.Copies.{WritesImage, IsOverSource, plan_text}
-use Rattle.strip_tool.proofs.PlanLemmas.{plan_written}
+use Rattle.rebuild_files.specs.Writing.{WritesImage, IsOverSource, plan_text}
+use Rattle.rebuild_files.proofs.PlanLemmas.{plan_written}
 use Rattle.rebuild_copy.specs.Plans.{file_copied, StreamsCopied}
 use Rattle.copy_tool.specs.Writes.{copied_done, file_done}
 use Rattle.copy_tool.proofs.FaultLemmas.{done_as_file}

@@ -14,7 +14,7 @@ use Rattle.tool_output.specs.declared.outputs.Outputs.{Outputs}
 use Rattle.tool_output.specs.Steps.{Performs}
 use Rattle.tool_output.specs.Files.{OnlyReads, LeavesFiles}
 use Rattle.tool_output.specs.Made.{Complaint, complaint_report}
-use Rattle.strip_tool.specs.elfkit_outcomes.Files.{bytes_named}
+use Rattle.rebuild_files.specs.elfkit_outcomes.Files.{bytes_named}
 use Rattle.rebuild_changes.specs.declared.changes.NameBytes.{NameBytes}
 use Rattle.rebuild_changes.specs.Stated.{bytes_pair}
 

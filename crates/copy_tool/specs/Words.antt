@@ -6,8 +6,8 @@ use Rattle.rebuild_changes.specs.declared.options.CopyChanges.{CopyChanges}
 use Rattle.tool_output.specs.Made.{Complaint}
 use Rattle.rebuild_changes.specs.declared.changes.NameBits.{NameBits}
 use Rattle.rebuild_model.specs.Copied.{Changes}
-use Rattle.strip_tool.specs.elfkit_outcomes.Files.{bytes_of_each}
-use Rattle.strip_tool.specs.elfkit_outcomes.Copy.{changes_with}
+use Rattle.rebuild_files.specs.elfkit_outcomes.Files.{bytes_of_each}
+use Rattle.rebuild_files.specs.elfkit_outcomes.Copy.{changes_with}
 use Rattle.copy_tool.specs.Files.{lengths_named}
 
 abbrev pub named_flags : List ℕ → ℕ → NameBits

@@ -5,9 +5,9 @@ use Rattle.elf_object.specs.Object.{Object}
 use Rattle.rebuild_model.specs.Arranged.{Rebuilt}
 use Rattle.rebuild_model.specs.Copied.{Changes, CopyFault, copied}
 use Rattle.tool_output.specs.Made.{Done, Complaint, made_file_alone, complaint}
-use Rattle.strip_tool.specs.elfkit_outcomes.Strip.{or_complaint}
-use Rattle.strip_tool.specs.elfkit_outcomes.Copy.{copy_text}
-use Rattle.strip_tool.specs.tool_files.ElfImages.Writes.{written_done}
+use Rattle.rebuild_files.specs.elfkit_outcomes.Strip.{or_complaint}
+use Rattle.rebuild_files.specs.elfkit_outcomes.Copy.{copy_text}
+use Rattle.rebuild_files.specs.tool_files.ElfImages.Writes.{written_done}
 
 -- what a command of copy is to do: its changes, and the file that it makes
 pub record Copying : Type 0 where

@@ -3,7 +3,7 @@
 ghost use Rattle.std.specs.Prelude.{◌≡◌, map, IfOk, IfErr};
 ghost use Rattle.elf_types.specs.declared.errors.ElfError.TheVariants.{Memory};
 ghost use Rattle.rebuild_changes.specs.Names.{HasNames};
-ghost use Rattle.strip_tool.specs.elfkit_outcomes.Copy.{changes_with};
+ghost use Rattle.rebuild_files.specs.elfkit_outcomes.Copy.{changes_with};
 ghost use Rattle.rebuild_changes.specs.Stated.{bits_pair, stated_changes, HasPlainNames};
 ghost use Rattle.copy_tool.specs.Files.{named_bytes, pairs, byte_names, file_names};
 ghost use Rattle.copy_tool.specs.Words.{named_flags};

@@ -7,8 +7,8 @@ ghost use Rattle.tool_output.specs.Files.{LeavesFiles};
 ghost use Rattle.tool_output.specs.Made.{written_outcome};
 ghost use Rattle.tool_output.specs.Outcomes.{Does};
 ghost use Rattle.tool_output.specs.Statuses.{refused_status};
-ghost use Rattle.strip_tool.specs.elfkit_outcomes.Copy.{copy_outcome};
-ghost use Rattle.strip_tool.specs.tool_files.ElfImages.Writes.{named_done};
+ghost use Rattle.rebuild_files.specs.elfkit_outcomes.Copy.{copy_outcome};
+ghost use Rattle.rebuild_files.specs.tool_files.ElfImages.Writes.{named_done};
 ghost use Rattle.rebuild_changes.specs.Stated.{stated_changes, HasPlainNames};
 ghost use Rattle.copy_tool.specs.Writes.{copying_of, copied_done};
 
@@ -16,9 +16,9 @@ use crate::reading::read_changes;
 use crate::writing::write_copied;
 use elf_outside::{Files, Sink, Source};
 use rebuild_changes::{ChangeLists, CopyChanges};
+use rebuild_files::prelude::{Elf, ImageCommand, edit_named};
 use std::alloc::Global;
 use std::marker::Model;
-use strip_tool::prelude::{Elf, ImageCommand, edit_named};
 use tool_output::{Outputs, Stop};
 
 /// The changes that are made, and the name of the file that is made. No name in them that a section

@@ -2,7 +2,7 @@
 
 ghost use Rattle.std.specs.Prelude.{◌≡◌, ◌++◌, ◌∷◌, true, [], codes, Some, None, if◌then◌else◌, IfOk, IfErr, IfSome, OnOk};
 ghost use Rattle.elf_types.specs.declared.errors.ElfError.TheVariants.{Memory};
-ghost use Rattle.strip_tool.specs.elfkit_outcomes.Files.{bytes_named, bytes_of_each};
+ghost use Rattle.rebuild_files.specs.elfkit_outcomes.Files.{bytes_named, bytes_of_each};
 ghost use Rattle.tool_output.specs.Reports.{refusal_report};
 ghost use Rattle.tool_output.specs.Steps.{Performs, LeavesOutputs};
 ghost use Rattle.copy_tool.specs.Files.{ReadsWhole, ReadsFiles, length_held, lengths_named, named_bytes, pairs, byte_names, file_names, with_file, onto, list_if_all_found, seen_in};

@@ -2,7 +2,7 @@
 
 ghost use Rattle.std.specs.Prelude.{◌≡◌, Some, Ok, IfOk, IfErr, IfSome, OnOk};
 ghost use Rattle.rebuild_changes.specs.Names.{HasNames};
-ghost use Rattle.strip_tool.specs.elfkit_outcomes.Copy.{changes_with};
+ghost use Rattle.rebuild_files.specs.elfkit_outcomes.Copy.{changes_with};
 ghost use Rattle.rebuild_changes.specs.Stated.{stated_changes, HasPlainNames};
 ghost use Rattle.copy_tool.specs.Files.{ReadsFiles, lengths_named, pairs, byte_names, file_names, seen_in};
 ghost use Rattle.copy_tool.specs.Words.{added_changes, word_changes, words_due};

@@ -2,9 +2,9 @@
 
 ghost use Rattle.std.specs.Prelude.{◌≡◌, codes, false};
 ghost use Rattle.elf_object.specs.Object.{is_dirty};
-ghost use Rattle.strip_tool.specs.Copies.{IsOverSource};
+ghost use Rattle.rebuild_files.specs.Writing.{IsOverSource};
 ghost use Rattle.tool_output.specs.Made.{written_outcome};
-ghost use Rattle.strip_tool.specs.tool_files.ElfImages.Writes.{WritesFile};
+ghost use Rattle.rebuild_files.specs.tool_files.ElfImages.Writes.{WritesFile};
 ghost use Rattle.rebuild_changes.specs.Stated.{stated_changes, HasPlainNames};
 ghost use Rattle.copy_tool.specs.Writes.{copied_done};
 
@@ -12,9 +12,9 @@ use crate::faults::refuse_fault;
 use elf_outside::{Files, Sink, Source};
 use rebuild_changes::ChangeLists;
 use rebuild_copy::plan_copied;
+use rebuild_files::prelude::Elf;
+use rebuild_files::write_plan;
 use std::alloc::Global;
-use strip_tool::prelude::Elf;
-use strip_tool::write_plan;
 use tool_output::{Outputs, Stop};
 
 /// Writes the image with changes of an object in which nothing is dirty, and whose base is its

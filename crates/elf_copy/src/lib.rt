@@ -1,7 +1,8 @@
 //! An object with changes: sections are removed, get other bytes, another name or other flags, and
 //! are added (objcopy(1) of the development tools).
 //!
-//! The command `copy` is in copy_tool; rebuild_copy plans its file range by range.
+//! The object of the plan that rebuild_copy makes; the command `copy` of copy_tool writes the file
+//! of the same plan, range by range.
 //!
 //! - `copy_of`: the object with changes, over no file, or a `CopyFault` that says why there is
 //!   none.
@@ -9,8 +10,8 @@
 //!   `flags`, `add`.
 //! - `NameBytes`: a section's name, and bytes or another name for it; `NameBits` has flags.
 //! - `Rebuilt`: what is made: the object, and its tail.
-//! - `plan_copied`: of rebuild_copy: the plan of the file with the changes, without the object in
-//!   memory.
+//! - `arrange_copied` and `plan_copied`: of rebuild_copy: the plan of the object with the changes,
+//!   and that of its file, without the object in memory.
 //!
 //! From `test_rebuild`:
 //!
@@ -29,7 +30,6 @@
 //! ```
 #![tactic(auto)]
 
-mod changing;
 mod copying;
 
 pub use copying::copy_of;

@@ -1,10 +1,13 @@
 -- Contents to which a section is added.
-use Rattle.std.proofs.Common.{◌≡◌, ◌+◌, ◌<◌, ℕ, Bool, true, false, List, [], ◌∷◌, length, Some, None, Result, Ok, Err, if◌then◌else◌, refl, sym, ap, ◌∙◌, subst, arith}
+use Rattle.std.proofs.Common.{◌≡◌, ◌+◌, ◌<◌, ℕ, Bool, true, false, List, [], ◌∷◌, length, Some, None, Result, Ok, Err, if◌then◌else◌, refl, sym, ap, ◌∙◌, subst, inl, inr, arith}
+use Rattle.std.proofs.lemmas.Bool.{cases_eq}
 use Rattle.std.specs.Prelude.{OnOk, nat_le}
 use Rattle.elf_types.specs.declared.constants.TheConstants.{MAX_SECTIONS, SHT_STRTAB}
 use Rattle.elf_types.specs.declared.records.Ehdr.{Ehdr}
 use Rattle.elf_types.specs.declared.errors.ElfError.{ElfError}
 use Rattle.elf_types.specs.declared.errors.ElfError.TheVariants.{TooMany}
+use Rattle.elf_types.specs.declared.records.Kind.TheVariants as kinds
+use Rattle.elf_types.specs.declared.records.Shdr.{Shdr}
 use Rattle.elf_types.specs.Answers.{refused_if}
 use Rattle.elf_xlate.specs.declared.content.Items.TheVariants as items
 use Rattle.elf_xlate.specs.Translation.{encoded}
@@ -12,19 +15,22 @@ use Rattle.elf_ident.specs.Front.{zero_shdr}
 use Rattle.elf_object.specs.Object.{Object, Section, header_of, occupies_file}
 use Rattle.elf_object.specs.Calls.{newscn_refusal}
 use Rattle.elf_object.specs.Steps.{with_null_section, own_piece}
+use Rattle.rebuild_model.specs.Rebuilt.{made_section}
 use Rattle.rebuild_model.specs.Copied.{added_header, with_added}
 use Rattle.law_rebuild.proofs.strip.MadeSections.{bytes_encoded}
 use Rattle.rebuild_plan.specs.declared.arranged.Arranged.{Arranged}
+use Rattle.rebuild_plan.specs.Reading.{ranges_due}
 use Rattle.rebuild_plan.proofs.rebuild_image.FrontLaws.{held_bytes_stay}
 use Rattle.rebuild_changes.specs.declared.faults.CopyFault.{CopyFault}
 use Rattle.rebuild_changes.specs.declared.faults.CopyFault.TheVariants as faults
 use Rattle.rebuild_copy.specs.Rows.{IsGatheredSection, Origin, IsContents}
 use Rattle.rebuild_copy.specs.Edits.{IsPushedLast, HasFirstSection}
-use Rattle.rebuild_copy.specs.Steps.{Turns, AltersContents, always_holds}
+use Rattle.rebuild_copy.specs.Steps.{ReadsNoMore, Turns, AltersContents, always_holds}
+use Rattle.rebuild_copy.proofs.DueLaws.{due_pushed, due_same}
 use Rattle.rebuild_copy.proofs.RowLaws.{shnum_is}
 use Rattle.rebuild_copy.proofs.PushLaws.{contents_pushed}
 use Rattle.rebuild_copy.proofs.EditLaws.{fit_bytes}
-use Rattle.rebuild_copy.proofs.TurnLaws.{turns_not}
+use Rattle.rebuild_copy.proofs.TurnLaws.{turns_not, less_then}
 use Rattle.rebuild_copy.proofs.GrownLaws.{last_section, filled, filled_long, filled_last, filled_before, filled_frame, filled_header, index_same, added_ok, added_many, filled_object}
 use Rattle.rebuild_copy.proofs.NullLaws.{null_some, first_left, added_behind}
 
@@ -47,15 +53,22 @@ module _ (o : Origin) (p : Object) (x : Arranged) (is : IsContents o p x)
   encoded_is : encoded p.header.class p.header.order (items.Bytes change.1) ≡ change.1
   encoded_is = bytes_encoded p.header.class p.header.order change.1 pushed.are
 
-  row : IsGatheredSection p.header.class p.header.order o.object.base y.held (last_section p change.1)
-      added_header pushed.range.len pushed.range
+  last_made : last_section p change.1 ≡ made_section added_header (items.Bytes change.1)
+  unfolding made_section
+  last_made =
+      ap (λ (b : Bool). record (made_section added_header (items.Bytes change.1)) {
+        pieces = if b then own_piece (items.Bytes change.1) 1 ∷ [] else [];
+      }) (sym added_filled)
+
+  row : IsGatheredSection p.header.class p.header.order (o.bases.each (length p.sections)) y.held
+      (last_section p change.1) added_header pushed.range.len pushed.range kinds.Bytes
   row = record {
     header = refl;
-    inside = refl;
     own = items.Bytes change.1;
+    section = last_made;
+    kind_is = refl;
+    are = pushed.are;
     fits = fit_bytes p.header.class change.1;
-    pieces = sym (ap (λ (b : Bool). if b then own_piece (items.Bytes change.1) 1 ∷ [] else [])
-        added_filled);
     strings = λ typed. refl;
     size_is = pushed.holds.len
         ∙ ap (λ (l : List ℕ). length l) (sym encoded_is)
@@ -64,7 +77,8 @@ module _ (o : Origin) (p : Object) (x : Arranged) (is : IsContents o p x)
         added_filled);
     small = let long = pushed.holds.len in let small = pushed.small in omega (arith, long, small);
     range_is = λ full later.
-        held_bytes_stay change.1 x.held y.held later o.object.base pushed.range pushed.holds
+        held_bytes_stay change.1 x.held y.held later (o.bases.each (length p.sections))
+        pushed.range pushed.holds
         ∙ sym encoded_is;
   }
 
@@ -78,16 +92,17 @@ module _ (o : Origin) (p : Object) (x : Arranged) (is : IsContents o p x)
 
   pub added_left : newscn_refusal p ≡ None → IsContents o made y
   added_left passed =
-      contents_pushed o p made x y is.listed added_header pushed.range.len pushed.range change.1
+      contents_pushed o p made x y is.listed added_header pushed.range.len pushed.range
+      kinds.Bytes change.1
       (filled_frame p change.1) (filled_long p change.1)
       (λ t below. filled_before p change.1 t below) pushed.headers pushed.sizes pushed.ranges
-      pushed.holds.all
-      (subst (λ (c : Section). IsGatheredSection p.header.class p.header.order o.object.base y.held c
-      added_header pushed.range.len pushed.range) (sym (filled_last p change.1)) row)
+      pushed.kinds_are pushed.holds.all
+      (subst (λ (c : Section). IsGatheredSection p.header.class p.header.order
+      (o.bases.each (length p.sections)) y.held c added_header pushed.range.len pushed.range
+      kinds.Bytes) (sym (filled_last p change.1)) row)
       is.table untyped (ap (λ (h : Ehdr). h.shstrndx) pushed.header)
       (filled_object p change some is.listed.object passed) pushed.tail header_now
-      (ap (λ (c : Section). occupies_file c.header) (filled_before p change.1 0 some)
-      ∙ is.listed.first)
+      (filled_before p change.1 0 some ∙ is.listed.first some)
 
   pub added_turned : newscn_refusal p ≡ None
       → Turns {T = Unit {0}} o p (with_added p change) (Ok tt) y
@@ -120,12 +135,27 @@ room_is o p x b is at =
 
 -- ---- Contents to which a section is added
 
+-- no more is read of the base
+pushed_less : (count : ℕ) (h : Shdr) (bytes : List ℕ) (x y : Arranged)
+    → IsPushedLast count h bytes x y → ReadsNoMore x y
+pushed_less count h bytes x y pushed =
+    let same = ap ranges_due pushed.ranges in
+    let less = due_pushed x.ranges pushed.range pushed.holds.held in
+    omega (arith, same, less)
+
+first_less : (x y : Arranged) → HasFirstSection x y → ReadsNoMore x y
+first_less x y first = elim (cases_eq x.listed.header.shnum 0) [
+  | inl none ↦ pushed_less 1 zero_shdr [] x y (first.none none)
+  | inr some ↦ due_same y.ranges x.ranges (ap (λ (z : Arranged). z.ranges) (first.some some))
+]
+
 pub last_full : (change : List ℕ × List ℕ) (x y : Arranged)
     → nat_le MAX_SECTIONS x.listed.header.shnum ≡ true
     → AltersContents {T = Unit {0}} (λ p. 0 < length p.sections) (λ p. with_added p change)
     (Err (faults.Strip TooMany)) x y
 last_full change x y full = record {
   unread = tt;
+  less = tt;
   turns = λ o p is some. added_not o p change y some (room_is o p x true is full);
 }
 
@@ -136,6 +166,7 @@ pub last_alters : (change : List ℕ × List ℕ) (x y : Arranged) (count : ℕ)
     (Ok tt) x y
 last_alters change x y count room at pushed = record {
   unread = tt;
+  less = pushed_less count added_header change.1 x y pushed;
   turns = λ o p is some.
       added_turned o p x is change some count y pushed at (room_is o p x false is room);
 }
@@ -146,6 +177,7 @@ pub first_then : (change : List ℕ × List ℕ) (x y z : Arranged) (r : Result 
     → AltersContents always_holds (λ p. with_added p change) r x z
 first_then change x y z r first step = record {
   unread = step.unread;
+  less = less_then r x y z (first_less x y first) step.less;
   turns = λ o p is holds.
       added_behind o p change r z
       (step.turns o (with_null_section p) (first_left o p x is y first) (null_some p));

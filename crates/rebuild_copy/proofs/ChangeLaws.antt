@@ -13,27 +13,30 @@ use Rattle.rebuild_edits.proofs.edits.FaultLaws.{unread_on}
 use Rattle.rebuild_edits.specs.declared.naming.Naming.{Naming}
 use Rattle.rebuild_edits.specs.Stores.{IsNaming, HasNameTable, named_by}
 use Rattle.rebuild_edits.specs.Texts.{all_texts}
-use Rattle.elf_copy.specs.Copies.{added_named, flagged_named, after_names, after_updates}
-use Rattle.elf_copy.proofs.NamingLaws.{naming_planned, usable_stays, name_table_there, table_stays}
-use Rattle.elf_copy.proofs.ChangeLaws.{renamed_then, renamed_end, changed_then, changed_end}
+use Rattle.rebuild_copy.specs.Changing.{added_named, flagged_named, after_names, after_updates}
+use Rattle.rebuild_copy.proofs.StatedNames.{naming_planned, usable_stays, name_table_there, table_stays}
+use Rattle.rebuild_copy.proofs.StatedChanges.{renamed_then, renamed_end, changed_then, changed_end}
 use Rattle.rebuild_copy.specs.Rows.{Origin, IsContents}
 use Rattle.rebuild_copy.specs.Steps.{known, AltersContents, always_holds, IsUsableIf}
-use Rattle.rebuild_copy.proofs.TurnLaws.{alters_then, alters_end}
+use Rattle.rebuild_copy.proofs.TurnLaws.{less_then, alters_then, alters_end}
 
 module _ (ch : ChangeLists) (naming : Naming) (x y z : Arranged) where
   -- sections are added, and then the names are stored
   pub added_then : (r : Result (Unit {0}) CopyFault)
-      → AltersContents {T = Unit {0}} always_holds (λ p. in_turn with_added p (stated_changes ch).add)
+      → AltersContents {T = Unit {0}} always_holds (λ p. in_turn with_added p
+      (stated_changes ch).add)
       (Ok tt) x y
       → AltersContents (HasNameTable naming) (named_by naming) r y z
       → AltersContents (HasNameTable naming) (added_named (stated_changes ch) naming) r x z
   added_then r first second =
-      alters_then (HasNameTable naming) (λ (p : Object). in_turn with_added p (stated_changes ch).add)
+      alters_then (HasNameTable naming) (λ (p : Object). in_turn with_added p
+      (stated_changes ch).add)
       (named_by naming) (tt {0}) r x y z (λ p q keeps has. table_stays naming p q keeps has)
       first second
 
   pub added_end : (f : CopyFault)
-      → AltersContents {T = Unit {0}} always_holds (λ p. in_turn with_added p (stated_changes ch).add)
+      → AltersContents {T = Unit {0}} always_holds (λ p. in_turn with_added p
+      (stated_changes ch).add)
       (Err f) x y
       → AltersContents {T = Unit {0}} (HasNameTable naming) (added_named (stated_changes ch) naming)
       (Err f) x z
@@ -59,7 +62,8 @@ module _ (ch : ChangeLists) (naming : Naming) (x y z : Arranged) where
 
     pub flagged_end : (f : CopyFault)
         → AltersContents {T = Unit {0}} always_holds flags_turned (Err f) x y
-        → AltersContents {T = Unit {0}} (HasNameTable naming) (λ p. flagged_named (stated_changes ch)
+        → AltersContents {T = Unit {0}} (HasNameTable naming) (λ p. flagged_named
+        (stated_changes ch)
         (names_now p marks ch.rename) naming p) (Err f) x z
     flagged_end f first =
         alters_end (Unit {0}) (Unit {0}) (HasNameTable naming) flags_turned
@@ -76,6 +80,7 @@ pub planned_then : (ch : ChangeLists) (renewed : Bool) (marks : List ℕ) (namin
     (λ p. after_names (stated_changes ch) renewed p (names_now p marks ch.rename)) r x y
 planned_then ch renewed marks naming x y r is step = record {
   unread = step.unread;
+  less = step.less;
   turns = λ o p contents usable.
       let one = step.turns o p contents
       (name_table_there (changes_names (stated_changes ch)) renewed (all_texts p marks ch) naming p
@@ -101,6 +106,7 @@ module _ (ch : ChangeLists) (renewed : Bool) (x y : Arranged) where
       → AltersContents (IsUsableIf renewed) (after_updates (stated_changes ch) renewed) r x y
   named_then marks r renames step = record {
     unread = step.unread;
+    less = step.less;
     turns = λ o p is usable.
         let one = step.turns o p is usable in
         record {
@@ -116,6 +122,7 @@ module _ (ch : ChangeLists) (renewed : Bool) (x y : Arranged) where
       (after_updates (stated_changes ch) renewed) (Err f) x y
   named_end f renames unread = record {
     unread = unread_on (List ℕ) (Unit {0}) f unread;
+    less = tt;
     turns = λ o p is usable. record {
       left = p;
       alters = renamed_end ch renewed (known p) (known p) f (renames o p is);
@@ -132,6 +139,7 @@ module _ (ch : ChangeLists) (renewed : Bool) (x y z : Arranged) where
       → AltersContents (IsUsableIf renewed) (with_changes (stated_changes ch) renewed) r x z
   updated_then r first second = record {
     unread = second.unread;
+    less = less_then r x y z first.less second.less;
     turns = λ o p is usable.
         let one = first.turns o p is tt in
         let two = second.turns o one.left one.contents
@@ -151,6 +159,7 @@ module _ (ch : ChangeLists) (renewed : Bool) (x y z : Arranged) where
       (with_changes (stated_changes ch) renewed) (Err f) x z
   updated_end f first = record {
     unread = first.unread;
+    less = tt;
     turns = λ o p is usable.
         let one = first.turns o p is tt in
         record {

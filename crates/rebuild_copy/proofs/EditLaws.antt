@@ -5,6 +5,7 @@ use Rattle.std.proofs.lemmas.Bool.{ne_eqb, lt-leb}
 use Rattle.std.proofs.lemmas.List.{append-nil}
 use Rattle.elf_types.specs.declared.constants.TheConstants.{SHT_NULL, SHT_NOBITS}
 use Rattle.elf_types.specs.declared.records.Class.{Class}
+use Rattle.elf_types.specs.declared.records.Kind.TheVariants as kinds
 use Rattle.elf_types.specs.declared.records.Part.TheVariants as part
 use Rattle.elf_types.specs.declared.records.Shdr.{Shdr}
 use Rattle.elf_types.specs.declared.errors.ElfError.{ElfError}
@@ -22,6 +23,7 @@ use Rattle.elf_object.specs.Steps.{with_section, with_piece_at, with_own, with_s
 use Rattle.elf_object.specs.Valid.{IsObject}
 use Rattle.law_object.proofs.KeepLaws.{replace_keeps, update_shdr_keeps}
 use Rattle.elf_object.specs.Sections.{header_at, edited}
+use Rattle.rebuild_model.specs.Rebuilt.{made_section}
 use Rattle.rebuild_model.specs.Copied.{or_strip}
 use Rattle.law_rebuild.proofs.strip.CopyLaws.{edited_keeps}
 use Rattle.law_rebuild.proofs.strip.MadeSections.{bytes_encoded}
@@ -29,12 +31,12 @@ use Rattle.rebuild_edits.proofs.rebuild_making.RefusedLaws.{alone, passes_first}
 use Rattle.rebuild_plan.specs.declared.arranged.Arranged.{Arranged}
 use Rattle.rebuild_plan.proofs.rebuild_image.FrontLaws.{held_bytes_stay}
 use Rattle.rebuild_changes.specs.declared.faults.CopyFault.TheVariants as faults
-use Rattle.rebuild_edits.specs.Edits.Steps.{IsPresentSection}
+use Rattle.rebuild_edits.specs.Edits.Steps.{IsPresentSection, Alters}
 use Rattle.rebuild_edits.proofs.edits.EditLaws.{edit_done, keeps_own, keeps_header}
-use Rattle.rebuild_copy.specs.Rows.{empty_held_range, gathered_header, size_in, gathered_range, IsGatheredSection, Origin, IsContents}
+use Rattle.rebuild_copy.specs.Rows.{empty_held_range, gathered_header, size_in, gathered_range, gathered_kind, IsGatheredSection, RowOf, Origin, IsListedAs, IsContents}
 use Rattle.rebuild_copy.specs.Edits.{HasOtherBytes, HasOtherHeader}
 use Rattle.rebuild_copy.specs.Steps.{known, Turns}
-use Rattle.rebuild_copy.proofs.RowLaws.{set_same, contents_put}
+use Rattle.rebuild_copy.proofs.RowLaws.{row_pieces, set_same, listed_put, table_put, contents_put}
 use Rattle.rebuild_copy.proofs.TurnLaws.{turns_not}
 
 -- ---- A section that is there
@@ -96,15 +98,24 @@ module _ (p : Object) (s : ℕ) (there : IsPresentSection p s) (was : Items)
       ap (λ (r : Option ElfError).
       answered r (tt {0}) >>= λ u. Ok (with_own p s 0 (items.Bytes bytes))) replace_passes
 
-module _ (o : Origin) (p : Object) (x : Arranged) (is : IsContents o p x) (s : ℕ)
+module _ (o : Origin) (p : Object) (x : Arranged) (is : IsListedAs o p x) (s : ℕ)
     (there : IsPresentSection p s) (filled : occupies_file (header_at p s) ≡ true) where
-  abbrev old_row : IsGatheredSection p.header.class p.header.order o.object.base x.held (section_at p s)
-      (gathered_header x s) (size_in x s) (gathered_range x s)
-  old_row = is.listed.rows s there.1
+  abbrev pub old_row : RowOf p (o.bases.each s) x s
+  old_row = is.rows s there.1
 
   pub pieces_one : (section_at p s).pieces ≡ own_piece old_row.own 1 ∷ []
-  pieces_one = old_row.pieces ∙ ap (λ (b : Bool). if b then own_piece old_row.own 1 ∷ [] else [])
-      filled
+  pieces_one =
+      row_pieces old_row ∙ ap (λ (b : Bool). if b then own_piece old_row.own 1 ∷ [] else []) filled
+
+  -- the section with other items is made with these
+  made_again : (own : Items) → record (section_at p s) { pieces = own_piece own 1 ∷ [] }
+      ≡ made_section (header_at p s) own
+  unfolding made_section
+  made_again own =
+      ap (λ (d : Section). record d { pieces = own_piece own 1 ∷ [] }) old_row.section
+      ∙ ap (λ (b : Bool). record (made_section (header_at p s) own) {
+        pieces = if b then own_piece own 1 ∷ [] else [];
+      }) (sym filled)
 
   module _ (bytes : List ℕ) (y : Arranged) (has : HasOtherBytes s bytes x y) where
     abbrev own : Items
@@ -115,21 +126,22 @@ module _ (o : Origin) (p : Object) (x : Arranged) (is : IsContents o p x) (s : �
 
     left_object : IsObject left
     left_object =
-        edited_keeps (calls.replace s 0 own) p left (replace_keeps s 0 own) is.listed.object
+        edited_keeps (calls.replace s 0 own) p left (replace_keeps s 0 own) is.object
         (replaced p s there old_row.own pieces_one bytes)
 
     encoded_is : encoded p.header.class p.header.order own ≡ bytes
     encoded_is = bytes_encoded p.header.class p.header.order bytes has.are
 
-    new_row : IsGatheredSection p.header.class p.header.order o.object.base y.held
+    new_row : IsGatheredSection p.header.class p.header.order (o.bases.each s) y.held
         (with_bytes_at p s there old_row.own pieces_one bytes) (gathered_header x s) has.range.len
-        has.range
+        has.range kinds.Bytes
     new_row = record {
       header = old_row.header;
-      inside = old_row.inside;
       own = own;
+      section = made_again own;
+      kind_is = refl;
+      are = has.are;
       fits = fit_bytes p.header.class bytes;
-      pieces = sym (ap (λ (b : Bool). if b then own_piece own 1 ∷ [] else []) filled);
       strings = λ typed. refl;
       size_is = has.holds.len
           ∙ ap (λ (l : List ℕ). length l) (sym encoded_is)
@@ -137,31 +149,52 @@ module _ (o : Origin) (p : Object) (x : Arranged) (is : IsContents o p x) (s : �
           if b then length (encoded p.header.class p.header.order own) else 0) filled);
       small = let long = has.holds.len in let small = has.small in omega (arith, long, small);
       range_is = λ full later.
-          held_bytes_stay bytes x.held y.held later o.object.base has.range has.holds
+          held_bytes_stay bytes x.held y.held later (o.bases.each s) has.range has.holds
           ∙ sym encoded_is;
     }
 
-    pub bytes_left : IsContents o left y
-    bytes_left =
-        subst (λ (q : Object). IsContents o q y)
-        (sym (own_is p s there old_row.own pieces_one bytes))
-        (contents_put o p x is s there (with_bytes_at p s there old_row.own pieces_one bytes) y
-        (gathered_header x s) has.range.len has.range bytes has.header
-        (has.headers ∙ sym (set_same x.listed.headers s _)) has.sizes has.ranges refl
-        (λ held. has.holds.held)
-        (subst IsObject (own_is p s there old_row.own pieces_one bytes) left_object) has.tail
-        has.holds.all new_row)
+    abbrev with_section_now : Object
+    with_section_now =
+        with_section p s (with_bytes_at p s there old_row.own pieces_one bytes)
 
-    pub bytes_turned : Turns {T = Unit {0}} o p (or_strip (edited (calls.replace s 0 own) p))
-        (Ok tt) y
-    bytes_turned = record {
-      left = left;
-      alters = edit_done (calls.replace s 0 own) (known p) (known left) tt tt
-          (ap (λ (r : Option ElfError). answered r (tt {0}))
-          (replace_passes p s there old_row.own pieces_one bytes)) refl refl
-          (keeps_own p s 0 own);
-      contents = bytes_left;
-    }
+    section_now : left ≡ with_section_now
+    section_now = own_is p s there old_row.own pieces_one bytes
+
+    -- its headers and ranges, whether the table of the names is held or not
+    pub bytes_listed : IsListedAs o left y
+    bytes_listed =
+        subst (λ (q : Object). IsListedAs o q y) (sym section_now)
+        (listed_put o p x is s there (with_bytes_at p s there old_row.own pieces_one bytes) y
+        (gathered_header x s) has.range.len has.range kinds.Bytes bytes has.header
+        (has.headers ∙ sym (set_same x.listed.headers s _)) has.sizes has.ranges has.kinds_are
+        (subst IsObject section_now left_object) has.tail has.holds.all new_row)
+
+    bytes_alters : Alters {T = Unit {0}} (or_strip (edited (calls.replace s 0 own) p)) (Ok tt)
+        (known p) (known left)
+    bytes_alters =
+        edit_done (calls.replace s 0 own) (known p) (known left) tt tt
+        (ap (λ (r : Option ElfError). answered r (tt {0}))
+        (replace_passes p s there old_row.own pieces_one bytes)) refl refl (keeps_own p s 0 own)
+
+module _ (o : Origin) (p : Object) (x : Arranged) (is : IsContents o p x) (s : ℕ)
+    (there : IsPresentSection p s) (filled : occupies_file (header_at p s) ≡ true)
+    (bytes : List ℕ) (y : Arranged) (has : HasOtherBytes s bytes x y) where
+  pub bytes_left : IsContents o (with_own p s 0 (items.Bytes bytes)) y
+  bytes_left = record {
+    listed = bytes_listed o p x is.listed s there filled bytes y has;
+    table = table_put o p x is.listed s there (section_at p s) y (gathered_header x s)
+        has.range.len has.range kinds.Bytes bytes has.header
+        (has.headers ∙ sym (set_same x.listed.headers s _)) has.sizes has.ranges has.kinds_are
+        is.table refl (λ held. has.holds.held);
+  }
+
+  pub bytes_turned : Turns {T = Unit {0}} o p
+      (or_strip (edited (calls.replace s 0 (items.Bytes bytes)) p)) (Ok tt) y
+  bytes_turned = record {
+    left = with_own p s 0 (items.Bytes bytes);
+    alters = bytes_alters o p x is.listed s there filled bytes y has;
+    contents = bytes_left;
+  }
 
 -- ---- Another header
 
@@ -193,22 +226,29 @@ module _ (o : Origin) (p : Object) (x : Arranged) (is : IsContents o p x) (s : �
   abbrev headed : Section
   headed = record (section_at p s) { header = h; marked = true }
 
-  old : IsGatheredSection p.header.class p.header.order o.object.base x.held (section_at p s)
-      (gathered_header x s) (size_in x s) (gathered_range x s)
+  old : RowOf p (o.bases.each s) x s
   old = is.listed.rows s there.1
 
   same_kind_of : occupies_file (header_at p s) ≡ occupies_file h
   same_kind_of = ap (λ (t : ℕ). not (t == SHT_NULL || t == SHT_NOBITS)) (sym stype)
 
-  row : IsGatheredSection p.header.class p.header.order o.object.base x.held headed h (size_in x s)
-      (gathered_range x s)
+  headed_made : headed ≡ made_section h old.own
+  unfolding made_section
+  headed_made =
+      ap (λ (c : Section). record c { header = h; marked = true }) old.section
+      ∙ ap (λ (b : Bool). record (made_section h old.own) {
+        pieces = if b then own_piece old.own 1 ∷ [] else [];
+      }) same_kind_of
+
+  row : IsGatheredSection p.header.class p.header.order (o.bases.each s) x.held headed h
+      (size_in x s) (gathered_range x s) (gathered_kind x s)
   row = record {
     header = refl;
-    inside = old.inside;
     own = old.own;
+    section = headed_made;
+    kind_is = old.kind_is;
+    are = old.are;
     fits = old.fits;
-    pieces = old.pieces
-        ∙ ap (λ (b : Bool). if b then own_piece old.own 1 ∷ [] else []) same_kind_of;
     strings = λ typed. old.strings (sym stype ∙ typed);
     size_is = old.size_is
         ∙ ap (λ (b : Bool).
@@ -225,19 +265,21 @@ module _ (o : Origin) (p : Object) (x : Arranged) (is : IsContents o p x) (s : �
   held_same : y.held ≡ x.held
   held_same = ap (λ (z : Arranged). z.held) has
 
-  row_now : IsGatheredSection p.header.class p.header.order o.object.base y.held headed h (size_in x s)
-      (gathered_range x s)
+  row_now : IsGatheredSection p.header.class p.header.order (o.bases.each s) y.held headed h
+      (size_in x s) (gathered_range x s) (gathered_kind x s)
   row_now =
-      subst (λ (l : List ℕ). IsGatheredSection p.header.class p.header.order o.object.base l headed h
-      (size_in x s) (gathered_range x s)) (sym held_same) row
+      subst (λ (l : List ℕ). IsGatheredSection p.header.class p.header.order (o.bases.each s) l
+      headed h (size_in x s) (gathered_range x s) (gathered_kind x s)) (sym held_same) row
 
   pub header_left : IsContents o (with_shdr p s h) y
   header_left =
       subst (λ (q : Object). IsContents o q y) (sym (shdr_is p s h))
-      (contents_put o p x is s there headed y h (size_in x s) (gathered_range x s) []
+      (contents_put o p x is s there headed y h (size_in x s) (gathered_range x s)
+      (gathered_kind x s) []
       (ap (λ (z : Arranged). z.listed.header) has) (ap (λ (z : Arranged). z.listed.headers) has)
       (ap (λ (z : Arranged). z.listed.sizes) has ∙ sym (set_same x.listed.sizes s 0))
       (ap (λ (z : Arranged). z.ranges) has ∙ sym (set_same x.ranges s empty_held_range))
+      (ap (λ (z : Arranged). z.kinds) has ∙ sym (set_same x.kinds s kinds.Empty))
       (stype ∙ ap (λ (k : Shdr). k.stype) (sym old.header)) (λ held. held)
       (subst IsObject (shdr_is p s h) headed_object) (ap (λ (z : Arranged). z.tail) has)
       (held_same ∙ sym (append-nil x.held)) row_now)

@@ -8,24 +8,22 @@ use Rattle.elf_xlate.specs.declared.content.Items.{Items}
 use Rattle.elf_xlate.specs.Translation.{encoded, first_unfit}
 use Rattle.elf_ident.specs.Front.{zero_shdr}
 use Rattle.elf_object.specs.Object.{Object, Section, Piece, section_at, absent_section, occupies_file, has_file_bytes}
+use Rattle.elf_object.specs.Image.{kept_base}
 use Rattle.elf_object.specs.Joined.{file_bytes}
 use Rattle.elf_object.specs.Steps.{own_piece}
 use Rattle.law_object.proofs.ImageLaws.{joined-none}
 use Rattle.law_object.proofs.StandLaws.{file_bytes_when}
 use Rattle.elf_object.specs.Sections.{header_at}
-use Rattle.rebuild_model.specs.Arranged.{placed_from}
-use Rattle.law_rebuild.proofs.strip.ArrangedLaws.{placed_from_is}
-use Rattle.law_rebuild.proofs.strip.WritableLaws.{OwnFits, HasOwnPieces, HasContent, is_writable, placed_content}
+use Rattle.law_rebuild.proofs.strip.WritableLaws.{OwnFits, HasOwnPieces, HasContent, is_writable}
 use Rattle.law_rebuild.proofs.copy.Reopened.{piece_bytes_are}
-use Rattle.rebuild_edits.specs.rebuild_making.Placing.{arranged_refusal}
 use Rattle.rebuild_plan.specs.rebuild_image.declared.ranges.ranges.ByteRange.{ByteRange}
 use Rattle.rebuild_plan.specs.rebuild_image.Ranges.Ranges.{range_bytes, pieces_at}
 use Rattle.rebuild_plan.specs.declared.arranged.Arranged.{Arranged}
 use Rattle.rebuild_plan.specs.Contents.{kept_size}
-use Rattle.rebuild_plan.specs.Plans.{arranged_object, HasRanges, MayBeWritten}
+use Rattle.rebuild_plan.specs.Plans.{HasRanges, IsRangedBy, MayBeWritten}
 use Rattle.rebuild_plan.specs.rebuild_image.Listed.Listing.{IsHeaderListing}
-use Rattle.rebuild_copy.specs.Arranging.{IsGatheredBy}
-use Rattle.rebuild_copy.specs.Rows.{empty_held_range, size_in, Origin, IsListedAs}
+use Rattle.rebuild_copy.specs.Rows.{empty_held_range, size_in, Origin, origin, IsListedAs}
+use Rattle.rebuild_copy.proofs.RowLaws.{row_inside, row_pieces, first_empty}
 use Rattle.rebuild_copy.proofs.NameLaws.{one_aligned}
 
 -- ---- How many bytes a section has in the file
@@ -69,16 +67,16 @@ file_size p s own pieces first = by_kind s (occupies_file (header_at p s)) refl 
         then length (encoded p.header.class p.header.order own) else 0) at)
 
 module _ (o : Origin) (p : Object) (x : Arranged) (is : IsListedAs o p x) where
-  empty_first : (s : ℕ) → s ≡ 0 → occupies_file (header_at p s) ≡ false
-  empty_first s at = ap (λ (k : ℕ). occupies_file (header_at p k)) at ∙ is.first
+  pub zero_first : (s : ℕ) → s ≡ 0 → occupies_file (header_at p s) ≡ false
+  zero_first s at = ap (λ (k : ℕ). occupies_file (header_at p k)) at ∙ first_empty o p x is
 
   size_is : (s : ℕ) → s < length p.sections → size_in x s ≡ length (file_bytes p s)
   size_is s there =
       let row = is.rows s there in
-      row.size_is ∙ sym (file_size p s row.own row.pieces (empty_first s))
+      row.size_is ∙ sym (file_size p s row.own (row_pieces row) (zero_first s))
 
-  listed : IsHeaderListing p x.listed
-  listed = record {
+  pub listing_is : IsHeaderListing p x.listed
+  listing_is = record {
     header = is.header;
     count = is.count;
     sized = is.counted.sized ∙ is.count;
@@ -91,44 +89,15 @@ module _ (o : Origin) (p : Object) (x : Arranged) (is : IsListedAs o p x) where
         omega (arith, same, small);
   }
 
-  ranges : HasRanges p o.object.base x.held x.ranges
-  ranges = record {
-    each = λ s first there filled later.
-        let row = is.rows s there in
-        let count = is.count in
-        let ranged = is.counted.ranged in
-        let below : s < length x.ranges = omega (arith, there, count, ranged) in
-        let one : List ℕ → List (ℕ × List ℕ) = λ l. (1, l) ∷ [] in
-        ap (pieces_at (x.held ++ later) o.object.base)
-        (slice_get-get_or x.ranges s empty_held_range below)
-        ∙ ap (λ (r : ByteRange). one (range_bytes (x.held ++ later) o.object.base r))
-        (sym (unwrap_or-slice_get x.ranges s empty_held_range))
-        ∙ ap one (row.range_is filled later)
-        ∙ sym (one_aligned p.header.class p.header.order (section_at p s) row.own
-        (row.pieces ∙ ap (λ (b : Bool). if b then own_piece row.own 1 ∷ [] else []) filled));
-  }
-
-  pub gathered_is : IsGatheredBy o.object p x
-  gathered_is = record {
-    listed = listed;
-    layout = is.frame.layout ∙ ap (λ (t : Option ℕ). is_some t) (sym is.tail_is);
-    long = is.frame.long ∙ ap (λ (t : Option ℕ). unwrap_or t 0) (sym is.tail_is);
-    pad = is.frame.pad;
-    segments = is.frame.phdrs;
-    fill = is.frame.fill;
-    below = ap (λ (t : Option ℕ). take (unwrap_or t 0) o.object.base) is.tail_is ∙ is.frame.base;
-    ranges = ranges;
-  }
-
   -- ---- It may be written
 
   owned_at : (s : ℕ) → s < length p.sections → HasOwnPieces p.header.class (section_at p s)
   owned_at s there =
       let row = is.rows s there in
       record {
-        inside = row.inside;
-        pieces = subst (λ (l : List Piece). All (OwnFits p.header.class) l) (sym row.pieces)
-            (by_kind row.own row.fits (occupies_file (header_at p s)));
+        inside = row_inside row;
+        pieces = subst (λ (l : List Piece). All (OwnFits p.header.class) l)
+            (sym (row_pieces row)) (by_kind row.own row.fits (occupies_file (header_at p s)));
       }
     where
       by_kind : (own : Items) → first_unfit p.header.class own ≡ None → (b : Bool)
@@ -145,21 +114,62 @@ module _ (o : Origin) (p : Object) (x : Arranged) (is : IsListedAs o p x) where
   content : HasContent p
   content = record {
     few = is.frame.few;
-    first = is.first;
+    first = first_empty o p x is;
     segments = is.frame.segments;
     sections = all_owned;
     marked = is.frame.marked;
   }
 
-  pub may_be_written : (tail : Option ℕ) → arranged_refusal p tail ≡ None
-      → MayBeWritten (arranged_object p tail)
-  may_be_written None passed =
+  pub may_be_written : MayBeWritten p
+  may_be_written =
       let writable = is_writable p content in
       record { object = is.object; dirty = writable.dirty; content = writable.content }
-  may_be_written (Some n) passed =
-      let writable = is_writable (placed_from p n) (placed_content p n content) in
+
+-- ---- Over a source that tells its bytes
+
+kept_is : (q : Object) (tail : Option ℕ) → q.layout ≡ is_some tail
+    → length q.base ≡ unwrap_or tail 0 → kept_base q ≡ unwrap_or tail 0
+unfolding kept_base
+kept_is q None layout long = ap (λ (b : Bool). if b then length q.base else 0) layout
+kept_is q (Some n) layout long = ap (λ (b : Bool). if b then length q.base else 0) layout ∙ long
+
+module _ (o : Object) (tail : Option ℕ) (q : Object) (x : Arranged)
+    (is : IsListedAs (origin o tail) q x) where
+  ranges : HasRanges q o.base x.held x.ranges
+  ranges = record {
+    each = λ s first there filled later.
+        let row = is.rows s there in
+        let count = is.count in
+        let ranged = is.counted.ranged in
+        let below : s < length x.ranges = omega (arith, there, count, ranged) in
+        let one : List ℕ → List (ℕ × List ℕ) = λ l. (1, l) ∷ [] in
+        ap (pieces_at (x.held ++ later) o.base)
+        (slice_get-get_or x.ranges s empty_held_range below)
+        ∙ ap (λ (r : ByteRange). one (range_bytes (x.held ++ later) o.base r))
+        (sym (unwrap_or-slice_get x.ranges s empty_held_range))
+        ∙ ap one (row.range_is filled later)
+        ∙ sym (one_aligned q.header.class q.header.order (section_at q s) row.own
+        (row_pieces row ∙ ap (λ (b : Bool). if b then own_piece row.own 1 ∷ [] else []) filled));
+  }
+
+  pub ranged_is : IsRangedBy o.phdrs o.base q x
+  ranged_is =
+      let may = may_be_written (origin o tail) q x is in
+      let layout = is.frame.layout ∙ ap (λ (t : Option ℕ). is_some t) (sym is.tail_is) in
+      let long = is.frame.long ∙ ap (λ (t : Option ℕ). unwrap_or t 0) (sym is.tail_is) in
       record {
-        object = placed_from_is p n is.object passed;
-        dirty = writable.dirty;
-        content = writable.content;
+        laid = record {
+          object = may.object;
+          dirty = may.dirty;
+          content = may.content;
+          listed = listing_is (origin o tail) q x is;
+          layout_is = layout;
+          base_is = long;
+        };
+        pad = is.frame.pad;
+        segments = is.frame.phdrs;
+        fill = is.frame.fill;
+        below = ap (λ (t : Option ℕ). take (unwrap_or t 0) o.base) is.tail_is ∙ is.frame.base;
+        kept = kept_is q x.tail layout long;
+        ranges = ranges;
       }

@@ -30,6 +30,7 @@ pub memory_alters : {T : Type 0} (Holds : Object → Type 0)
     → AltersContents {T = T} Holds answer (Err (faults.Strip e)) x y
 memory_alters {T} Holds answer e x y want = record {
   unread = memory_fault_unread T e want;
+  less = tt;
   turns = λ o p is holds.
       turns_not o p T (answer p) (faults.Strip e) y (memory_fault_unread T e want)
       (memory_given e want (answer p));
@@ -49,6 +50,7 @@ module _ (index : NameIndex) (marks : List ℕ) (renames : List NameBytes) (name
       → AltersContents Named (λ p. section_named (names_now p marks renames) name >>= next p) r x y
   named_alters s r found step = record {
     unread = step.unread;
+    less = step.less;
     turns = λ o p is holds.
         let at = found (names_now p marks renames) holds in
         found_then o p (λ (n : ℕ). n) (section_named (names_now p marks renames) name) (next p) s
@@ -60,6 +62,7 @@ module _ (index : NameIndex) (marks : List ℕ) (renames : List NameBytes) (name
       (λ p. section_named (names_now p marks renames) name >>= next p) (Err f) x y
   unnamed_alters f found unread = record {
     unread = unread_on ℕ (Unit {0}) f unread;
+    less = tt;
     turns = λ o p is holds.
         found_not o p {T = ℕ} (Unit {0}) (λ (n : ℕ). n)
         (section_named (names_now p marks renames) name) (next p) f y
@@ -77,11 +80,13 @@ flag_sought sought xs i x below is all =
 module _ (s : ℕ) (fault : Object → Option StatedFault)
     (next : Object → ℕ → Result Object StatedFault) (x y : Arranged) where
   pub fault_alters : (f : CopyFault)
-      → ((o : Origin) (p : Object) → IsContents o p x → IsPresentSection p s → IsFaultIf (fault p) (Some f))
+      → ((o : Origin) (p : Object) → IsContents o p x → IsPresentSection p s
+      → IsFaultIf (fault p) (Some f))
       → IsFaultUnread (Some f)
       → AltersAt {T = Unit {0}} s always_holds (λ p. answered (fault p) s >>= next p) (Err f) x y
   fault_alters f came unread = record {
     unread = unread;
+    less = tt;
     turns = λ o p is there. by o p (fault p) (came o p is there.0);
   }
     where
@@ -93,11 +98,13 @@ module _ (s : ℕ) (fault : Object → Option StatedFault)
           (fault_given d f is (answered (Some d) s >>= next p) refl)
 
   pub unfaulted_alters : (Holds : Object → Type 0) (r : Result (Unit {0}) CopyFault)
-      → ((o : Origin) (p : Object) → IsContents o p x → IsPresentSection p s → IsFaultIf (fault p) None)
+      → ((o : Origin) (p : Object) → IsContents o p x → IsPresentSection p s
+      → IsFaultIf (fault p) None)
       → ((p : Object) → fault p ≡ None → Holds p) → AltersAt s Holds (λ p. next p s) r x y
       → AltersAt s always_holds (λ p. answered (fault p) s >>= next p) r x y
   unfaulted_alters Holds r came holds step = record {
     unread = step.unread;
+    less = step.less;
     turns = λ o p is there.
         let none = fault_none (fault p) (came o p is there.0) in
         turns_as o p (next p s) (answered (fault p) s >>= next p) r y

@@ -123,6 +123,13 @@ module _ (p : Object) (bytes : List ℕ) where
     phdrs = refl;
     fill = refl;
     marked = refl;
+    version = refl;
+    ehsize = refl;
+    phentsize = refl;
+    shentsize = refl;
+    front = refl;
+    unmarked = refl;
+    segments_marked = refl;
   }
 
   filled_counted : header_of filled ≡ record (header_of p) { shnum = length filled.sections }

@@ -1,36 +1,47 @@
 -- The table of the names, held.
-use Rattle.std.proofs.Common.{◌≡◌, ◌≢◌, ◌==◌, ◌&&◌, ◌<◌, ◌≤◌, ℕ, Bool, true, false, not, List, [], ◌++◌, length, take, drop, Result, Ok, Err, if◌then◌else◌, refl, sym, ap, ◌∙◌, arith}
+use Rattle.std.proofs.Common.{◌≡◌, ◌≢◌, ◌⊎◌, inl, inr, ◌==◌, ◌&&◌, ◌+◌, ◌^◌, ◌<◌, ◌≤◌, ℕ, Bool, true, false, not, List, [], ◌++◌, length, take, drop, get_or, Result, Ok, Err, if◌then◌else◌, refl, sym, ap, ◌∙◌, subst, arith}
 use Rattle.std.specs.Prelude.{IsTrue, slice_get, slice_set, unwrap_or, nat_le, nat_lt}
-use Rattle.std.proofs.lemmas.Bool.{and_parts, ltb-true, ltb-false, leb-true, eq-eqb, ne_eqb}
-use Rattle.std.proofs.lemmas.List.{get_or_past}
+use Rattle.std.proofs.lemmas.Bool.{cases_lt, and_parts, not-true, eqb-true, eqb-false, ltb-true, ltb-false, leb-true, eq-eqb, ne_eqb}
+use Rattle.std.proofs.lemmas.List.{get_or_past, length-take-le, length-drop}
+use Rattle.std.proofs.lemmas.List.Sums.{get_or-le-sum_by}
 use Rattle.std.proofs.lemmas.Option.{unwrap_or-slice_get}
 use Rattle.elf_types.specs.Answers.{refused_if, answered}
 use Rattle.elf_types.specs.declared.constants.TheConstants.{SHT_STRTAB}
 use Rattle.elf_types.specs.declared.records.Ehdr.{Ehdr}
+use Rattle.elf_types.specs.declared.records.Kind.TheVariants as kinds
 use Rattle.elf_types.specs.declared.records.Shdr.{Shdr}
 use Rattle.elf_types.specs.declared.errors.ElfError.{ElfError}
-use Rattle.elf_types.specs.declared.errors.ElfError.TheVariants.{NoSection}
-use Rattle.elf_outside.specs.Asks.{Asks}
+use Rattle.elf_types.specs.declared.errors.ElfError.TheVariants.{NoSection, Memory, Read}
+use Rattle.elf_types.specs.Lists.{AreBytes}
+use Rattle.elf_xlate.specs.declared.content.Items.TheVariants as items
+use Rattle.elf_xlate.specs.Translation.{encoded}
+use Rattle.elf_outside.specs.Asks.{Asks, ReadRose}
 use Rattle.elf_outside.specs.declared.sources.Source.{Ghosts}
 use Rattle.elf_ident.specs.Front.{zero_shdr}
 use Rattle.elf_object.specs.Object.{Object, Section, section_at, occupies_file}
 use Rattle.elf_object.specs.Calls.{home_answer}
+use Rattle.elf_object.specs.Steps.{with_own}
 use Rattle.elf_object.proofs.AnswerLaws.{home_value}
 use Rattle.rebuild_edits.specs.elf_descriptor.State.{State}
 use Rattle.law_object.proofs.StandLaws.{section_at-past}
 use Rattle.elf_object.specs.Sections.{header_at}
 use Rattle.law_rebuild.proofs.copy.RenewedNames.{strings_fill}
 use Rattle.rebuild_plan.specs.rebuild_image.declared.ranges.ranges.ByteRange.{ByteRange}
-use Rattle.rebuild_plan.specs.rebuild_image.Ranges.Ranges.{range_bytes}
-use Rattle.elf_copy.specs.rebuild_keep.Makes.{AsksFor}
-use Rattle.elf_copy.proofs.rebuild_keep.AskLaws.{asks_nothing, asks_more, asks_as}
+use Rattle.rebuild_plan.specs.rebuild_image.Ranges.Ranges.{range_bytes, range_due}
+use Rattle.rebuild_plan.specs.Reading.{ranges_due}
+use Rattle.rebuild_object.specs.rebuild_keep.Makes.{AsksFor}
+use Rattle.rebuild_plan.proofs.rebuild_keep.AskLaws.{asks_nothing, asks_as, asks_stop}
+use Rattle.rebuild_edits.specs.Edits.Steps.{IsPresentSection}
 use Rattle.rebuild_plan.specs.declared.arranged.Arranged.{Arranged}
 use Rattle.rebuild_plan.specs.rebuild_image.Fronts.{HoldsAppended}
 use Rattle.rebuild_plan.proofs.rebuild_image.FrontLaws.{held_bytes_stay}
-use Rattle.rebuild_copy.specs.Rows.{empty_held_range, gathered_header, size_in, gathered_range, IsGatheredSection, Origin, origin, IsListedAs, IsContents, has_strings}
-use Rattle.rebuild_copy.specs.Plans.{table_due, HoldsTable}
+use Rattle.rebuild_copy.specs.Rows.{empty_held_range, gathered_header, size_in, gathered_range, gathered_kind, IsGatheredSection, RowOf, Origin, origin, IsListedAs, IsContents, has_strings}
+use Rattle.rebuild_copy.specs.Edits.{HasOtherBytes}
+use Rattle.rebuild_copy.specs.Plans.{origin_over, table_due, HoldsTable}
+use Rattle.rebuild_copy.proofs.DueLaws.{due_taken}
 use Rattle.rebuild_copy.proofs.PushLaws.{zero_type}
-use Rattle.rebuild_copy.proofs.RowLaws.{set_same, at_here, shnum_is, row_set, same_frame}
+use Rattle.rebuild_copy.proofs.RowLaws.{first_empty, set_same, at_here, shnum_is, row_set, same_frame}
+use Rattle.rebuild_copy.proofs.EditLaws.{bytes_listed}
 
 -- ---- How long the home of the names is
 
@@ -66,6 +77,29 @@ names_absent o index e same came =
 
 -- ---- Nothing to hold
 
+module _ {S : Type 0} (g : Ghosts S) (x : Arranged) (s : State S)
+    (held : (o : Origin) (p : Object) → IsListedAs o p x
+    → (gathered_header x x.listed.header.shstrndx).stype ≡ SHT_STRTAB
+    → (gathered_range x x.listed.header.shstrndx).held ≡ true) where
+  stays_held : HoldsTable g x x (Ok tt) s s
+  stays_held = record {
+    ok = λ t p tail is. record { listed = is; table = held (origin s.o tail) p is };
+    every = λ b p tail suit is.
+        (p, record { listed = is; table = held (origin_over s.o b tail) p is });
+    tail_is = refl;
+    err = tt;
+    due = 0;
+    few = omega arith;
+    some = omega arith;
+    less = omega arith;
+    asks = asks_nothing g (Ok tt) s 0 tt;
+  }
+
+-- it is held already
+pub held_before : {S : Type 0} (g : Ghosts S) (x : Arranged) (s : State S)
+    → (gathered_range x x.listed.header.shstrndx).held ≡ true → HoldsTable g x x (Ok tt) s s
+held_before g x s at = stays_held g x s (λ o p is typed. at)
+
 module _ {S : Type 0} (g : Ghosts S) (x : Arranged) (s : State S) where
   -- there is no table: of an object that has one, the tests hold
   module _ (fails : has_strings x ≡ false) where
@@ -82,7 +116,7 @@ module _ {S : Type 0} (g : Ghosts S) (x : Arranged) (s : State S) where
             (ap (λ (h : Shdr). h.stype) (sym row.header) ∙ typed) in
             let clash : true ≡ false =
             sym filled
-            ∙ ap (λ (k : ℕ). occupies_file (header_at p k)) none ∙ is.first in
+            ∙ ap (λ (k : ℕ). occupies_file (header_at p k)) none ∙ first_empty o p x is in
             cc
 
         typed_test : ((gathered_header x x.listed.header.shstrndx).stype == SHT_STRTAB) ≡ true
@@ -117,14 +151,7 @@ module _ {S : Type 0} (g : Ghosts S) (x : Arranged) (s : State S) where
             omega (arith, clash)
 
     pub no_table : HoldsTable g x x (Ok tt) s s
-    no_table = record {
-      ok = λ t p tail is. record {
-        listed = is;
-        table = λ typed. absurd (tests_hold (origin s.o tail) p is typed);
-      };
-      err = tt;
-      asks = asks_nothing g (Ok tt) s (table_due s.o) tt;
-    }
+    no_table = stays_held g x s (λ o p is typed. absurd (tests_hold o p is typed))
 
 -- ---- A range of the base
 
@@ -134,6 +161,43 @@ module _ {S : Type 0} (g : Ghosts S) (x : Arranged) (old new : State S)
   abbrev k : ℕ
   k = x.listed.header.shstrndx
 
+  -- it is one of those that are read of the base
+  within_ranges : k < length x.ranges
+  within_ranges = elim (cases_lt k (length x.ranges)) [
+    | inl below ↦ below
+    | inr past ↦
+        let none : range ≡ empty_held_range =
+        at ∙ unwrap_or-slice_get x.ranges k empty_held_range
+        ∙ get_or_past x.ranges k empty_held_range past in
+        let clash : false ≡ true = sym apart ∙ ap (λ (r : ByteRange). r.held) none in cc
+  ]
+
+  range_is : get_or x.ranges k empty_held_range ≡ range
+  range_is = sym (unwrap_or-slice_get x.ranges k empty_held_range) ∙ sym at
+
+  due_is : range_due (get_or x.ranges k empty_held_range) ≡ range.len
+  due_is = ap range_due range_is ∙ ap (λ (b : Bool). if b then 0 else range.len) apart
+
+  due_some : range.len ≤ ranges_due x.ranges
+  due_some =
+      let is = due_is in
+      let less = get_or-le-sum_by range_due x.ranges k empty_held_range within_ranges in
+      omega (arith, is, less)
+
+  -- it is not the names, or there is no memory
+  pub not_names : HoldsTable g x x (Err Memory) old old
+  not_names = record {
+    ok = λ t. tt;
+    every = tt;
+    tail_is = tt;
+    err = inl refl;
+    due = 0;
+    few = omega arith;
+    some = omega arith;
+    less = tt;
+    asks = asks_nothing g (Err Memory) old 0 tt;
+  }
+
   module _ (stays : new ≡ record old { source = new.source }) (due : range.len ≤ table_due old.o)
     where
       object_same : new.o ≡ old.o
@@ -142,14 +206,42 @@ module _ {S : Type 0} (g : Ghosts S) (x : Arranged) (old new : State S)
       told_same : new.told ≡ old.told
       told_same = ap (λ (s : State S). s.told) stays
 
-      asks_as_due : {T : Type 0} (r : Result T ElfError)
-          → Asks g r old.source new.source range.len → AsksFor g r old new (table_due old.o)
-      asks_as_due r asks =
-          asks_more g r old new range.len (table_due old.o) due
-          (record { object = object_same; told = told_same; source = asks })
+      stop : (e : ElfError) (y : Arranged) → (e ≡ Memory) ⊎ (e ≡ Read)
+          → AsksFor {T = Unit {0}} g (Err e) old new range.len → HoldsTable g x y (Err e) old new
+      stop e y want asks = record {
+        ok = λ t. tt;
+        every = tt;
+        tail_is = tt;
+        err = want;
+        due = range.len;
+        few = due;
+        some = due_some;
+        less = tt;
+        asks = asks;
+      }
 
-      module _ (bytes : List ℕ)
+      -- the bytes can not be read
+      pub unread_stop : (e : ElfError) → (e ≡ Memory) ⊎ (e ≡ Read)
+          → Asks {T = List ℕ} g (Err e) old.source new.source range.len
+          → HoldsTable g x x (Err e) old new
+      unread_stop e want asks =
+          stop e x want (asks_stop g {T = List ℕ} {U = Unit {0}} e old new range.len
+          (record { object = object_same; told = told_same; source = asks }))
+
+      -- or not be held
+      pub unheld_stop : (e : ElfError) (y : Arranged) (bytes : List ℕ) → e ≡ Memory
+          → Asks {T = List ℕ} g (Ok bytes) old.source new.source range.len
+          → HoldsTable g x y (Err e) old new
+      unheld_stop e y bytes want asks =
+          stop e y (inl want) (asks_as g (Ok bytes) (Err e) old new range.len
+          (subst (λ (d : ElfError). ReadRose {T = Unit {0}} (Err d) (g.faults old.source)
+          (g.faults new.source)) (sym want) tt)
+          (record { object = object_same; told = told_same; source = asks }))
+
+      module _ (bytes : List ℕ) (long : length bytes ≡ range.len) (are : AreBytes bytes)
+          (small : length bytes < 2 ^ 64)
           (copied : IsTrue old.told → bytes ≡ take range.len (drop range.at old.o.base))
+          (inside : range.at + range.len ≤ length old.o.base)
           (asks : Asks {T = List ℕ} g (Ok bytes) old.source new.source range.len) where
         module _ (found : ByteRange) (y : Arranged)
             (holds : HoldsAppended bytes x.held y.held found)
@@ -157,67 +249,154 @@ module _ {S : Type 0} (g : Ghosts S) (x : Arranged) (old new : State S)
               ranges = slice_set x.ranges x.listed.header.shstrndx found;
               held = y.held;
             }) where
-          held_row : IsTrue old.told → (o : Origin) (p : Object) → IsListedAs o p x
-              → o.object.base ≡ old.o.base → (below : k < length p.sections)
-              → IsGatheredSection p.header.class p.header.order o.object.base y.held (section_at p k)
-              (gathered_header x k) (size_in x k) found
-          held_row t o p is same below =
-              let row = is.rows k below in
-              record {
+          header_now : y.listed.header ≡ x.listed.header
+          header_now = ap (λ (z : Arranged). z.listed.header) set
+
+          index_now : y.listed.header.shstrndx ≡ k
+          index_now = ap (λ (h : Ehdr). h.shstrndx) header_now
+
+          ranges_now : y.ranges ≡ slice_set x.ranges k found
+          ranges_now = ap (λ (z : Arranged). z.ranges) set
+
+          -- the table is held
+          table_held : (gathered_range y y.listed.header.shstrndx).held ≡ true
+          table_held =
+              ap (λ (i : ℕ). (gathered_range y i).held) index_now
+              ∙ ap (λ (l : List ByteRange). (unwrap_or (slice_get l k) empty_held_range).held)
+              ranges_now
+              ∙ ap (λ (r : ByteRange). r.held)
+              (at_here x.ranges k found empty_held_range within_ranges)
+              ∙ holds.held
+
+          tests : ((not (k == 0) && nat_lt k x.listed.header.shnum) ≡ true)
+              × (((gathered_header x k).stype == SHT_STRTAB) ≡ true)
+          tests =
+              and_parts (not (k == 0) && nat_lt k x.listed.header.shnum)
+              ((gathered_header x k).stype == SHT_STRTAB) strings
+
+          typed : (gathered_header x k).stype ≡ SHT_STRTAB
+          typed = eqb-true (gathered_header x k).stype SHT_STRTAB tests.1
+
+          module _ (o : Origin) (p : Object) (is : IsListedAs o p x) where
+            there : IsPresentSection p k
+            there =
+                let count = shnum_is o p x is in
+                let one = and_parts (not (k == 0)) (nat_lt k x.listed.header.shnum) tests.0 in
+                let some = eqb-false k 0 (not-true (k == 0) one.0) in
+                let below = ltb-true k x.listed.header.shnum one.1 in
+                (omega (arith, some), omega (arith, below, count))
+
+            row : RowOf p (o.bases.each k) x k
+            row = is.rows k there.1
+
+            filled : occupies_file (header_at p k) ≡ true
+            filled =
+                strings_fill (section_at p k).header
+                (ap (λ (h : Shdr). h.stype) (sym row.header) ∙ typed)
+
+            -- what the range has of the base of its section
+            row_bytes : take range.len (drop range.at (o.bases.each k))
+                ≡ encoded p.header.class p.header.order row.own
+            row_bytes =
+                sym (ap (λ (b : Bool). take range.len (drop range.at
+                (if b then x.held ++ [] else o.bases.each k))) apart)
+                ∙ ap (range_bytes (x.held ++ []) (o.bases.each k)) at
+                ∙ row.range_is filled []
+
+            -- the same bytes, held
+            module _ (same : bytes ≡ take range.len (drop range.at (o.bases.each k))) where
+              held_row : IsGatheredSection p.header.class p.header.order (o.bases.each k) y.held
+                  (section_at p k) (gathered_header x k) (size_in x k) found (gathered_kind x k)
+              held_row = record {
                 header = row.header;
-                inside = row.inside;
                 own = row.own;
+                section = row.section;
+                kind_is = row.kind_is;
+                are = row.are;
                 fits = row.fits;
-                pieces = row.pieces;
                 strings = row.strings;
                 size_is = row.size_is;
                 small = row.small;
-                range_is = λ filled later.
-                    held_bytes_stay bytes x.held y.held later o.object.base found holds
-                    ∙ copied t
-                    ∙ ap (λ (l : List ℕ). take range.len (drop range.at l)) (sym same)
-                    ∙ sym (ap (λ (b : Bool). take range.len (drop range.at
-                    (if b then x.held ++ [] else o.object.base))) apart)
-                    ∙ ap (range_bytes (x.held ++ []) o.object.base) at
-                    ∙ row.range_is filled [];
+                range_is = λ full later.
+                    held_bytes_stay bytes x.held y.held later (o.bases.each k) found holds
+                    ∙ same ∙ row_bytes;
               }
 
-          held_listed : IsTrue old.told → (o : Origin) (p : Object) → IsListedAs o p x
-              → o.object.base ≡ old.o.base → IsContents o p y
-          held_listed t o p is same =
-              let count = shnum_is o p x is in
-              let two = and_parts (not (k == 0) && nat_lt k x.listed.header.shnum)
-              ((gathered_header x k).stype == SHT_STRTAB) strings in
-              let one = and_parts (not (k == 0)) (nat_lt k x.listed.header.shnum) two.0 in
-              let inside = ltb-true k x.listed.header.shnum one.1 in
-              let below : k < length p.sections = omega (arith, inside, count) in
-              let header_now = ap (λ (z : Arranged). z.listed.header) set in
-              let index_now : y.listed.header.shstrndx ≡ k =
-              ap (λ (h : Ehdr). h.shstrndx) header_now in
-              let ranges_now = ap (λ (z : Arranged). z.ranges) set in
-              let length_is = is.count in
-              let ranged = is.counted.ranged in
-              record {
-                listed = row_set o p x is k below p y (gathered_header x k) (size_in x k) found bytes
-                    (same_frame p) (λ t other. refl)
+              same_contents : IsContents o p y
+              same_contents = record {
+                listed = row_set o p x is k there.1 p y (gathered_header x k) (size_in x k) found
+                    (gathered_kind x k) bytes (same_frame p) (λ t other. refl)
                     (ap (λ (z : Arranged). z.listed.headers) set
                     ∙ sym (set_same x.listed.headers k zero_shdr))
                     (ap (λ (z : Arranged). z.listed.sizes) set ∙ sym (set_same x.listed.sizes k 0))
-                    ranges_now holds.all (held_row t o p is same below) is.object
-                    (ap (λ (z : Arranged). z.tail) set) (header_now ∙ is.header) refl is.first;
-                table = λ typed.
-                    ap (λ (i : ℕ). (gathered_range y i).held) index_now
-                    ∙ ap (λ (l : List ByteRange). (unwrap_or (slice_get l k) empty_held_range).held)
                     ranges_now
-                    ∙ ap (λ (r : ByteRange). r.held)
-                    (at_here x.ranges k found empty_held_range (omega (arith, below, length_is, ranged)))
-                    ∙ holds.held;
+                    (ap (λ (z : Arranged). z.kinds) set ∙ sym (set_same x.kinds k kinds.Empty))
+                    holds.all held_row is.object (ap (λ (z : Arranged). z.tail) set)
+                    (header_now ∙ is.header) refl is.first;
+                table = λ was. table_held;
               }
+
+            -- other bytes, as many, of a source that does not tell its own
+            module _ (suit : length (o.bases.each k) ≡ length old.o.base) where
+              size_now : size_in x k ≡ found.len
+              size_now =
+                  let longer = length-take-le range.len (drop range.at (o.bases.each k))
+                  (let rest = length-drop range.at (o.bases.each k) in
+                  omega (arith, rest, suit, inside)) in
+                  let held_long = holds.len in
+                  row.size_is
+                  ∙ ap (λ (b : Bool). if b
+                  then length (encoded p.header.class p.header.order row.own) else 0) filled
+                  ∙ ap (λ (l : List ℕ). length l) (sym row_bytes)
+                  ∙ omega (arith, longer, held_long, long)
+
+              kind_now : gathered_kind x k ≡ kinds.Bytes
+              kind_now =
+                  sym row.kind_is
+                  ∙ row.strings (ap (λ (h : Shdr). h.stype) (sym row.header) ∙ typed)
+
+              other : HasOtherBytes k bytes x y
+              other = record {
+                range = found;
+                holds = holds;
+                header = header_now;
+                headers = ap (λ (z : Arranged). z.listed.headers) set;
+                sizes = ap (λ (z : Arranged). z.listed.sizes) set
+                    ∙ sym (ap (slice_set x.listed.sizes k) (sym size_now)
+                    ∙ set_same x.listed.sizes k 0);
+                ranges = ranges_now;
+                kinds_are = ap (λ (z : Arranged). z.kinds) set
+                    ∙ sym (ap (slice_set x.kinds k) (sym kind_now)
+                    ∙ set_same x.kinds k kinds.Empty);
+                tail = ap (λ (z : Arranged). z.tail) set;
+                are = are;
+                small = small;
+              }
+
+              other_contents : (q : Object) × IsContents o q y
+              other_contents = (
+                with_own p k 0 (items.Bytes bytes),
+                record {
+                  listed = bytes_listed o p x is k there filled bytes y other;
+                  table = λ was. table_held;
+                },
+              )
 
           pub names_held : HoldsTable g x y (Ok tt) old new
           names_held = record {
-            ok = λ t p tail is. held_listed t (origin old.o tail) p is refl;
+            ok = λ t p tail is. same_contents (origin old.o tail) p is (copied t);
+            every = λ b p tail suit is.
+                other_contents (origin_over old.o b tail) p is (suit.long k);
+            tail_is = ap (λ (z : Arranged). z.tail) set;
             err = tt;
-            asks = asks_as g (Ok bytes) (Ok (tt {0})) old new (table_due old.o) tt
-                (asks_as_due (Ok bytes) asks);
+            due = range.len;
+            few = due;
+            some = due_some;
+            less =
+                let taken = due_taken x.ranges k found holds.held within_ranges in
+                let is = due_is in
+                let now = ap ranges_due ranges_now in
+                omega (arith, taken, is, now);
+            asks = asks_as g (Ok bytes) (Ok (tt {0})) old new range.len tt
+                (record { object = object_same; told = told_same; source = asks });
           }

@@ -15,8 +15,16 @@ mod StoreLaws
 mod ChangeLaws
 mod ArrangeLaws
 mod EndLaws
-mod BeginLaws
 mod HoldLaws
+mod DueLaws
+mod ListLaws
+mod MadeLaws
+mod ChangedLaws
+mod HeldLaws
 mod PlanLaws
+mod StatedChanges
+mod StatedNames
+mod UsableLaws
+mod OuterLaws
 mod IndexLaws
 mod BytesLaws

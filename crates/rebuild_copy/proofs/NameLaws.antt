@@ -29,7 +29,7 @@ use Rattle.law_rebuild.proofs.copy.RenewedNames.{strings_fill}
 use Rattle.rebuild_plan.specs.declared.arranged.Arranged.{Arranged}
 use Rattle.rebuild_edits.proofs.edits.FlagLaws.{over_in, string_in_section, string_as}
 use Rattle.rebuild_copy.specs.Rows.{gathered_header, gathered_range, Origin, IsContents, has_strings, HasNamesIn}
-use Rattle.rebuild_copy.proofs.RowLaws.{shnum_is}
+use Rattle.rebuild_copy.proofs.RowLaws.{row_inside, row_pieces, shnum_is}
 
 -- ---- A string, by what is seen of its section
 
@@ -346,15 +346,16 @@ held_names x bytes holds_is at o p is s there =
     ap (λ (i : ℕ). (gathered_range x i).held) (sym (index_is o p x is)) ∙ is.table listed in
     let text : bytes ≡ encoded p.header.class p.header.order row.own =
     at
-    ∙ ap (λ (i : ℕ). take (gathered_range x i).len (drop (gathered_range x i).at x.held)) (index_is o p x is)
+    ∙ ap (λ (i : ℕ). take (gathered_range x i).len (drop (gathered_range x i).at x.held))
+    (index_is o p x is)
     ∙ ap (λ (l : List ℕ). take (gathered_range x k).len (drop (gathered_range x k).at l))
     (sym (append-nil x.held))
     ∙ sym (ap (λ (b : Bool). take (gathered_range x k).len (drop (gathered_range x k).at
-    (if b then x.held ++ [] else o.object.base))) held)
+    (if b then x.held ++ [] else o.bases.each k))) held)
     ∙ row.range_is filled [] in
     has_name p s row.own (not-true (k == 0) one.0) below typed
-    (row.pieces ∙ ap (λ (b : Bool). if b then own_piece row.own 1 ∷ [] else []) filled)
-    (row.strings typed) row.inside
+    (row_pieces row ∙ ap (λ (b : Bool). if b then own_piece row.own 1 ∷ [] else []) filled)
+    (row.strings typed) (row_inside row)
     ∙ ap (λ (n : ℕ). string_front (drop n (encoded p.header.class p.header.order row.own)))
     (sym (place_is o p x is s there))
     ∙ ap (λ (l : List ℕ). string_front (drop (gathered_header x s).name l)) (sym text)

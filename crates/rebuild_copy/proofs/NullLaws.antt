@@ -5,17 +5,18 @@ use Rattle.std.proofs.lemmas.Bool.{cases_eq, eq-eqb, ne_eqb}
 use Rattle.std.proofs.lemmas.List.{nil_from_length}
 use Rattle.elf_types.specs.declared.constants.TheConstants.{MAX_SECTIONS, SHT_STRTAB}
 use Rattle.elf_types.specs.declared.records.Ehdr.{Ehdr}
+use Rattle.elf_types.specs.declared.records.Kind.TheVariants as kinds
 use Rattle.elf_types.specs.declared.errors.ElfError.TheVariants.{TooMany}
 use Rattle.elf_types.specs.Answers.{refused_if}
 use Rattle.elf_xlate.specs.declared.content.Items.TheVariants as items
 use Rattle.elf_xlate.specs.Translation.{encoded}
 use Rattle.elf_ident.specs.Front.{zero_shdr}
-use Rattle.elf_object.specs.Object.{Object, Section, header_of, section_at, absent_section, new_section, occupies_file}
+use Rattle.elf_object.specs.Object.{Object, Section, header_of, section_at, absent_section, new_section}
 use Rattle.elf_object.specs.Calls as calls
 use Rattle.elf_object.specs.Steps.{with_sections, with_new_section, with_null_section, own_piece}
 use Rattle.elf_object.specs.Valid.{IsObject}
 use Rattle.law_object.proofs.KeepLaws.{newnull_keeps}
-use Rattle.elf_object.specs.Sections.{header_at}
+use Rattle.rebuild_model.specs.Rebuilt.{made_section}
 use Rattle.rebuild_model.specs.Copied.{CopyFault as StatedFault, with_added}
 use Rattle.law_rebuild.proofs.strip.CopyLaws.{edited_keeps}
 use Rattle.rebuild_plan.specs.declared.arranged.Arranged.{Arranged}
@@ -24,8 +25,8 @@ use Rattle.rebuild_edits.specs.Edits.Steps.{IsAltered}
 use Rattle.rebuild_copy.specs.Rows.{IsGatheredSection, Origin, IsContents}
 use Rattle.rebuild_copy.specs.Edits.{IsPushedLast, HasFirstSection}
 use Rattle.rebuild_copy.specs.Steps.{Turns}
-use Rattle.rebuild_copy.proofs.RowLaws.{HasSameFrame, shnum_is}
-use Rattle.rebuild_copy.proofs.PushLaws.{zero_empty, contents_pushed}
+use Rattle.rebuild_copy.proofs.RowLaws.{zero_empty, HasSameFrame, shnum_is}
+use Rattle.rebuild_copy.proofs.PushLaws.{contents_pushed}
 use Rattle.rebuild_copy.proofs.EditLaws.{fit_bytes}
 use Rattle.rebuild_copy.proofs.GrownLaws.{added_by, added_as}
 
@@ -98,15 +99,23 @@ module _ (o : Origin) (p : Object) (x : Arranged) (is : IsContents o p x) (y : A
     abbrev alone_now : Object
     alone_now = with_sections p (new_section ∷ [])
 
-    empty_row : IsGatheredSection p.header.class p.header.order o.object.base y.held new_section zero_shdr
-        pushed.range.len pushed.range
+    new_made : new_section ≡ made_section zero_shdr (items.Bytes [])
+    unfolding made_section
+    new_made =
+        ap (λ (b : Bool). record (made_section zero_shdr (items.Bytes [])) {
+          pieces = if b then own_piece (items.Bytes []) 1 ∷ [] else [];
+        }) (sym zero_empty)
+
+    empty_row : IsGatheredSection p.header.class p.header.order
+        (o.bases.each (length p.sections)) y.held new_section zero_shdr pushed.range.len
+        pushed.range kinds.Bytes
     empty_row = record {
       header = refl;
-      inside = refl;
       own = items.Bytes [];
+      section = new_made;
+      kind_is = refl;
+      are = pushed.are;
       fits = fit_bytes p.header.class [];
-      pieces = sym (ap (λ (b : Bool). if b then own_piece (items.Bytes []) 1 ∷ [] else [])
-          zero_empty);
       strings = λ typed. refl;
       size_is = pushed.holds.len
           ∙ sym (ap (λ (b : Bool). if b
@@ -131,24 +140,33 @@ module _ (o : Origin) (p : Object) (x : Arranged) (is : IsContents o p x) (y : A
       phdrs = refl;
       fill = refl;
       marked = refl;
+      version = refl;
+      ehsize = refl;
+      phentsize = refl;
+      shentsize = refl;
+      front = refl;
+      unmarked = refl;
+      segments_marked = refl;
     }
 
     at_end : section_at alone_now (length p.sections) ≡ new_section
     unfolding section_at
     at_end = ap (λ (k : ℕ). get_or (new_section ∷ []) k absent_section) none
 
-    alone_first : occupies_file (header_at alone_now 0) ≡ false
+    alone_first : section_at alone_now 0 ≡ new_section
     unfolding section_at
-    alone_first = zero_empty
+    alone_first = refl
 
     alone_left : IsContents o alone_now y
     alone_left =
-        contents_pushed o p alone_now x y is.listed zero_shdr pushed.range.len pushed.range []
+        contents_pushed o p alone_now x y is.listed zero_shdr pushed.range.len pushed.range
+        kinds.Bytes []
         alone_frame (let one : 1 ≡ length p.sections + 1 = omega (arith, none) in one)
         (λ t below. absurd (omega (arith, below, none))) pushed.headers pushed.sizes
-        pushed.ranges pushed.holds.all
-        (subst (λ (c : Section). IsGatheredSection p.header.class p.header.order o.object.base y.held c
-        zero_shdr pushed.range.len pushed.range) (sym at_end) empty_row)
+        pushed.ranges pushed.kinds_are pushed.holds.all
+        (subst (λ (c : Section). IsGatheredSection p.header.class p.header.order
+        (o.bases.each (length p.sections)) y.held c zero_shdr pushed.range.len pushed.range
+        kinds.Bytes) (sym at_end) empty_row)
         is.table zero_untyped (ap (λ (h : Ehdr). h.shstrndx) pushed.header)
         (subst IsObject (null_made p none) (null_object p is.listed.object)) pushed.tail
         header_alone alone_first

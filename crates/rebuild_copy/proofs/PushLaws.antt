@@ -1,18 +1,19 @@
 -- What was gathered, with one row behind the others.
-use Rattle.std.proofs.Common.{◌≡◌, ◌<◌, ◌+◌, ◌≤◌, ℕ, true, false, List, [], ◌∷◌, ◌++◌, length, length-append, refl, sym, ap, ◌∙◌, subst, inl, inr, arith}
+use Rattle.std.proofs.Common.{◌≡◌, ◌<◌, ◌+◌, ◌≤◌, ℕ, true, List, [], ◌∷◌, ◌++◌, length, length-append, refl, sym, ap, ◌∙◌, subst, inl, inr, arith}
 use Rattle.std.specs.Prelude.{slice_get, unwrap_or}
 use Rattle.std.proofs.lemmas.Bool.{cases_eq, cases_lt}
 use Rattle.std.proofs.lemmas.List.{append-nil, get_or_append_left, get_or_push, get_or_past}
 use Rattle.std.proofs.lemmas.Option.{unwrap_or-slice_get}
 use Rattle.elf_types.specs.declared.constants.TheConstants.{SHT_STRTAB}
+use Rattle.elf_types.specs.declared.records.Kind.{Kind}
+use Rattle.elf_types.specs.declared.records.Kind.TheVariants as kinds
 use Rattle.elf_types.specs.declared.records.Shdr.{Shdr}
 use Rattle.elf_ident.specs.Front.{zero_shdr}
-use Rattle.elf_object.specs.Object.{Object, header_of, section_at, occupies_file}
+use Rattle.elf_object.specs.Object.{Object, header_of, section_at, new_section}
 use Rattle.elf_object.specs.Valid.{IsObject}
-use Rattle.elf_object.specs.Sections.{header_at}
 use Rattle.rebuild_plan.specs.rebuild_image.declared.ranges.ranges.ByteRange.{ByteRange}
 use Rattle.rebuild_plan.specs.declared.arranged.Arranged.{Arranged}
-use Rattle.rebuild_copy.specs.Rows.{empty_held_range, gathered_header, size_in, gathered_range, IsGatheredSection, Origin, IsListedAs, IsContents}
+use Rattle.rebuild_copy.specs.Rows.{empty_held_range, gathered_header, size_in, gathered_range, gathered_kind, IsGatheredSection, Origin, IsListedAs, IsContents}
 use Rattle.rebuild_copy.proofs.RowLaws.{row_as, class_as, HasSameFrame, frame_as}
 
 -- ---- Lists
@@ -38,21 +39,18 @@ pub zero_type : zero_shdr.stype ≡ 0
 unfolding zero_shdr
 zero_type = refl
 
-pub zero_empty : occupies_file zero_shdr ≡ false
-unfolding zero_shdr
-zero_empty = refl
-
 -- ---- One row more
 
 module _ (o : Origin) (p q : Object) (x y : Arranged) (is : IsListedAs o p x) (h : Shdr)
-    (size : ℕ) (range : ByteRange) (more : List ℕ) (same : HasSameFrame p q)
+    (size : ℕ) (range : ByteRange) (kind : Kind) (more : List ℕ) (same : HasSameFrame p q)
     (long : length q.sections ≡ length p.sections + 1)
     (other : (t : ℕ) → t < length p.sections → section_at q t ≡ section_at p t)
     (headers : y.listed.headers ≡ x.listed.headers ++ h ∷ [])
     (sizes : y.listed.sizes ≡ x.listed.sizes ++ size ∷ [])
-    (ranges : y.ranges ≡ x.ranges ++ range ∷ []) (held : y.held ≡ x.held ++ more)
-    (row : IsGatheredSection p.header.class p.header.order o.object.base y.held
-    (section_at q (length p.sections)) h size range) where
+    (ranges : y.ranges ≡ x.ranges ++ range ∷ []) (kinds_are : y.kinds ≡ x.kinds ++ kind ∷ [])
+    (held : y.held ≡ x.held ++ more)
+    (row : IsGatheredSection p.header.class p.header.order (o.bases.each (length p.sections))
+    y.held (section_at q (length p.sections)) h size range kind) where
   abbrev n : ℕ
   n = length p.sections
 
@@ -65,21 +63,27 @@ module _ (o : Origin) (p q : Object) (x y : Arranged) (is : IsListedAs o p x) (h
   range_count : length x.ranges ≡ n
   range_count = is.counted.ranged ∙ is.count
 
+  kind_count : length x.kinds ≡ n
+  kind_count = is.counted.of_kinds ∙ is.count
+
   abbrev RowAt : ℕ → Type 0
   RowAt t =
-      IsGatheredSection p.header.class p.header.order o.object.base y.held (section_at q t) (gathered_header y t)
-      (size_in y t) (gathered_range y t)
+      IsGatheredSection p.header.class p.header.order (o.bases.each t) y.held (section_at q t)
+      (gathered_header y t) (size_in y t) (gathered_range y t) (gathered_kind y t)
 
   row_last : RowAt n
   row_last =
-      row_as p.header.class p.header.order o.object.base y.held y.held (section_at q n)
-      (section_at q n) h (gathered_header y n) size (size_in y n) range (gathered_range y n) [] refl
+      row_as p.header.class p.header.order (o.bases.each n) y.held y.held (section_at q n)
+      (section_at q n) h (gathered_header y n) size (size_in y n) range (gathered_range y n)
+      kind (gathered_kind y n) [] refl
       (ap (λ (l : List Shdr). unwrap_or (slice_get l n) zero_shdr) headers
       ∙ at_last x.listed.headers h zero_shdr n header_count)
       (ap (λ (l : List ℕ). unwrap_or (slice_get l n) 0) sizes
       ∙ at_last x.listed.sizes size 0 n size_count)
       (ap (λ (l : List ByteRange). unwrap_or (slice_get l n) empty_held_range) ranges
       ∙ at_last x.ranges range empty_held_range n range_count)
+      (ap (λ (l : List Kind). unwrap_or (slice_get l n) kinds.Empty) kinds_are
+      ∙ at_last x.kinds kind kinds.Empty n kind_count)
       (sym (append-nil y.held)) row
 
   row_before : (t : ℕ) → t < n → RowAt t
@@ -87,15 +91,19 @@ module _ (o : Origin) (p q : Object) (x y : Arranged) (is : IsListedAs o p x) (h
       let in_headers : t < length x.listed.headers = omega (arith, below, header_count) in
       let in_sizes : t < length x.listed.sizes = omega (arith, below, size_count) in
       let in_ranges : t < length x.ranges = omega (arith, below, range_count) in
-      row_as p.header.class p.header.order o.object.base x.held y.held (section_at p t)
+      let in_kinds : t < length x.kinds = omega (arith, below, kind_count) in
+      row_as p.header.class p.header.order (o.bases.each t) x.held y.held (section_at p t)
       (section_at q t) (gathered_header x t) (gathered_header y t) (size_in x t) (size_in y t)
-      (gathered_range x t) (gathered_range y t) more (other t below)
+      (gathered_range x t) (gathered_range y t) (gathered_kind x t) (gathered_kind y t) more
+      (other t below)
       (ap (λ (l : List Shdr). unwrap_or (slice_get l t) zero_shdr) headers
       ∙ at_before x.listed.headers h zero_shdr t in_headers)
       (ap (λ (l : List ℕ). unwrap_or (slice_get l t) 0) sizes
       ∙ at_before x.listed.sizes size 0 t in_sizes)
       (ap (λ (l : List ByteRange). unwrap_or (slice_get l t) empty_held_range) ranges
       ∙ at_before x.ranges range empty_held_range t in_ranges)
+      (ap (λ (l : List Kind). unwrap_or (slice_get l t) kinds.Empty) kinds_are
+      ∙ at_before x.kinds kind kinds.Empty t in_kinds)
       held (is.rows t below)
 
   row_at : (t : ℕ) → t < n + 1 → RowAt t
@@ -105,16 +113,19 @@ module _ (o : Origin) (p q : Object) (x y : Arranged) (is : IsListedAs o p x) (h
   ]
 
   pub row_pushed : IsObject q → y.tail ≡ x.tail → y.listed.header ≡ header_of q
-      → occupies_file (header_at q 0) ≡ false → IsListedAs o q y
+      → section_at q 0 ≡ new_section → IsListedAs o q y
   row_pushed object tail header first =
       let count = ap (λ (l : List Shdr). length l) headers
       ∙ length-append x.listed.headers (h ∷ []) in
       let sized = ap (λ (l : List ℕ). length l) sizes ∙ length-append x.listed.sizes (size ∷ []) in
       let ranged = ap (λ (l : List ByteRange). length l) ranges
       ∙ length-append x.ranges (range ∷ []) in
+      let kinded = ap (λ (l : List Kind). length l) kinds_are
+      ∙ length-append x.kinds (kind ∷ []) in
       let all = header_count in
       let all_sizes = size_count in
       let all_ranges = range_count in
+      let all_kinds = kind_count in
       record {
         object = object;
         frame = frame_as o p q same is.frame;
@@ -124,12 +135,14 @@ module _ (o : Origin) (p q : Object) (x y : Arranged) (is : IsListedAs o p x) (h
         counted = record {
           sized = omega (arith, count, sized, all, all_sizes);
           ranged = omega (arith, count, ranged, all, all_ranges);
+          of_kinds = omega (arith, count, kinded, all, all_kinds);
         };
-        first = first;
+        first = λ some. first;
         rows = λ t there.
-            class_as p.header.class q.header.class p.header.order q.header.order o.object.base
-            y.held (section_at q t) (gathered_header y t) (size_in y t) (gathered_range y t) same.class
-            same.order (row_at t (omega (arith, there, long)));
+            class_as p.header.class q.header.class p.header.order q.header.order
+            (o.bases.each t) y.held (section_at q t) (gathered_header y t) (size_in y t)
+            (gathered_range y t) (gathered_kind y t) same.class same.order
+            (row_at t (omega (arith, there, long)));
       }
 
   -- the table of the names is none that is put behind
@@ -172,7 +185,7 @@ module _ (o : Origin) (p q : Object) (x y : Arranged) (is : IsListedAs o p x) (h
   pub contents_pushed : ((gathered_header x x.listed.header.shstrndx).stype ≡ SHT_STRTAB
       → (gathered_range x x.listed.header.shstrndx).held ≡ true) → (h.stype ≡ SHT_STRTAB → ⊥)
       → y.listed.header.shstrndx ≡ x.listed.header.shstrndx → IsObject q → y.tail ≡ x.tail
-      → y.listed.header ≡ header_of q → occupies_file (header_at q 0) ≡ false → IsContents o q y
+      → y.listed.header ≡ header_of q → section_at q 0 ≡ new_section → IsContents o q y
   contents_pushed before untyped index object tail header first = record {
     listed = row_pushed object tail header first;
     table = table_after before untyped y.listed.header.shstrndx index;

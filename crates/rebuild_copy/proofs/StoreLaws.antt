@@ -20,8 +20,10 @@ use Rattle.rebuild_edits.specs.Stores.{with_places, with_table}
 use Rattle.rebuild_edits.proofs.StoreLaws.{PutBelow, put_none, put_more, put_there, put_all, name_passes, unpieced, table_there, keeps_table}
 use Rattle.rebuild_copy.specs.Rows.{gathered_header, Origin, IsContents}
 use Rattle.rebuild_copy.specs.Edits.{HasBytesIf, HasOtherHeader, IsNamedAs}
-use Rattle.rebuild_copy.specs.Steps.{known, Turns, AltersContents, BecomesContents}
-use Rattle.rebuild_copy.proofs.RowLaws.{shnum_is}
+use Rattle.rebuild_copy.specs.Steps.{known, ReadsNoMore, Turns, AltersContents, BecomesContents}
+use Rattle.rebuild_copy.proofs.DueLaws.{due_same}
+use Rattle.rebuild_copy.proofs.UpdateLaws.{bytes_less}
+use Rattle.rebuild_copy.proofs.RowLaws.{row_pieces, shnum_is}
 use Rattle.rebuild_copy.proofs.EditLaws.{bytes_left, header_left}
 use Rattle.rebuild_copy.proofs.TurnLaws.{turns_not}
 
@@ -132,7 +134,7 @@ table_left o p x is s there bytes y has = by_kind (occupies_file (header_at p s)
     by_kind false at =
         let row = is.listed.rows s there.1 in
         let none : (section_at p s).pieces ≡ [] =
-        row.pieces ∙ ap (λ (b : Bool). if b then own_piece row.own 1 ∷ [] else []) at in
+        row_pieces row ∙ ap (λ (b : Bool). if b then own_piece row.own 1 ∷ [] else []) at in
         let count = ap (λ (l : List Piece). length l) none in
         subst (λ (q : Object). IsContents o q y)
         (sym (unpieced p s (items.Bytes bytes) (omega (arith, count))))
@@ -177,13 +179,26 @@ module _ (o : Origin) (p : Object) (x y z : Arranged) (names : NewNameTable)
 
 -- ---- Contents in which the names are stored
 
+-- no more is read of the base
+table_less : (s : ℕ) (bytes : List ℕ) (y z : Arranged) → HasBytesIf s bytes y z
+    → ReadsNoMore y z
+table_less s bytes y z has = by (occupies_file (gathered_header y s)) refl
+  where
+    by : (b : Bool) → occupies_file (gathered_header y s) ≡ b → ReadsNoMore y z
+    by true at = bytes_less s bytes y z (has.some at)
+    by false at = due_same z.ranges y.ranges (ap (λ (x : Arranged). x.ranges) (has.none at))
+
 pub table_alters : (names : NewNameTable) (x y z : Arranged)
-    → BecomesContents (λ p. with_places p names.places) x y
+    → BecomesContents (λ p. with_places p names.places) x y → y.ranges ≡ x.ranges
     → HasBytesIf y.listed.header.shstrndx names.table y z
     → AltersContents {T = Unit {0}} (λ p. IsPresentSection p p.header.shstrndx)
     (λ p. Ok (with_table p names)) (Ok tt) x z
-table_alters names x y z becomes has = record {
+table_alters names x y z becomes stays has = record {
   unread = tt;
+  less =
+      let first = due_same y.ranges x.ranges stays in
+      let second = table_less y.listed.header.shstrndx names.table y z has in
+      omega (arith, first, second);
   turns = λ o p is there. stored_turned o p x y z names (becomes o p is) there has;
 }
 
@@ -191,6 +206,7 @@ pub stays_alters : (Holds : Object → Type 0) (x : Arranged)
     → AltersContents {T = Unit {0}} Holds (λ p. Ok p) (Ok tt) x x
 stays_alters Holds x = record {
   unread = tt;
+  less = omega arith;
   turns = λ o p is holds. record { left = p; alters = alter_none (known p); contents = is };
 }
 
@@ -201,5 +217,6 @@ pub fault_stored : (Holds : Object → Type 0) (f : CopyFault)
     → AltersContents {T = Unit {0}} Holds answer (Err f) x x
 fault_stored Holds f answer x unread is = record {
   unread = unread;
+  less = tt;
   turns = λ o p contents holds. turns_not o p (Unit {0}) (answer p) f x unread (is p);
 }

@@ -1,5 +1,6 @@
 -- Steps of copy on what was gathered, one after another.
-use Rattle.std.proofs.Common.{◌≡◌, ℕ, ◌+◌, ◌<◌, ◌≤◌, List, length, map, get_or, Result, Ok, Err, subst}
+use Rattle.std.proofs.Common.{◌≡◌, ℕ, ◌+◌, ◌<◌, ◌≤◌, List, length, map, get_or, Result, Ok, Err, subst, arith}
+use Rattle.std.specs.Prelude.{OnOk}
 use Rattle.std.specs.Prelude.{IfSome}
 use Rattle.elf_types.specs.Answers.{◌>>=◌}
 use Rattle.elf_object.specs.Object.{Object}
@@ -17,7 +18,7 @@ use Rattle.rebuild_edits.proofs.edits.TurnLaws.{Turned, turned_none, turned_more
 use Rattle.rebuild_edits.proofs.edits.FlagLaws.{Flagged, flagged_none, flagged_more, flagged_stop, flagged_all}
 use Rattle.rebuild_plan.specs.declared.arranged.Arranged.{Arranged}
 use Rattle.rebuild_copy.specs.Rows.{Origin, IsContents}
-use Rattle.rebuild_copy.specs.Steps.{known, Turns, AltersContents, always_holds}
+use Rattle.rebuild_copy.specs.Steps.{known, ReadsNoMore, Turns, AltersContents, always_holds}
 
 module _ (o : Origin) (p : Object) where
   -- a step that is refused
@@ -80,6 +81,16 @@ module _ (o : Origin) (p : Object) where
 
 -- ---- Of every object
 
+pub ok_holds : {U : Type 0} (r : Result U CopyFault) (A : Type 0) → A → OnOk r A
+ok_holds (Ok u) A is = is
+ok_holds (Err f) A is = tt
+
+-- no more is read after both
+pub less_then : {U : Type 0} (r : Result U CopyFault) (x y z : Arranged) → ReadsNoMore x y
+    → OnOk r (ReadsNoMore y z) → OnOk r (ReadsNoMore x z)
+less_then (Ok u) x y z first second = omega (arith, first, second)
+less_then (Err f) x y z first second = tt
+
 -- what is known of each holds
 pub alters_known : {T : Type 0} (Holds : Object → Type 0)
     (answer : Object → Result Object StatedFault) (r : Result T CopyFault) (x y : Arranged)
@@ -87,6 +98,7 @@ pub alters_known : {T : Type 0} (Holds : Object → Type 0)
     → AltersContents Holds answer r x y → AltersContents always_holds answer r x y
 alters_known Holds answer r x y known step = record {
   unread = step.unread;
+  less = step.less;
   turns = λ o p is holds. step.turns o p is (known o p is);
 }
 
@@ -97,6 +109,7 @@ pub alters_then : {T U : Type 0} (Holds : Object → Type 0)
     → AltersContents Holds (λ p. answer p >>= next) r x z
 alters_then Holds answer next t r x y z stays first second = record {
   unread = second.unread;
+  less = less_then r x y z first.less second.less;
   turns = λ o p is holds.
       let one = first.turns o p is tt in
       turns_then o p (answer p) next t r y z one
@@ -109,6 +122,7 @@ pub alters_end : (T U : Type 0) (Holds : Object → Type 0)
     → AltersContents {T = U} Holds (λ p. answer p >>= next) (Err f) x z
 alters_end T U Holds answer next f x y z first = record {
   unread = unread_on T U f first.unread;
+  less = tt;
   turns = λ o p is holds. turns_end o p T U (answer p) next f y z (first.turns o p is tt);
 }
 

@@ -21,6 +21,7 @@ use Rattle.elf_object.specs.Sections.{is_program, is_allocated, header_at, edite
 use Rattle.rebuild_model.specs.Copied.{CopyFault as StatedFault, or_strip, update_fault, flags_fault, differ, with_bits}
 use Rattle.rebuild_model.specs.Copied.CopyFault.{NoBytes, Allocated, Fixed}
 use Rattle.rebuild_plan.specs.declared.arranged.Arranged.{Arranged}
+use Rattle.rebuild_plan.specs.Reading.{ranges_due}
 use Rattle.rebuild_changes.specs.declared.faults.CopyFault.{CopyFault}
 use Rattle.rebuild_changes.specs.declared.faults.CopyFault.TheVariants as faults
 use Rattle.rebuild_changes.specs.Stated.{IsFault}
@@ -29,7 +30,8 @@ use Rattle.rebuild_edits.proofs.edits.UpdateLaws.{none_in_file, other_length, ma
 use Rattle.rebuild_edits.proofs.edits.FlagLaws.{is_fixed, may_flag}
 use Rattle.rebuild_copy.specs.Rows.{gathered_header, size_in, Origin, IsContents}
 use Rattle.rebuild_copy.specs.Edits.{HasOtherBytes, HasOtherHeader}
-use Rattle.rebuild_copy.specs.Steps.{AltersAt, always_holds}
+use Rattle.rebuild_copy.specs.Steps.{ReadsNoMore, AltersAt, always_holds}
+use Rattle.rebuild_copy.proofs.DueLaws.{due_set, due_same}
 use Rattle.rebuild_copy.proofs.EditLaws.{pieces_one, bytes_turned, header_refusal, header_turned, header_not}
 use Rattle.rebuild_copy.proofs.NameLaws.{one_aligned}
 
@@ -66,13 +68,14 @@ module _ (o : Origin) (p : Object) (x : Arranged) (is : IsContents o p x) where
         row.size_is
         ∙ ap (λ (b : Bool). if b then length (encoded p.header.class p.header.order row.own)
         else 0) filled
-        ∙ sym (one_end row.own (pieces_one o p x is s there filled))
+        ∙ sym (one_end row.own (pieces_one o p x is.listed s there filled))
 
 -- ---- Other bytes
 
 module _ (x : Arranged) (s : ℕ) (name bytes : List ℕ) where
   pub no_bytes : (f : CopyFault) → occupies_file (gathered_header x s) ≡ false
-      → IsFault (NoBytes name) f → (o : Origin) (p : Object) → IsContents o p x → IsPresentSection p s
+      → IsFault (NoBytes name) f → (o : Origin) (p : Object) → IsContents o p x
+      → IsPresentSection p s
       → IsFaultIf (update_fault p s name bytes) (Some f)
   no_bytes f empty came o p is there =
       none_in_file p s name bytes f
@@ -100,14 +103,16 @@ module _ (x : Arranged) (s : ℕ) (name bytes : List ℕ) where
       ∙ test
 
   pub other_long : (f : CopyFault) → occupies_file (gathered_header x s) ≡ true → seen_test ≡ true
-      → IsFault (Allocated name) f → (o : Origin) (p : Object) → IsContents o p x → IsPresentSection p s
+      → IsFault (Allocated name) f → (o : Origin) (p : Object) → IsContents o p x
+      → IsPresentSection p s
       → IsFaultIf (update_fault p s name bytes) (Some f)
   other_long f filled test came o p is there =
       other_length p s name bytes f (filled_as true filled o p is there)
       (lengths_as true filled test o p is there) came
 
   pub none_faulted : occupies_file (gathered_header x s) ≡ true → seen_test ≡ false → (o : Origin)
-      (p : Object) → IsContents o p x → IsPresentSection p s → IsFaultIf (update_fault p s name bytes) None
+      (p : Object) → IsContents o p x → IsPresentSection p s
+      → IsFaultIf (update_fault p s name bytes) None
   none_faulted filled test o p is there =
       may_update p s name bytes (filled_as true filled o p is there)
       (lengths_as false filled test o p is there)
@@ -125,11 +130,20 @@ filled_known p s name bytes passed = by_test (occupies_file (header_at p s)) pas
     by_test true h = refl
     by_test false h = cc
 
+-- no more is read of the base
+pub bytes_less : (s : ℕ) (bytes : List ℕ) (x y : Arranged) → HasOtherBytes s bytes x y
+    → ReadsNoMore x y
+bytes_less s bytes x y has =
+    let same = ap ranges_due has.ranges in
+    let less = due_set x.ranges s has.range has.holds.held in
+    omega (arith, same, less)
+
 pub bytes_alter : (s : ℕ) (bytes : List ℕ) (x y : Arranged) → HasOtherBytes s bytes x y
     → AltersAt {T = Unit {0}} s (λ p. occupies_file (header_at p s) ≡ true)
     (λ p. or_strip (edited (calls.replace s 0 (items.Bytes bytes)) p)) (Ok tt) x y
 bytes_alter s bytes x y has = record {
   unread = tt;
+  less = bytes_less s bytes x y has;
   turns = λ o p is there. bytes_turned o p x is s there.0 there.1 bytes y has;
 }
 
@@ -138,7 +152,8 @@ bytes_alter s bytes x y has = record {
 module _ (x : Arranged) (s : ℕ) (name : List ℕ) (bits : ℕ) where
   abbrev loads_test : Bool
   loads_test = not (x.listed.header.phnum == 0)
-      && differ (is_allocated (gathered_header x s)) (is_allocated (with_bits bits (gathered_header x s)))
+      && differ (is_allocated (gathered_header x s)) (is_allocated (with_bits bits
+      (gathered_header x s)))
 
   loads_as : (b : Bool) → loads_test ≡ b → (o : Origin) (p : Object) → IsContents o p x
       → IsPresentSection p s
@@ -185,6 +200,7 @@ module _ (s bits : ℕ) (x : Arranged) where
       → AltersAt {T = Unit {0}} s always_holds flags_stored (Ok tt) x y
   flags_alter y small fits has = record {
     unread = tt;
+    less = due_same y.ranges x.ranges (ap (λ (z : Arranged). z.ranges) has);
     turns = λ o p is there.
         let same = header_seen o p x is s there.0 in
         let h = with_bits bits (header_at p s) in
@@ -206,6 +222,7 @@ module _ (s bits : ℕ) (x : Arranged) where
       (Err (faults.Strip (Unfit (part.Section s) 0))) x y
   flags_unfit y fits = record {
     unread = tt;
+    less = tt;
     turns = λ o p is there.
         header_not o p s (with_bits bits (header_at p s)) y there.0
         (sym (ap (λ (c : Class). shdr_fits c (with_bits bits (gathered_header x s)))

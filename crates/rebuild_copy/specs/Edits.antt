@@ -1,5 +1,6 @@
 -- How edits change what was gathered.
 use Rattle.std.specs.Prelude.{◌≡◌, ◌<◌, ◌^◌, ℕ, List, [], ◌∷◌, ◌++◌, length, slice_set, true, false}
+use Rattle.elf_types.specs.declared.records.Kind.TheVariants as kinds
 use Rattle.elf_types.specs.declared.records.Shdr.{Shdr}
 use Rattle.elf_types.specs.Lists.{AreBytes}
 use Rattle.elf_ident.specs.Front.{zero_shdr}
@@ -9,7 +10,7 @@ use Rattle.rebuild_plan.specs.declared.arranged.Arranged.{Arranged}
 use Rattle.rebuild_plan.specs.rebuild_image.Fronts.{HoldsAppended}
 use Rattle.rebuild_copy.specs.Rows.{gathered_header}
 
--- a section has other bytes, which were put behind those that are held
+-- a section has other bytes, which were put behind those that are held and are read as bytes
 pub record HasOtherBytes (s : ℕ) (bytes : List ℕ) (old new : Arranged) : Type 0 where
   pub range : ByteRange
   pub holds : HoldsAppended bytes old.held new.held range
@@ -17,6 +18,7 @@ pub record HasOtherBytes (s : ℕ) (bytes : List ℕ) (old new : Arranged) : Typ
   pub headers : new.listed.headers ≡ old.listed.headers
   pub sizes : new.listed.sizes ≡ slice_set old.listed.sizes s range.len
   pub ranges : new.ranges ≡ slice_set old.ranges s range
+  pub kinds_are : new.kinds ≡ slice_set old.kinds s kinds.Bytes
   pub tail : new.tail ≡ old.tail
   pub are : AreBytes bytes
   pub small : length bytes < 2 ^ 64
@@ -45,6 +47,7 @@ pub record IsPushedLast (count : ℕ) (h : Shdr) (bytes : List ℕ) (old new : A
     pub headers : new.listed.headers ≡ old.listed.headers ++ h ∷ []
     pub sizes : new.listed.sizes ≡ old.listed.sizes ++ range.len ∷ []
     pub ranges : new.ranges ≡ old.ranges ++ range ∷ []
+    pub kinds_are : new.kinds ≡ old.kinds ++ kinds.Bytes ∷ []
     pub tail : new.tail ≡ old.tail
     pub are : AreBytes bytes
     pub small : length bytes < 2 ^ 64

@@ -12,7 +12,7 @@ use crate::edits::push_section;
 use elf_types::constants::MAX_SECTIONS;
 use elf_types::{ElfError, NULL_SECTION};
 use rebuild_changes::{CopyFault, NameBytes};
-use rebuild_edits::edits::added_header;
+use rebuild_edits::added_header;
 use rebuild_plan::Arranged;
 
 /// Adds section 0 where there is no section. It fails with `Memory` alone.

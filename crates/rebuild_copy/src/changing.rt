@@ -7,7 +7,7 @@ ghost use Rattle.rebuild_select.specs.Sought.Names.{is_sought};
 ghost use Rattle.rebuild_changes.specs.Stated.{HasPlainNames, stated_changes};
 ghost use Rattle.rebuild_edits.specs.Edits.Names.{names_now};
 ghost use Rattle.rebuild_edits.specs.Stores.{HasNameTable};
-ghost use Rattle.elf_copy.specs.Copies.{added_named, flagged_named, after_names, after_updates};
+ghost use Rattle.rebuild_copy.specs.Changing.{added_named, flagged_named, after_names, after_updates};
 ghost use Rattle.rebuild_copy.specs.Rows.{Origin, IsContents};
 ghost use Rattle.rebuild_copy.specs.Steps.{AltersContents, IsUsableIf};
 ghost use Rattle.rebuild_copy.specs.Indexes.{IsIndexOf};

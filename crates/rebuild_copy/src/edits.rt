@@ -6,7 +6,7 @@ ghost use Rattle.elf_types.specs.Lists.{AreBytes};
 ghost use Rattle.rebuild_plan.specs.rebuild_image.Fronts.{HoldsAppended};
 ghost use Rattle.rebuild_copy.specs.Edits.{HasOtherBytes, IsPushedLast};
 
-use elf_types::{Addrs, ElfError, List, Shdr, Shdrs, bytes_are_ranged};
+use elf_types::{Addrs, ElfError, Kind, List, Shdr, Shdrs, bytes_are_ranged};
 use rebuild_plan::Arranged;
 use rebuild_plan::prelude::{ByteRange, hold_shared};
 use strtab_shared::bytes::SharedBytes;
@@ -73,6 +73,16 @@ pub(crate) fn set_range(ranges: &mut List<ByteRange>, s: u32, range: ByteRange)
     ranges.as_mut_slice()[s as usize] = range;
 }
 
+/// Stores a kind. That of no section is not stored.
+fn set_kind(kinds: &mut List<Kind>, s: u32, kind: Kind)
+    ensures { kinds.new ≡ slice_set kinds.old s kind }
+{
+    if u64::from(s) >= kinds.len() {
+        return;
+    }
+    kinds.as_mut_slice()[s as usize] = kind;
+}
+
 /// Gives a section other bytes, which are held after the others. It fails with `Memory` alone.
 pub(crate) fn put_bytes(x: &mut Arranged, s: u32, bytes: &[u8]) -> Result<(), ElfError>
     ensures ok { OnOk result (HasOtherBytes s bytes.now x.old x.new) }
@@ -82,6 +92,7 @@ pub(crate) fn put_bytes(x: &mut Arranged, s: u32, bytes: &[u8]) -> Result<(), El
         Ok(range) => {
             set_size(&mut x.listed.sizes, s, range.len);
             set_range(&mut x.ranges, s, range);
+            set_kind(&mut x.kinds, s, Kind::Bytes);
             Ok(())
         }
         Err(e) => Err(e),
@@ -97,6 +108,7 @@ pub(crate) fn put_shared(x: &mut Arranged, s: u32, bytes: &SharedBytes) -> Resul
         Ok(range) => {
             set_size(&mut x.listed.sizes, s, range.len);
             set_range(&mut x.ranges, s, range);
+            set_kind(&mut x.kinds, s, Kind::Bytes);
             Ok(())
         }
         Err(e) => Err(e),
@@ -120,6 +132,7 @@ pub(crate) fn push_section(
             x.listed.headers.push(h)?;
             x.listed.sizes.push(range.len)?;
             x.ranges.push(range)?;
+            x.kinds.push(Kind::Bytes)?;
             x.listed.header.shnum = count;
             Ok(())
         }

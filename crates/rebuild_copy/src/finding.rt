@@ -7,7 +7,7 @@ ghost use Rattle.rebuild_copy.specs.Indexes.{IsIndexOf, FindsNamed};
 
 use elf_types::Octets;
 use rebuild_changes::CopyFault;
-use rebuild_edits::edits::or_no_section;
+use rebuild_edits::or_no_section;
 use rebuild_select::sought::NameIndex;
 use std::alloc::Global;
 

@@ -21,7 +21,7 @@ use crate::rows::header_of;
 use elf_types::{ElfError, Part, Shdr};
 use elf_xlate::shdr_fits;
 use rebuild_changes::{CopyFault, NameBits, fault_fixed};
-use rebuild_edits::edits::changes_allocation;
+use rebuild_edits::changes_allocation;
 use rebuild_plan::Arranged;
 use rebuild_select::sought::NameIndex;
 use std::alloc::Global;

@@ -52,6 +52,7 @@ fn copy_bytes<S: Source>(
     requires { at + n ≤ length elf.old.o.base }
     ensures bytes { IsTrue elf.old.told
         → IfOk result (λ octets. octets ≡ take n (drop at elf.old.o.base)) }
+    ensures long { IfOk result (λ octets. length octets ≡ n) }
     ensures asks { Asks S.Source result elf.old.source elf.new.source n }
     ensures stays { elf.new ≡ record elf.old { source = elf.new.source } }
     ensures err { IfErr result (λ e. (e ≡ Memory) ⊎ (e ≡ Read)) }

@@ -17,11 +17,10 @@ use crate::rows::header_of;
 use crate::tables::{OldTable, copy_string, name_near, old_table};
 use elf_types::{ElfError, List};
 use rebuild_changes::ChangeLists;
-use rebuild_edits::edits::{mark_of, new_name};
 use rebuild_edits::prelude::{push_place, string_in};
 use rebuild_edits::{
-    Making, Naming, begin_table, changes_names, finish_names, hold_names, place_added, place_found,
-    place_text,
+    Making, Naming, begin_table, changes_names, finish_names, hold_names, mark_of, new_name,
+    place_added, place_found, place_text,
 };
 use rebuild_plan::Arranged;
 use std::alloc::Global;

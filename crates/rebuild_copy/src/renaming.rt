@@ -21,7 +21,7 @@ ghost use Rattle.rebuild_copy.specs.Indexes.{IsIndexOf, RenamesTo};
 use crate::finding::find_named;
 use elf_types::List;
 use rebuild_changes::{CopyFault, NameBytes};
-use rebuild_edits::edits::{no_marks, set_mark};
+use rebuild_edits::{no_marks, set_mark};
 use rebuild_plan::Arranged;
 use rebuild_select::sought::NameIndex;
 use std::alloc::Global;

@@ -29,7 +29,8 @@ fn put_name(x: &mut Arranged, s: u32, place: u32)
 
 /// Stores the places of the names of the sections from 1 on.
 fn put_names(x: &mut Arranged, places: &Words)
-    ensures { BecomesContents (λ p. with_places p places.now) x.old x.new }
+    ensures places { BecomesContents (λ p. with_places p places.now) x.old x.new }
+    ensures ranges { x.new.ranges ≡ x.old.ranges }
 {
     for s in 1..x.listed.header.shnum {
         put_name(x, s, place_at(places, s));

@@ -13,7 +13,7 @@ ghost use Rattle.rebuild_changes.specs.Stated.{bytes_pair, IsWithoutDeviceFault}
 ghost use Rattle.rebuild_edits.specs.Edits.Edits.{updated_at};
 ghost use Rattle.rebuild_edits.specs.Edits.Steps.{IsPresentSection, IsFaultIf};
 ghost use Rattle.rebuild_copy.specs.Rows.{Origin, IsContents, gathered_header, size_in};
-ghost use Rattle.rebuild_copy.specs.Steps.{always_holds, AltersContents, AltersAt, IsFaultUnread};
+ghost use Rattle.rebuild_copy.specs.Steps.{always_holds, ReadsNoMore, AltersContents, AltersAt, IsFaultUnread};
 ghost use Rattle.rebuild_copy.specs.Indexes.{IsIndexOf, UpdatesNameIndex};
 
 use crate::edits::put_bytes;
@@ -120,6 +120,7 @@ fn update_found(
         → section_named (names_in p) change.now.name ≡ Ok s
         → UpdatesNameIndex o p (updated_at p s change.now.name change.now.bytes)
         result x.new index.new }
+    ensures less { OnOk result (ReadsNoMore x.old x.new) }
     ensures unread { IsWithoutDeviceFault result }
 {
     match update_at(alloc, x, s, change) {
@@ -142,6 +143,7 @@ fn update_section<'a>(
     ensures updates { (o : Origin) (p : Object) → IsContents o p x.old
         → IsIndexOf index.old (names_in p)
         → UpdatesNameIndex o p (with_bytes p (bytes_pair change.now)) result x.new index.new }
+    ensures less { OnOk result (ReadsNoMore x.old x.new) }
     ensures unread { IsWithoutDeviceFault result }
 {
     match find_named(alloc, index, &change.name) {

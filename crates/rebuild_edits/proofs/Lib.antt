@@ -1,5 +1,4 @@
 pub use Rattle.rebuild_select.proofs.gelf_view
-pub use Rattle.law_rebuild.proofs.law_object
 pub use Rattle.rebuild_making.proofs as rebuild_making
 pub use Rattle.rebuild_names.proofs as rebuild_names
 pub use Rattle.rebuild_select.proofs as rebuild_select
@@ -7,3 +6,4 @@ pub mod PlaceLaws
 pub mod TextLaws
 pub mod TableLaws
 pub mod StoreLaws
+pub mod edits

@@ -14,7 +14,7 @@ use Rattle.rebuild_names.specs.declared.known.KnownPlaces.{KnownPlaces}
 use Rattle.rebuild_names.specs.Known.{NotesName}
 use Rattle.rebuild_names.specs.Names.{is_too_large_error, IsAddedAt}
 use Rattle.rebuild_names.proofs.AddLaws.{fits_ok, err_added, err_memory, added_at}
-use Rattle.rebuild_names.proofs.CopyLaws.{plain_copied, name_plain}
+use Rattle.rebuild_names.proofs.CopyLaws.{plain_copied}
 use Rattle.rebuild_changes.specs.declared.changes.NameBytes.{NameBytes}
 use Rattle.rebuild_edits.specs.Edits.Names.{mark_of, new_name, name_over, name_now}
 
@@ -68,13 +68,6 @@ plain_bytes name none =
 plain_name : (name : List ℕ) → is_section_name name ≡ true → All (λ b. b ≢ 0) name
 unfolding is_section_name
 plain_name name is = plain_bytes name (not-true (list_any (λ c. c == 0) name) is)
-
-pub plain_stored : (o : Object) (s : ℕ) (found : Option (List ℕ)) → section_name o s ≡ found
-    → All (λ b. b ≢ 0) (or_empty_name found)
-plain_stored o s found is =
-    subst (λ (n : Option (List ℕ)). All (λ b. b ≢ 0) (or_empty_name n)) is
-    (plain_copied {T = Unit {0}} (Ok tt) (or_empty_name (section_name o s)) (section_name o s)
-    (sym (name_plain o s)))
 
 all_get : {X : Type 0} (p : X → Bool) (l : List X) (i : ℕ) (x : X) → list_all p l ≡ true
     → slice_get l i ≡ Some x → p x ≡ true

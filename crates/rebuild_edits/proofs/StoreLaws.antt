@@ -1,35 +1,29 @@
 -- A new table and the places of names, stored.
-use Rattle.std.proofs.Common.{◌≡◌, ◌≢◌, ◌+◌, ◌<◌, ◌≤◌, ℕ, Bool, true, false, not, List, [], ◌∷◌, length, map, get_or, Option, Some, None, Result, Ok, Err, refl, sym, ap, ◌∙◌, subst, inl, inr, arith}
-use Rattle.std.specs.Prelude.{nat_le, slice_get, slice_set, unwrap_or, if◌then◌else◌}
+use Rattle.std.proofs.Common.{◌≡◌, ◌≢◌, ◌+◌, ◌<◌, ◌≤◌, ℕ, Bool, true, not, List, [], ◌∷◌, length, map, get_or, None, refl, sym, ap, ◌∙◌, subst, inl, inr, arith}
+use Rattle.std.specs.Prelude.{slice_get, slice_set, unwrap_or, if◌then◌else◌}
 use Rattle.std.specs.List.{enumerate_from}
-use Rattle.std.proofs.lemmas.Bool.{cases_eq, cases_lt, ne_eqb, lt-leb, leb-true}
+use Rattle.std.proofs.lemmas.Bool.{cases_eq, cases_lt, ne_eqb, lt-leb}
 use Rattle.std.proofs.lemmas.List.{ext_get_or, length-map, get_or-map, set_past, set-get_or}
 use Rattle.std.proofs.lemmas.List.FromFn.{length-enumerate_from, get_or-enumerate_from}
 use Rattle.elf_types.specs.declared.records.Shdr.{Shdr}
 use Rattle.elf_types.specs.declared.records.Part.TheVariants as part
-use Rattle.elf_types.specs.declared.errors.ElfError.{ElfError}
-use Rattle.elf_types.specs.declared.errors.ElfError.TheVariants.{NoSection, Reserved, NoData, Unfit}
-use Rattle.elf_types.specs.Answers.{refused_if, first_refusal, answered}
-use Rattle.elf_xlate.specs.declared.content.Items.{Items}
-use Rattle.elf_xlate.specs.declared.content.Items.TheVariants as items
-use Rattle.elf_xlate.specs.Headers.{shdr_fits}
-use Rattle.elf_xlate.specs.Translation.{first_unfit}
+use Rattle.elf_types.specs.declared.errors.ElfError.TheVariants.{NoSection, Reserved, Unfit}
+use Rattle.elf_types.specs.Answers.{refused_if}
+use Rattle.rebuild_names.specs.elf_xlate.declared.content.Items.{Items}
+use Rattle.rebuild_names.specs.elf_xlate.declared.content.Items.TheVariants as items
+use Rattle.rebuild_names.specs.elf_xlate.Headers.{shdr_fits}
 use Rattle.rebuild_changes.specs.elf_object.Object.{Object, Section, Piece, section_at, piece_at, absent_section}
-use Rattle.rebuild_changes.specs.elf_object.Answers.{no_section, no_data, reserved, piece_count}
+use Rattle.rebuild_changes.specs.elf_object.Answers.{no_section, reserved}
 use Rattle.rebuild_changes.specs.elf_object.Steps.{with_section, with_piece_at, with_own, with_shdr, own_piece}
-use Rattle.rebuild_changes.specs.elf_object.Calls.{update_shdr_refusal, replace_refusal, unfit_items}
-use Rattle.rebuild_changes.specs.elf_object.Calls as calls
-use Rattle.rebuild_changes.specs.elf_object.Words.{handing_back}
+use Rattle.rebuild_changes.specs.elf_object.Calls.{update_shdr_refusal}
 use Rattle.rebuild_changes.specs.elf_object.Valid.{IsObject}
 use Rattle.rebuild_changes.proofs.elf_object.StepLaws.{section_count-with_section, section_at-with_shdr, section_at-with_shdr_other}
 use Rattle.law_rebuild.proofs.law_object.KeepLaws.{section_at_is}
-use Rattle.rebuild_making.specs.elf_descriptor.State.{State}
-use Rattle.rebuild_making.specs.elf_descriptor.Edits.{stepped}
 use Rattle.rebuild_changes.specs.elf_object.Sections.{header_at}
 use Rattle.rebuild_making.proofs.RefusedLaws.{alone, passes_first}
 use Rattle.rebuild_edits.specs.declared.naming.NewNameTable.{NewNameTable}
-use Rattle.rebuild_edits.specs.Edits.Steps.{IsPresentSection, KeepsIndex, Alters}
-use Rattle.rebuild_edits.proofs.edits.StepLaws.{keeps_as, keeps_both}
+use Rattle.rebuild_edits.specs.Edits.Steps.{IsPresentSection, KeepsIndex}
+use Rattle.rebuild_edits.proofs.edits.StepLaws.{keeps_both}
 use Rattle.rebuild_edits.specs.Stores.{with_name_place, with_places, with_table}
 
 -- ---- One name
@@ -182,70 +176,6 @@ unpieced o s own none =
     }) (set_past (get_or o.sections s absent_section).pieces 0 piece none)
     ∙ ap (λ (l : List Section). record o { sections = l }) (set-get_or o.sections s absent_section)
 
-bytes_fit : (o : Object) (s : ℕ) (bytes : List ℕ) → unfit_items o s 0 (items.Bytes bytes) ≡ None
-unfolding first_unfit
-bytes_fit o s bytes = refl
-
--- a table is refused where the section has no data
-no_pieces : (o : Object) (s : ℕ) (bytes : List ℕ) (e : ElfError) → IsPresentSection o s
-    → replace_refusal o s 0 (items.Bytes bytes) ≡ Some e → length (section_at o s).pieces ≤ 0
-unfolding replace_refusal piece_count
-no_pieces o s bytes e there refused = by_test (nat_le (piece_count o s) 0) refl
-  where
-    unfit : Option ElfError
-    unfit = unfit_items o s 0 (items.Bytes bytes)
-
-    last : (second : Option ElfError)
-        → first_refusal (second ∷ None ∷ []) ≡ first_refusal (second ∷ [])
-    last None = refl
-    last (Some d) = refl
-
-    passed : (second : Option ElfError)
-        → first_refusal (no_section o s ∷ reserved s ∷ second ∷ unfit ∷ [])
-        ≡ first_refusal (second ∷ [])
-    passed second =
-        let first = there.0 in
-        passes_first (no_section o s) (reserved s ∷ second ∷ unfit ∷ [])
-        (ap (λ (b : Bool). refused_if b (NoSection s (length o.sections)))
-        (lt-leb (length o.sections) s there.1))
-        ∙ passes_first (reserved s) (second ∷ unfit ∷ [])
-        (ap (λ (b : Bool). refused_if b Reserved)
-        (ne_eqb s 0 (λ none. omega (arith, none, first))))
-        ∙ ap (λ (r : Option ElfError). first_refusal (second ∷ r ∷ [])) (bytes_fit o s bytes)
-        ∙ last second
-
-    by_test : (b : Bool) → nat_le (piece_count o s) 0 ≡ b → piece_count o s ≤ 0
-    by_test true is = leb-true (piece_count o s) 0 is
-    by_test false is =
-        let none : ◌≡◌ {A = Option ElfError} None (Some e) =
-        sym (passed (no_data o s 0)
-        ∙ ap (λ (b : Bool). first_refusal (refused_if b (NoData 0 (piece_count o s)) ∷ [])) is)
-        ∙ refused in
-        cc
-
-handed : (own back : Items) (e : ElfError) (r : Option ElfError)
-    → ◌≡◌ {A = Result (Unit {0}) (Items × ElfError)} (Err (back, e))
-    (handing_back own (answered r tt)) → r ≡ Some e
-handed own back e None came = cc
-handed own back e (Some d) came =
-    let pair : (back, e) ≡ (own, d) = cc in
-    ap (λ (p : Items × ElfError). Some p.1) (sym pair)
-
-pub table_replaced : {S : Type 0} (s : ℕ) (own : Items) (old new : State S)
-    → new ≡ stepped (calls.replace s 0 own) old → new.o ≡ with_own old.o s 0 own
-table_replaced {S} s own old new is = ap (λ (x : State S). x.o) is
-
-pub refused_table_same : {S : Type 0} (s : ℕ) (bytes : List ℕ) (back : Items) (e : ElfError)
-    (old new : State S) → IsPresentSection old.o s
-    → ◌≡◌ {A = Result (Unit {0}) (Items × ElfError)} (Err (back, e))
-    (handing_back (items.Bytes bytes) ((calls.replace s 0 (items.Bytes bytes)).answer old.o))
-    → new ≡ old → new.o ≡ with_own old.o s 0 (items.Bytes bytes)
-refused_table_same {S} s bytes back e old new there came same =
-    ap (λ (x : State S). x.o) same
-    ∙ sym (unpieced old.o s (items.Bytes bytes)
-    (no_pieces old.o s bytes e there
-    (handed (items.Bytes bytes) back e (replace_refusal old.o s 0 (items.Bytes bytes)) came)))
-
 -- ---- All of it
 
 places_keep : (o : Object) (places : List ℕ)
@@ -269,16 +199,6 @@ table_there o mid places is there =
     let from = there.0 in
     let below = there.1 in
     (omega (arith, index, from), omega (arith, index, count, below)))
-
-pub table_stored : (o mid new : Object) (names : NewNameTable) → mid ≡ with_places o names.places
-    → new ≡ with_own mid mid.header.shstrndx 0 (items.Bytes names.table)
-    → new ≡ with_table o names
-unfolding with_table
-table_stored o mid new names is stored =
-    stored
-    ∙ ap (λ (q : Object). with_own q q.header.shstrndx 0 (items.Bytes names.table)) is
-    ∙ ap (λ (n : ℕ). with_own (with_places o names.places) n 0 (items.Bytes names.table))
-    (index_stays o names.places)
 
 index_kept : (o : Object) (s : ℕ) (c : Section)
     → (with_section o s c).header.shstrndx ≡ o.header.shstrndx
@@ -307,13 +227,3 @@ unfolding with_table
 keeps_table o names =
     keeps_both o (with_places o names.places) (with_table o names) (places_kept o names.places)
     (own_kept (with_places o names.places) o.header.shstrndx (items.Bytes names.table))
-
-pub names_stored : {S : Type 0} (names : NewNameTable) (old new : State S)
-    → new.o ≡ with_table old.o names → new.told ≡ old.told
-    → Alters {T = Unit {0}} (Ok (with_table old.o names)) (Ok tt) old new
-names_stored names old new is told = record {
-  told = told;
-  keeps = keeps_as old.o (with_table old.o names) new.o is (keeps_table old.o names);
-  unread = tt;
-  altered = λ t. ap (λ (o : Object). Ok o) (sym is);
-}

@@ -10,7 +10,7 @@ use Rattle.strtab_build.proofs.TableLemmas.{table-distinct}
 use Rattle.rebuild_changes.specs.rebuild_model.Rebuilt.{table_refusal}
 use Rattle.rebuild_edits.specs.declared.naming.Naming.{Naming}
 use Rattle.rebuild_edits.specs.declared.naming.Naming.TheVariants.{Stay, NoTable, TooLarge, Anew}
-use Rattle.rebuild_edits.specs.Texts.{AreTextsAdded, AddsTo, IsTableOf}
+use Rattle.rebuild_edits.specs.Texts.{AreTextsAdded, IsTableOf}
 use Rattle.rebuild_edits.specs.Stores.{IsNaming, IsBuilt}
 
 module _ (texts strings : List (List ℕ)) (places : List ℕ) where
@@ -30,12 +30,6 @@ module _ (texts strings : List (List ℕ)) (places : List ℕ) where
         places_are = are.places_are
             ∙ ap (λ (l : List (List ℕ)). 0 ∷ map (λ text. place_of text texts) l) whole;
       }
-
-  -- so many more are all of them
-  pub adds_all : (n m : ℕ) (fits : Bool) → n ≡ m → AddsTo texts strings places n fits
-      → AddsTo texts strings places m fits
-  adds_all n m fits same adds =
-      subst (λ (k : ℕ). AddsTo texts strings places k fits) same adds
 
 -- what was built is what becomes of the names, where they change and have a table of their own
 pub built_naming : (texts : List (List ℕ)) (change renewed : Bool) (r : Result Naming ElfError)

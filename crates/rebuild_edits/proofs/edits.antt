@@ -6,4 +6,3 @@ pub mod EditLaws
 pub mod UpdateLaws
 pub mod RenameLaws
 pub mod FlagLaws
-mod AddLaws

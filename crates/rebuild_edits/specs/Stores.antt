@@ -3,7 +3,7 @@
 use Rattle.std.specs.Prelude.{◌≡◌, ℕ, ◌==◌, Bool, true, false, List, map, slice_get, unwrap_or, if◌then◌else◌, Some, Result, Ok, Err}
 use Rattle.std.specs.List.{enumerate_from}
 use Rattle.elf_types.specs.declared.errors.ElfError.TheVariants as errors
-use Rattle.elf_xlate.specs.declared.content.Items.TheVariants as items
+use Rattle.rebuild_names.specs.elf_xlate.declared.content.Items.TheVariants as items
 use Rattle.rebuild_changes.specs.elf_object.Object.{Object, Section}
 use Rattle.rebuild_changes.specs.elf_object.Steps.{with_own}
 use Rattle.rebuild_changes.specs.rebuild_model.Copied.{CopyFault as StatedFault}

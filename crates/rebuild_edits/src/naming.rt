@@ -1,5 +1,7 @@
 //! What becomes of the names of sections.
 
+ghost use Rattle.std.specs.Prelude.{◌≡◌, slice_get, unwrap_or};
+
 use elf_types::Words;
 use strtab_shared::bytes::SharedBytes;
 
@@ -23,4 +25,11 @@ pub enum Naming {
     TooLarge,
     /// They are stored in a new table.
     Anew(NewNameTable),
+}
+
+/// The place of a section's name in a table, in bytes, and 0 where none is told.
+pub fn place_at(places: &Words, s: u32) -> u32
+    ensures { result ≡ unwrap_or (slice_get places.now s) 0 }
+{
+    places.get(u64::from(s)).unwrap_or(0)
 }

@@ -1,23 +1,15 @@
 //! Names that are added to a table in the making, with their places.
 
-ghost use Rattle.std.specs.Prelude.{◌≡◌, ◌≢◌, ◌<◌, ◌∷◌, ◌++◌, [], true, false, length, All, IsTrue, IfOk, OnOk, IfErr};
+ghost use Rattle.std.specs.Prelude.{◌≡◌, ◌≢◌, true, false, All, IfOk, IfErr};
 ghost use Rattle.std.specs.Option.{option_copied};
 ghost use Rattle.elf_types.specs.declared.errors.ElfError.TheVariants.{Memory};
 ghost use Rattle.rebuild_changes.specs.elf_object.Strings as strings;
-ghost use Rattle.rebuild_select.specs.Calls.{ReadsNames};
-ghost use Rattle.rebuild_names.specs.Known.{KnowsMore, NotesName, AreHeld};
-ghost use Rattle.rebuild_names.specs.Names.{is_too_large_error, old_name, IsAddedAt};
-ghost use Rattle.rebuild_changes.specs.Stated.{HasPlainNames};
-ghost use Rattle.rebuild_edits.specs.Edits.Names.{name_now};
+ghost use Rattle.rebuild_names.specs.Known.{NotesName};
+ghost use Rattle.rebuild_names.specs.Names.{is_too_large_error, IsAddedAt};
 
-use crate::edits::{mark_of, new_name};
-use elf_outside::Source;
-use elf_types::{ElfError, List, ScnId, Words};
-use rebuild_changes::ChangeLists;
-use rebuild_making::prelude::Elf;
-use rebuild_names::prelude::{NOWHERE, SharedStrings};
-use rebuild_names::{KnownPlaces, name_field, note_place, push_place};
-use rebuild_select::prelude::gelf_view_section_name as section_name;
+use elf_types::{ElfError, Words};
+use rebuild_names::prelude::SharedStrings;
+use rebuild_names::{KnownPlaces, note_place, push_place};
 
 /// A table of names in the making.
 #[derive(Drop)]
@@ -104,78 +96,5 @@ pub fn place_found(
     match name {
         Some(name) => place_noted(making, at, name, near),
         None => place_noted(making, at, &[], near),
-    }
-}
-
-/// Adds the name of a section that is there, as it is stored at a place of the table of the names,
-/// and notes its place.
-fn place_read<S: Source>(
-    elf: &mut Elf<S>,
-    s: ScnId,
-    at: u32,
-    making: &mut Making,
-) -> Result<bool, ElfError>
-    requires there { s.0 < length elf.old.o.sections }
-    requires told { IsTrue elf.old.told }
-    ensures placed { IfOk result (λ fits. IsAddedAt making.old.strings making.new.strings
-        making.old.places making.new.places
-        (strings.or_empty_name (strings.section_name elf.old.o s.0)) fits) }
-    ensures noted { IfOk result (NotesName at
-        (strings.or_empty_name (strings.section_name elf.old.o s.0)) making.new.strings
-        making.old.known making.new.known) }
-    ensures reads { ReadsNames S.Source result elf.old elf.new }
-{
-    match section_name(elf, s) {
-        Ok(name) => place_found(making, at, name, NOWHERE),
-        Err(e) => Err(e),
-    }
-}
-
-/// Adds the stored name of a section, unless a name was added before from the same place: it is not
-/// looked at again.
-fn place_stored<S: Source>(
-    elf: &mut Elf<S>,
-    s: ScnId,
-    making: &mut Making,
-) -> Result<bool, ElfError>
-    requires there { s.0 < length elf.old.o.sections }
-    requires told { IsTrue elf.old.told }
-    requires known { AreHeld (old_name elf.old.o) making.old.known making.old.strings }
-    ensures placed { IfOk result (λ fits. IsAddedAt making.old.strings making.new.strings
-        making.old.places making.new.places
-        (strings.or_empty_name (strings.section_name elf.old.o s.0)) fits) }
-    ensures known { IfOk result (λ fits. fits ≡ true
-        → AreHeld (old_name elf.old.o) making.new.known making.new.strings) }
-    ensures reads { ReadsNames S.Source result elf.old elf.new }
-{
-    let at = name_field(elf, s);
-    match making.known.find(at) {
-        Some(place) => push_place(&mut making.places, place),
-        None => place_read(elf, s, at, making),
-    }
-}
-
-/// Adds the name that a section which is there has by now, and notes its place.
-pub(crate) fn place_section<S: Source>(
-    elf: &mut Elf<S>,
-    s: ScnId,
-    marks: &List<u64>,
-    changes: &ChangeLists,
-    making: &mut Making,
-) -> Result<bool, ElfError>
-    requires there { s.0 < length elf.old.o.sections }
-    requires told { IsTrue elf.old.told }
-    requires plain { HasPlainNames changes.now }
-    requires known { AreHeld (old_name elf.old.o) making.old.known making.old.strings }
-    ensures placed { IfOk result (λ fits. IsAddedAt making.old.strings making.new.strings
-        making.old.places making.new.places
-        (strings.or_empty_name (name_now elf.old.o marks.now changes.now.rename s.0)) fits) }
-    ensures known { IfOk result (λ fits. fits ≡ true
-        → AreHeld (old_name elf.old.o) making.new.known making.new.strings) }
-    ensures reads { ReadsNames S.Source result elf.old elf.new }
-{
-    match new_name(&changes.rename, mark_of(marks, s.0)) {
-        Some(name) => place_text(making, name.as_slice(), NOWHERE),
-        None => place_stored(elf, s, making),
     }
 }

@@ -2,11 +2,9 @@
 use Rattle.std.proofs.Common.{◌≡◌, inl, ℕ, ◌+◌, ◌-◌, ◌<◌, ◌≤◌, zero, suc, Bool, List, [], ◌∷◌, ◌++◌, length, append-nil, append_assoc, length-append, Result, Ok, Err, refl, sym, ap, ◌∙◌, subst, arith}
 use Rattle.std.specs.Prelude.{IsTrue, IfErr, OnOk, sum_by}
 use Rattle.std.specs.List.{range_with_len}
-use Rattle.std.proofs.lemmas.List.{length-map}
-use Rattle.std.proofs.lemmas.List.FromFn.{length-range_with_len, map-range_with_len_more}
+use Rattle.std.proofs.lemmas.List.FromFn.{length-range_with_len}
 use Rattle.std.proofs.lemmas.List.Sums.{sum_by_push}
 use Rattle.elf_types.specs.declared.constants.TheConstants.{MAX_SECTIONS}
-use Rattle.elf_types.specs.declared.records.Shdr.{Shdr}
 use Rattle.elf_types.specs.declared.errors.ElfError.{ElfError}
 use Rattle.elf_types.specs.declared.errors.ElfError.TheVariants.{Memory}
 use Rattle.elf_outside.specs.declared.sources.Source.{Ghosts}
@@ -21,33 +19,12 @@ use Rattle.rebuild_plan.specs.rebuild_making.Made.{with_more, with_last, grown_t
 use Rattle.rebuild_plan.specs.rebuild_keep.Makes.{AsksFor}
 use Rattle.rebuild_plan.proofs.rebuild_keep.AskLaws.{asks_nothing, asks_twice, asks_more}
 use Rattle.rebuild_plan.specs.declared.arranged.Arranged.{Arranged}
-use Rattle.rebuild_object.specs.Objects.{arranged_header, arranged_items, section_range_due, section_ranges_due, arranged_numbers, IsUnstated}
-use Rattle.rebuild_object.specs.Filled.{HasSectionsOf}
+use Rattle.rebuild_object.specs.Objects.{arranged_header, arranged_items, arranged_kind, items_over, range_in, section_range_due, section_ranges_due, arranged_numbers, IsUnstated}
+use Rattle.rebuild_object.specs.Filled.{IsReadSection, AreReadSections, HasSectionsOf}
+use Rattle.rebuild_object.proofs.ReadLaws.{none_read, one_read, more_read}
+use Rattle.rebuild_object.proofs.StatedLaws.{stated_one, stated_none, stated_long, stated_next}
 
 -- ---- Lists
-
-stated_more : (header : ℕ → Shdr) (items : ℕ → Items) (n : ℕ)
-    → sections_by header items (range_with_len 1 (n + 1))
-    ≡ sections_by header items (range_with_len 1 n)
-    ++ sections_by header items ((1 + n) ∷ [])
-unfolding sections_by
-stated_more header items n =
-    map-range_with_len_more (λ s. made_section (header s) (items s)) 1 n (1 + n) refl
-
-stated_one : (header : ℕ → Shdr) (items : ℕ → Items) (s : ℕ)
-    → sections_by header items (s ∷ []) ≡ made_section (header s) (items s) ∷ []
-unfolding sections_by
-stated_one header items s = refl
-
-stated_none : (header : ℕ → Shdr) (items : ℕ → Items) → sections_by header items [] ≡ []
-unfolding sections_by
-stated_none header items = refl
-
-pub stated_long : (header : ℕ → Shdr) (items : ℕ → Items) (numbers : List ℕ)
-    → length (sections_by header items numbers) ≡ length numbers
-unfolding sections_by
-stated_long header items numbers =
-    length-map numbers (λ s. made_section (header s) (items s))
 
 more_none : (o : Object) → o.header.shnum ≡ length o.sections → with_more o [] ≡ o
 more_none o count =
@@ -76,7 +53,8 @@ due_step x n =
 due_by : (x : Arranged) (m k : ℕ) → section_ranges_due x m ≤ section_ranges_due x (m + k)
 due_by x m zero =
     let same : m ≡ m + 0 = omega arith in
-    let alike : section_ranges_due x m ≡ section_ranges_due x (m + 0) = ap (section_ranges_due x) same in
+    let alike : section_ranges_due x m ≡ section_ranges_due x (m + 0) =
+    ap (section_ranges_due x) same in
     omega (arith, alike)
 due_by x m (suc k) =
     let before = due_by x m k in
@@ -89,7 +67,8 @@ due_by x m (suc k) =
 due_grows : (x : Arranged) (m n : ℕ) → m ≤ n → section_ranges_due x m ≤ section_ranges_due x n
 due_grows x m n low =
     let same : m + (n - m) ≡ n = omega (arith, low) in
-    let alike : section_ranges_due x (m + (n - m)) ≡ section_ranges_due x n = ap (section_ranges_due x) same in
+    let alike : section_ranges_due x (m + (n - m)) ≡ section_ranges_due x n =
+    ap (section_ranges_due x) same in
     let before = due_by x m (n - m) in
     omega (arith, before, alike)
 
@@ -103,18 +82,27 @@ is_memory (Err e) only = inl only
 pub one_more : {A S : Type 0} (r : Result A ElfError) (told : Bool) (o : Object) (x : Arranged)
     (s : ℕ) (items : Items) (old new : State S)
     → (IsTrue told → items ≡ arranged_items o x s)
+    → IsReadSection o x.held (arranged_header x s) (range_in x s) (arranged_kind x s) items
     → OnOk r (new ≡ grown_to old (with_last old.o (made_section (arranged_header x s) items)))
     → OnOk r (HasSectionsOf told o x (s ∷ []) old new)
-one_more {A} {S} (Ok u) told o x s items old new exact is = record {
+one_more {A} {S} (Ok u) told o x s items old new exact read is = record {
   sections = made_section (arranged_header x s) items ∷ [];
   object = ap (λ (t : State S). t.o) is;
   told_is = ap (λ (t : State S). t.told) is;
-  long = sym (stated_long (arranged_header x) (arranged_items o x) (s ∷ []));
   exact = λ t.
       ap (λ (i : Items). made_section (arranged_header x s) i ∷ []) (exact t)
       ∙ sym (stated_one (arranged_header x) (arranged_items o x) s);
+  read = one_read o x s items read;
 }
-one_more (Err e) told o x s items old new exact is = tt
+one_more (Err e) told o x s items old new exact read is = tt
+
+-- as many as there are numbers
+pub many : {S : Type 0} (told : Bool) (o : Object) (x : Arranged) (numbers : List ℕ)
+    (old new : State S) (has : HasSectionsOf told o x numbers old new)
+    → length has.sections ≡ length numbers
+many told o x numbers old new has =
+    ap (λ (l : List Section). length l) has.read.is
+    ∙ stated_long (arranged_header x) (items_over has.read.bases o x) numbers
 
 -- ---- One after another
 
@@ -137,9 +125,8 @@ module _ {S T : Type 0} (g : Ghosts S) (x : Arranged) (first : State S)
       sections = [];
       object = sym (more_none start.o is.shnum);
       told_is = refl;
-      long = ap (λ (l : List Section). length l)
-          (sym (stated_none (arranged_header x) (arranged_items first.o x)));
       exact = λ t. sym (stated_none (arranged_header x) (arranged_items first.o x));
+      read = none_read first.o x;
     };
     asks = asks_nothing g (Ok tt) first 0 tt;
   }
@@ -153,16 +140,12 @@ module _ {S T : Type 0} (g : Ghosts S) (x : Arranged) (first : State S)
         ap (λ (o : Object). length o.sections) so.adds.object
         ∙ length-append start.o.sections so.adds.sections
         ∙ ap (λ (n : ℕ). length start.o.sections + n)
-        (so.adds.long
-        ∙ stated_long (arranged_header x) (arranged_items first.o x) (range_with_len 1 (s - 1))
+        (many first.told first.o x (range_with_len 1 (s - 1)) start made so.adds
         ∙ length-range_with_len 1 (s - 1))
 
     pub made_room : length start.o.sections ≡ 1 → s < length x.listed.headers
         → length x.listed.headers ≤ MAX_SECTIONS → length made.o.sections < MAX_SECTIONS
     made_room one there few = omega (arith, long_is, one, there, few, some)
-
-    numbers_more : range_with_len 1 (s - 1 + 1) ≡ range_with_len 1 s
-    numbers_more = ap (range_with_len 1) (omega (arith, some))
 
     next_number : 1 + (s - 1) ≡ s
     next_number = omega (arith, some)
@@ -174,16 +157,6 @@ module _ {S T : Type 0} (g : Ghosts S) (x : Arranged) (first : State S)
         ∙ sym (due_step x (s - 1))
         ∙ ap (section_ranges_due x) same
 
-    stated_next : sections_by (arranged_header x) (arranged_items first.o x) (range_with_len 1 (s - 1))
-        ++ sections_by (arranged_header x) (arranged_items first.o x) (s ∷ [])
-        ≡ sections_by (arranged_header x) (arranged_items first.o x) (range_with_len 1 s)
-    stated_next =
-        ap (λ (n : ℕ). sections_by (arranged_header x) (arranged_items first.o x)
-        (range_with_len 1 (s - 1))
-        ++ sections_by (arranged_header x) (arranged_items first.o x) (n ∷ [])) (sym next_number)
-        ∙ sym (stated_more (arranged_header x) (arranged_items first.o x) (s - 1))
-        ∙ ap (sections_by (arranged_header x) (arranged_items first.o x)) numbers_more
-
     pub adds_next : (next : State S) (more : State T) → s < length x.listed.headers
         → HasSectionsOf now.told now.o x (s ∷ []) made more
         → AsksFor {T = Unit {0}} g (Ok tt) now next (section_range_due x s)
@@ -191,13 +164,6 @@ module _ {S T : Type 0} (g : Ghosts S) (x : Arranged) (first : State S)
     adds_next next more there has asks =
         let back : s ≡ s + 1 - 1 = omega arith in
         let done : Result (Unit {0}) ElfError = Ok tt in
-        let e1 = length-append so.adds.sections has.sections in
-        let e2 = so.adds.long
-        ∙ stated_long (arranged_header x) (arranged_items first.o x) (range_with_len 1 (s - 1))
-        ∙ length-range_with_len 1 (s - 1) in
-        let e3 = has.long ∙ stated_long (arranged_header x) (arranged_items now.o x) (s ∷ []) in
-        let e4 = stated_long (arranged_header x) (arranged_items first.o x) (range_with_len 1 s)
-        ∙ length-range_with_len 1 s in
         record {
           adds = subst (λ (n : ℕ). HasSectionsOf first.told first.o x (range_with_len 1 n)
               start more) back (record {
@@ -206,19 +172,22 @@ module _ {S T : Type 0} (g : Ghosts S) (x : Arranged) (first : State S)
                     ∙ ap (λ (o : Object). with_more o has.sections) so.adds.object
                     ∙ more_twice start.o so.adds.sections has.sections;
                 told_is = has.told_is ∙ so.adds.told_is;
-                long = e1 ∙ omega (arith, e2, e3, e4, some);
                 exact = λ t.
                     ap (λ (l : List Section). l ++ has.sections) (so.adds.exact t)
                     ∙ ap (λ (l : List Section).
-                    sections_by (arranged_header x) (arranged_items first.o x) (range_with_len 1 (s - 1))
-                    ++ l)
+                    sections_by (arranged_header x) (arranged_items first.o x)
+                    (range_with_len 1 (s - 1)) ++ l)
                     (has.exact (subst (λ (b : Bool). IsTrue b) (sym so.asks.told) t)
-                    ∙ ap (λ (o : Object). sections_by (arranged_header x) (arranged_items o x) (s ∷ []))
+                    ∙ ap (λ (o : Object).
+                    sections_by (arranged_header x) (arranged_items o x) (s ∷ []))
                     so.asks.object)
-                    ∙ stated_next;
+                    ∙ stated_next (arranged_header x) (arranged_items first.o x) s some;
+                read = more_read first.o x s some so.adds.sections has.sections so.adds.read
+                    (subst (λ (o : Object). AreReadSections o x (s ∷ []) has.sections)
+                    so.asks.object has.read);
               });
-          asks = subst (λ (n : ℕ). AsksFor {T = Unit {0}} g (Ok tt) first next (section_ranges_due x n))
-              back
+          asks = subst (λ (n : ℕ).
+              AsksFor {T = Unit {0}} g (Ok tt) first next (section_ranges_due x n)) back
               (subst (λ (n : ℕ). AsksFor {T = Unit {0}} g (Ok tt) first next n) due_next
               (asks_twice g done done first now next
               (section_ranges_due x (s - 1)) (section_range_due x s) so.asks asks));
@@ -234,7 +203,8 @@ module _ {S T : Type 0} (g : Ghosts S) (x : Arranged) (first : State S)
         let r : Result (Unit {0}) ElfError = Err e in
         let done : Result (Unit {0}) ElfError = Ok tt in
         let low : s ≤ length x.listed.headers - 1 = omega (arith, there) in
-        asks_more g r first next (section_ranges_due x s) (section_ranges_due x (length x.listed.headers - 1))
+        asks_more g r first next (section_ranges_due x s)
+        (section_ranges_due x (length x.listed.headers - 1))
         (due_grows x s (length x.listed.headers - 1) low)
         (subst (λ (n : ℕ). AsksFor {T = Unit {0}} g (Err e) first next n) due_next
         (asks_twice g done r first now next
@@ -254,5 +224,5 @@ module _ {S T : Type 0} (g : Ghosts S) (x : Arranged) (first : State S)
       pub asks_all : AsksFor {T = Unit {0}} g (Ok tt) first now
           (section_ranges_due x (length x.listed.headers - 1))
       asks_all =
-          subst (λ (n : ℕ). AsksFor {T = Unit {0}} g (Ok tt) first now (section_ranges_due x n)) all_are
-          so.asks
+          subst (λ (n : ℕ). AsksFor {T = Unit {0}} g (Ok tt) first now (section_ranges_due x n))
+          all_are so.asks

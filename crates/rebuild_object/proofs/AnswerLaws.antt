@@ -77,8 +77,28 @@ arranged_tail old new came = by old.tail refl came
         let same : old ≡ new = cc in ap (λ (r : Rebuilt). r.tail) (sym same)
     by (Some tail) at is = by_refusal tail (tail_refusal old.object tail) is
 
-abbrev as_answer : Object → Option ℕ → Result Rebuilt ElfError
+abbrev pub as_answer : Object → Option ℕ → Result Rebuilt ElfError
 as_answer q n = Ok (record { object = q; tail = n })
+
+-- what was arranged of an object without some sections is what the stated one is made of
+pub rebuilt_over : (o : Object) (removed : List ℕ) (x : Arranged)
+    → ArrangedAnswers o (Ok x) (rebuilt o removed) → MakesRebuilt o removed x → IsObject o
+    → is_dirty o ≡ false → FitsClass o → is_among removed 0 ≡ false
+    → rebuilt o removed ≡ as_answer (object_from_arranged o x) x.tail
+rebuilt_over o removed x found makes is clean fit stays =
+    let r = found.0 in
+    let stated : rebuilt o removed ≡ Ok r = found.1 in
+    let created = rebuilt_created o removed r is clean fit stays stated in
+    let of_plan : IsCreatedWith o x.kinds r.object =
+    subst (λ (ks : List Kind). IsCreatedWith o ks r.object) (sym makes.kinds_are) created in
+    let same : object_from_arranged o x ≡ r.object = plans_make o r.object x found.2 of_plan in
+    let tail : r.tail ≡ x.tail =
+    arranged_tail (record { object = rebuilt_object o removed; tail = rebuilt_tail o removed }) r
+    (rebuilt_known o removed r stated).is
+    ∙ sym makes.tail_is in
+    stated
+    ∙ ap (λ (q : Object). as_answer q r.tail) (sym same)
+    ∙ ap (λ (n : Option ℕ). as_answer (object_from_arranged o x) n) tail
 
 module _ {S : Type 0} (old mid : State S) (object : mid.o ≡ old.o) (told : mid.told ≡ old.told)
     (removed : List ℕ) (is : IsObject old.o) (clean : is_dirty old.o ≡ false)
@@ -88,23 +108,11 @@ module _ {S : Type 0} (old mid : State S) (object : mid.o ≡ old.o) (told : mid
       → MakesRebuilt old.o removed x → (IsTrue mid.told → made ≡ object_from_arranged mid.o x)
       → IsTrue old.told → rebuilt old.o removed ≡ as_answer made x.tail
   object_answers x made answer makes is_made t =
-      let found = answer t in
-      let r = found.0 in
-      let stated : rebuilt old.o removed ≡ Ok r = found.1 in
-      let created = rebuilt_created old.o removed r is clean (fit t) stays stated in
-      let of_plan : IsCreatedWith old.o x.kinds r.object =
-      subst (λ (ks : List Kind). IsCreatedWith old.o ks r.object) (sym makes.kinds_are) created in
-      let same : made ≡ r.object =
+      let same : made ≡ object_from_arranged old.o x =
       is_made (subst (λ (b : Bool). IsTrue b) (sym told) t)
-      ∙ ap (λ (o : Object). object_from_arranged o x) object
-      ∙ plans_make old.o r.object x found.2 of_plan in
-      let tail : r.tail ≡ x.tail =
-      arranged_tail (record { object = rebuilt_object old.o removed; tail = rebuilt_tail old.o removed })
-      r (rebuilt_known old.o removed r stated).is
-      ∙ sym makes.tail_is in
-      stated
-      ∙ ap (λ (q : Object). as_answer q r.tail) (sym same)
-      ∙ ap (λ (n : Option ℕ). as_answer made n) tail
+      ∙ ap (λ (o : Object). object_from_arranged o x) object in
+      rebuilt_over old.o removed x (answer t) makes is clean (fit t) stays
+      ∙ ap (λ (q : Object). as_answer q x.tail) (sym same)
 
 -- ---- What is asked for
 
@@ -139,8 +147,8 @@ unfolding object_due
 object_due_within x =
     let m = length x.listed.headers - 1 in
     let all = sums_within (section_range_due x) x.ranges 0 (suc m)
-    (λ s i at. subst (λ (n : ℕ). section_range_due x n ≤ range_due (range_in x s)) (sym (at_0 i s at))
-    (section_within x s)) in
+    (λ s i at. subst (λ (n : ℕ). section_range_due x n ≤ range_due (range_in x s))
+    (sym (at_0 i s at)) (section_within x s)) in
     let one = sum_by-cons (section_range_due x) 0 (range_with_len 1 m) in
     omega (arith, all, one)
   where

@@ -63,7 +63,7 @@ kind_made o removed s some =
 
 -- ---- A section
 
-made_with : (class : Class) (kind : Kind) (c : Section) (h : Shdr) (own : Items)
+pub made_with : (class : Class) (kind : Kind) (c : Section) (h : Shdr) (own : Items)
     → c ≡ made_section h own → items_kind own ≡ kind → AreItems own
     → first_unfit class own ≡ None → IsMadeWith class kind c
 unfolding made_section

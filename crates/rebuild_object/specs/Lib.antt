@@ -7,8 +7,8 @@ pub use Rattle.rebuild_plan.specs.rebuild_making
 pub use Rattle.rebuild_plan.specs as rebuild_plan
 pub use Rattle.rebuild_plan.specs.rebuild_select
 pub mod Objects
+pub mod Planned
 pub mod Fitting
 pub mod Filled
-pub mod Planned
 pub mod Halves
 pub mod Rebuilding

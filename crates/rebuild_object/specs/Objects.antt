@@ -10,6 +10,7 @@ use Rattle.elf_types.specs.declared.records.Kind.TheVariants as kinds
 use Rattle.elf_types.specs.declared.records.Shdr.{Shdr}
 use Rattle.elf_types.specs.declared.errors.ElfError.{ElfError}
 use Rattle.elf_types.specs.declared.errors.ElfError.TheVariants.{Memory, Read}
+use Rattle.elf_types.specs.Lists.{AreBytes}
 use Rattle.elf_xlate.specs.declared.content.Items.{Items}
 use Rattle.elf_xlate.specs.declared.content.Items.TheVariants as items
 use Rattle.elf_object.specs.elf_ident.Front.{zero_shdr}
@@ -45,11 +46,36 @@ range_items class order held base h range kind =
     if occupies_file h then decoded_items kind class order (range_bytes held base range)
     else items.Empty
 
--- the items of the section with a number
-abbrev pub arranged_items : Object → Arranged → ℕ → Items
-arranged_items o x s =
-    range_items o.header.class o.header.order x.held o.base (arranged_header x s) (range_in x s)
+-- ---- The bytes that were read
+
+-- those of the front, and for each section those that its range is one of; a source that does not
+-- tell its bytes may give others at each read
+pub record Bases : Type 0 where
+  pub front : List ℕ
+  pub each : ℕ → List ℕ
+
+-- one base for all
+abbrev pub bases_of : List ℕ → Bases
+bases_of base = record { front = base; each = λ s. base }
+
+-- they are bytes, as many as an object's base has
+pub record AreBasesOf (o : Object) (b : Bases) : Type 0 where
+  pub front_bytes : AreBytes b.front
+  pub front_long : length b.front ≡ length o.base
+  pub bytes : (s : ℕ) → AreBytes (b.each s)
+  pub long : (s : ℕ) → length (b.each s) ≡ length o.base
+
+-- ---- The items of the section with a number
+
+-- over the bytes that were read
+abbrev pub items_over : Bases → Object → Arranged → ℕ → Items
+items_over b o x s =
+    range_items o.header.class o.header.order x.held (b.each s) (arranged_header x s) (range_in x s)
     (arranged_kind x s)
+
+-- over the object's base
+abbrev pub arranged_items : Object → Arranged → ℕ → Items
+arranged_items o x s = items_over (bases_of o.base) o x s
 
 -- ---- All sections
 
@@ -57,18 +83,32 @@ arranged_items o x s =
 abbrev pub arranged_numbers : Arranged → List ℕ
 arranged_numbers x = range_with_len 1 (length x.listed.headers - 1)
 
-unfoldable pub sections_in : Object → Arranged → List Section
-sections_in o x =
+unfoldable pub sections_over : Bases → Object → Arranged → List Section
+sections_over b o x =
     if length x.listed.headers == 0 then []
-    else new_section ∷ sections_by (arranged_header x) (arranged_items o x) (arranged_numbers x)
+    else new_section ∷ sections_by (arranged_header x) (items_over b o x) (arranged_numbers x)
+
+abbrev pub sections_in : Object → Arranged → List Section
+sections_in o x = sections_over (bases_of o.base) o x
 
 -- ---- The object
 
-unfoldable pub object_from_arranged : Object → Arranged → Object
-object_from_arranged o x =
+unfoldable pub object_over : Bases → Object → Arranged → Object
+object_over b o x =
     with_ehdr
-    (with_phdrs (with_sections (over_base o x.tail) (sections_in o x)) o.phdrs)
+    (with_phdrs
+    (with_sections (over_base (record o { base = b.front }) x.tail) (sections_over b o x)) o.phdrs)
     x.listed.header
+
+-- where the object's base was read
+abbrev pub object_from_arranged : Object → Arranged → Object
+object_from_arranged o x = object_over (bases_of o.base) o x
+
+-- an object is that of a plan, over some bytes
+pub record IsObjectRead (o : Object) (x : Arranged) (q : Object) : Type 0 where
+  pub bases : Bases
+  pub suit : AreBasesOf o bases
+  pub is : q ≡ object_over bases o x
 
 -- ---- What is read
 

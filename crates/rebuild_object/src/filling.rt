@@ -5,11 +5,10 @@ ghost use Rattle.elf_types.specs.declared.constants.TheConstants.{MAX_SECTIONS};
 ghost use Rattle.elf_object.specs.Calls.{update_ehdr_refusal};
 ghost use Rattle.elf_object.specs.Calls as calls;
 ghost use Rattle.rebuild_plan.specs.elf_descriptor.Edits.{stepped};
-ghost use Rattle.rebuild_plan.specs.rebuild_keep.Answers.{HasSections};
 ghost use Rattle.rebuild_plan.specs.rebuild_keep.Makes.{AsksFor};
-ghost use Rattle.rebuild_object.specs.Filled.{HasSectionsOf, IsMadeBy};
+ghost use Rattle.rebuild_object.specs.Filled.{HasSectionsOf, HasPlanned, IsMadeBy};
 ghost use Rattle.rebuild_object.specs.Fitting.{IsArrangementReady};
-ghost use Rattle.rebuild_object.specs.Objects.{IsUnstated, arranged_numbers, sections_in, section_range_due, section_ranges_due};
+ghost use Rattle.rebuild_object.specs.Objects.{IsUnstated, arranged_numbers, section_range_due, section_ranges_due};
 
 use crate::reading::section_items;
 use elf_outside::{NoSource, Source};
@@ -83,8 +82,7 @@ fn fill_sections<S: Source>(
     requires empty { made.old.o.sections ≡ [] }
     requires count { made.old.o.header.shnum ≡ 0 }
     requires class { made.old.o.header.class ≡ elf.old.o.header.class }
-    ensures sections { OnOk result (HasSections elf.old.told
-        (sections_in elf.old.o x.now) made.old made.new) }
+    ensures sections { OnOk result (HasPlanned elf.old.told elf.old.o x.now made.old made.new) }
     ensures err { IfErr result IsUnstated }
     ensures asks { AsksFor S.Source result elf.old elf.new
         (section_ranges_due x.now (length x.now.listed.headers - 1)) }

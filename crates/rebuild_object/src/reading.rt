@@ -1,15 +1,17 @@
 //! The bytes of a range, read as items.
 
 ghost use Rattle.std.specs.Prelude.{◌≡◌, ◌≤◌, ◌+◌, length, take, drop, true, IsTrue, IfOk, IfErr};
+ghost use Rattle.elf_types.specs.Lists.{AreBytes};
 ghost use Rattle.elf_xlate.specs.Translation.{is_whole};
 ghost use Rattle.rebuild_plan.specs.rebuild_image.Ranges.Ranges.{IsInside, range_bytes, range_due};
 ghost use Rattle.rebuild_plan.specs.rebuild_keep.Homes.{decoded_items};
 ghost use Rattle.rebuild_plan.specs.rebuild_keep.Makes.{AsksFor, FitsAs};
 ghost use Rattle.rebuild_object.specs.Objects.{range_items, due_of, IsUnstated};
 ghost use Rattle.rebuild_object.specs.Fitting.{IsSectionReady};
+ghost use Rattle.rebuild_object.specs.Filled.{IsReadRange, IsReadSection};
 
 use elf_outside::Source;
-use elf_types::{Class, ElfError, Kind, Octets, Order, Shdr};
+use elf_types::{Class, ElfError, Kind, Octets, Order, Shdr, bytes_are_ranged};
 use elf_xlate::{Items, XlateError, to_memory};
 use rebuild_plan::prelude::{ByteRange, Elf, SharedBytes, occupies_file};
 use std::alloc::Global;
@@ -25,12 +27,15 @@ fn base_octets<S: Source>(
     ensures told { IsTrue elf.old.told
         → IfOk result (λ octets. octets ≡ take len (drop at elf.old.o.base)) }
     ensures long { IfOk result (λ octets. length octets ≡ len) }
+    ensures bytes { IfOk result AreBytes }
     ensures err { IfErr result IsUnstated }
     ensures asks { AsksFor S.Source result elf.old elf.new len }
 {
     let mut bytes = vec![in alloc; 0u8; len as usize]?;
     elf.copy_base(at, bytes.as_mut_slice())?;
-    Ok(Octets::from_vec(bytes))
+    let octets = Octets::from_vec(bytes);
+    bytes_are_ranged(octets.as_slice());
+    Ok(octets)
 }
 
 /// The bytes of a range, copied: of those that are held, or of the base. It fails with `Memory` and
@@ -45,6 +50,7 @@ fn range_octets<S: Source>(
     ensures told { IsTrue elf.old.told
         → IfOk result (λ octets. octets ≡ range_bytes held.now elf.old.o.base range) }
     ensures long { IfOk result (λ octets. length octets ≡ range.len) }
+    ensures read { IfOk result (IsReadRange held.now elf.old.o.base range) }
     ensures err { IfErr result IsUnstated }
     ensures asks { AsksFor S.Source result elf.old elf.new (range_due range) }
 {
@@ -109,6 +115,7 @@ pub(crate) fn section_items<S: Source>(
         ≡ range_items elf.old.o.header.class elf.old.o.header.order held.now elf.old.o.base h.now
         range kind) }
     ensures fits { IfOk result (FitsAs elf.old.o.header.class) }
+    ensures read { IfOk result (IsReadSection elf.old.o held.now h.now range kind) }
     ensures err { IfErr result IsUnstated }
     ensures asks { AsksFor S.Source result elf.old elf.new (due_of h.now range) }
 {

@@ -1,7 +1,3 @@
-pub use Rattle.tool_files.proofs.elf_descriptor
-pub use Rattle.tool_files.proofs as tool_files
-pub use Rattle.elfkit_outcomes.proofs.tool_objects
-pub mod StripLemmas
-pub mod CopyLemmas
-pub mod PlanLemmas
+pub use Rattle.rebuild_files.proofs.tool_files
+mod StripLemmas
 mod WriteLemmas

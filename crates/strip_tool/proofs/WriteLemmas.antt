@@ -7,25 +7,25 @@ use Rattle.elf_types.specs.Text.{error_text}
 use Rattle.elf_outside.specs.declared.sources.Source.{Ghosts as SourceGhosts}
 use Rattle.elf_outside.specs.declared.sinks.Sink.{Ghosts as SinkGhosts}
 use Rattle.elf_outside.specs.declared.file_sets.Files.{Ghosts as FilesGhosts}
-use Rattle.elfkit_outcomes.specs.elf_object.Object.{Object}
-use Rattle.tool_files.specs.elf_descriptor.State.{State}
-use Rattle.elfkit_outcomes.specs.rebuild_model.Removed.{removed_sections}
-use Rattle.elfkit_outcomes.specs.rebuild_model.Rebuilt.{rebuilt}
-use Rattle.elfkit_outcomes.specs.rebuild_model.Files.{file_made}
-use Rattle.elfkit_outcomes.specs.Strip.{strip_alone}
+use Rattle.rebuild_files.specs.elfkit_outcomes.elf_object.Object.{Object}
+use Rattle.rebuild_files.specs.elf_descriptor.State.{State}
+use Rattle.rebuild_files.specs.elfkit_outcomes.rebuild_model.Removed.{removed_sections}
+use Rattle.rebuild_files.specs.elfkit_outcomes.rebuild_model.Rebuilt.{rebuilt}
+use Rattle.rebuild_files.specs.elfkit_outcomes.rebuild_model.Files.{file_made}
+use Rattle.rebuild_files.specs.elfkit_outcomes.Strip.{strip_alone}
 use Rattle.tool_output.specs.declared.stops.Stop.{Stop}
 use Rattle.tool_output.specs.declared.outputs.Outputs.{Outputs}
 use Rattle.tool_output.specs.Names.{file_name}
 use Rattle.tool_output.specs.Made.{complaint, written_outcome}
-use Rattle.elfkit_outcomes.specs.tool_objects.Refusals.{ReportsRefusal}
-use Rattle.tool_files.specs.ElfImages.Writes.{WritesFile}
-use Rattle.tool_files.proofs.elf_images.WriteLemmas.{refused_writes}
-use Rattle.rebuild_plan.specs.declared.plans.RangedPlan.{RangedPlan}
-use Rattle.rebuild_plan.specs.Plans.{FileAnswers}
-use Rattle.strip_tool.specs.Copies.{WritesImage, IsOverSource, plan_text}
+use Rattle.rebuild_files.specs.tool_objects.Refusals.{ReportsRefusal}
+use Rattle.rebuild_files.specs.tool_files.ElfImages.Writes.{WritesFile}
+use Rattle.rebuild_files.proofs.tool_files.elf_images.WriteLemmas.{refused_writes}
+use Rattle.rebuild_files.specs.rebuild_plan.declared.plans.RangedPlan.{RangedPlan}
+use Rattle.rebuild_files.specs.rebuild_plan.Plans.{FileAnswers}
+use Rattle.rebuild_files.specs.Writing.{WritesImage, IsOverSource, plan_text}
+use Rattle.rebuild_files.proofs.PlanLemmas.{plan_written}
 use Rattle.strip_tool.specs.Steps.{PlansStripped}
 use Rattle.strip_tool.specs.Writes.{stripped_done, object_done}
-use Rattle.strip_tool.proofs.PlanLemmas.{plan_written}
 
 module _ (debug_only : Bool) (names : List (List ℕ)) (file out : List ℕ) where
   abbrev stated : Object → Result (List ℕ) ElfError

@@ -1,7 +1,3 @@
-pub use Rattle.rebuild_plan.specs.elf_descriptor
-pub use Rattle.elfkit_outcomes.specs as elfkit_outcomes
-pub use Rattle.tool_files.specs as tool_files
-pub use Rattle.elfkit_outcomes.specs.tool_objects
+pub use Rattle.rebuild_files.specs.tool_files
 pub mod Steps
 pub mod Writes
-pub mod Copies

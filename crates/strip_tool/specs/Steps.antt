@@ -3,12 +3,12 @@ use Rattle.std.specs.Prelude.{◌≡◌, ◌≤◌, ℕ, Bool, List, IsTrue, Res
 use Rattle.elf_types.specs.declared.errors.ElfError.{ElfError}
 use Rattle.elf_outside.specs.declared.sources.Source.{Ghosts}
 use Rattle.elf_outside.specs.Asks.{Leaves, ReadRose}
-use Rattle.tool_files.specs.elf_descriptor.State.{State}
-use Rattle.elfkit_outcomes.specs.rebuild_model.Files.{file_made}
-use Rattle.elfkit_outcomes.specs.rebuild_model.Removed.{removed_sections}
-use Rattle.elfkit_outcomes.specs.rebuild_model.Rebuilt.{rebuilt}
-use Rattle.rebuild_plan.specs.declared.plans.RangedPlan.{RangedPlan}
-use Rattle.rebuild_plan.specs.Plans.{FileAnswers}
+use Rattle.rebuild_files.specs.elf_descriptor.State.{State}
+use Rattle.rebuild_files.specs.elfkit_outcomes.rebuild_model.Files.{file_made}
+use Rattle.rebuild_files.specs.elfkit_outcomes.rebuild_model.Removed.{removed_sections}
+use Rattle.rebuild_files.specs.elfkit_outcomes.rebuild_model.Rebuilt.{rebuilt}
+use Rattle.rebuild_files.specs.rebuild_plan.declared.plans.RangedPlan.{RangedPlan}
+use Rattle.rebuild_files.specs.rebuild_plan.Plans.{FileAnswers}
 
 -- It plans the file of the object without the removed sections, or refuses it, where the source
 -- tells its bytes. Over every source it leaves the object and what the source holds, and tells the

@@ -2,9 +2,9 @@
 use Rattle.std.specs.Prelude.{ℕ, Bool, List, Result, Ok}
 use Rattle.elf_types.specs.declared.errors.ElfError.{ElfError}
 use Rattle.elf_types.specs.Answers.{◌>>=◌}
-use Rattle.elfkit_outcomes.specs.elf_object.Object.{Object}
-use Rattle.elfkit_outcomes.specs.rebuild_model.Removed.{removed_sections}
-use Rattle.elfkit_outcomes.specs.Strip.{strip_alone}
+use Rattle.rebuild_files.specs.elfkit_outcomes.elf_object.Object.{Object}
+use Rattle.rebuild_files.specs.elfkit_outcomes.rebuild_model.Removed.{removed_sections}
+use Rattle.rebuild_files.specs.elfkit_outcomes.Strip.{strip_alone}
 use Rattle.tool_output.specs.Made.{Done, Complaint, made_file_alone, of_file}
 
 -- the file of what was made anew, or why there is none

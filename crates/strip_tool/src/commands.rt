@@ -5,9 +5,8 @@ ghost use Rattle.strip_tool.specs.Writes.{object_done};
 
 use crate::writing::write_stripped;
 use elf_outside::{Files, Sink, Source};
+use rebuild_files::prelude::{Elf, ImageCommand};
 use std::alloc::Global;
-use tool_files::elf_images::ImageCommand;
-use tool_files::prelude::Elf;
 use tool_output::{Outputs, Stop};
 use tool_text::Args;
 

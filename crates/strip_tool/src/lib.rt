@@ -7,10 +7,10 @@
 //! - `strip_named`: the whole command: opens the file, writes the new one, closes both.
 //! - `plan_stripped`: where each part of the new image is, and which range of the file has its
 //!   bytes.
-//! - `write_plan`: writes such a plan to a new file.
+//! - `write_plan`: of rebuild_files: writes such a plan to a new file.
 //! - `removed`: of rebuild_select: the sections that go, as a set.
-//! - `rebuild`: of rebuild_object: the object without them, in memory, of the same plan; `arrange` of
-//!   rebuild_making gives its unloaded parts their places.
+//! - `rebuild`: of rebuild_object: the object without them, in memory, of the same plan; `arrange`
+//!   of rebuild_making gives its unloaded parts their places.
 //!
 //! From `test_rebuild`:
 //!
@@ -29,13 +29,10 @@
 #![tactic(auto)]
 
 pub mod commands;
-pub mod copying;
 pub mod named;
 pub mod planning;
-pub mod prelude;
 mod writing;
 
 pub use commands::StripCommand;
-pub use copying::{make_plan, not_refused, write_plan};
 pub use named::strip_named;
 pub use planning::plan_stripped;

@@ -1,18 +1,18 @@
 //! The command by the name of its file.
 
 ghost use Rattle.std.specs.Prelude.{◌≡◌, ℕ, List, None, IsTrue, codes};
-ghost use Rattle.elfkit_outcomes.specs.tool_objects.Images.{file_object};
+ghost use Rattle.rebuild_files.specs.tool_objects.Images.{file_object};
 ghost use Rattle.tool_output.specs.Files.{LeavesFiles};
 ghost use Rattle.tool_output.specs.Made.{written_outcome};
 ghost use Rattle.tool_output.specs.Outcomes.{write_of, Does};
 ghost use Rattle.tool_output.specs.Statuses.{refused_status};
-ghost use Rattle.tool_files.specs.ElfImages.Writes.{image_done, named_done};
+ghost use Rattle.rebuild_files.specs.tool_files.ElfImages.Writes.{image_done, named_done};
 ghost use Rattle.strip_tool.specs.Writes.{object_done};
 
 use crate::commands::StripCommand;
 use elf_outside::{Files, Sink};
+use rebuild_files::prelude::edit_named;
 use std::alloc::Global;
-use tool_files::elf_images::edit_named;
 use tool_output::{Outputs, Stop};
 
 /// Opens a file, does the command with its image and closes it; a name that is not there, and what

@@ -1,15 +1,13 @@
 //! The plan of what is kept.
 
 ghost use Rattle.std.specs.Prelude.{◌≡◌, false};
-ghost use Rattle.elfkit_outcomes.specs.elf_object.Object.{is_dirty};
+ghost use Rattle.rebuild_files.specs.elfkit_outcomes.elf_object.Object.{is_dirty};
 ghost use Rattle.strip_tool.specs.Steps.{PlansStripped};
 
 use elf_outside::Source;
 use elf_types::ElfError;
-use rebuild_plan::prelude::removed;
-use rebuild_plan::{RangedPlan, plan_rebuilt};
+use rebuild_files::prelude::{Elf, RangedPlan, plan_rebuilt, removed};
 use std::alloc::Global;
-use tool_files::prelude::Elf;
 use tool_text::Args;
 
 /// The plan of the image of an object in which nothing is dirty, without the sections that the

@@ -1,19 +1,18 @@
 //! The new file of an open one.
 
 ghost use Rattle.std.specs.Prelude.{◌≡◌, false, codes};
-ghost use Rattle.elfkit_outcomes.specs.elf_object.Object.{is_dirty};
+ghost use Rattle.rebuild_files.specs.elfkit_outcomes.elf_object.Object.{is_dirty};
 ghost use Rattle.tool_output.specs.Made.{written_outcome};
-ghost use Rattle.tool_files.specs.ElfImages.Writes.{WritesFile};
-ghost use Rattle.strip_tool.specs.Copies.{IsOverSource};
+ghost use Rattle.rebuild_files.specs.tool_files.ElfImages.Writes.{WritesFile};
+ghost use Rattle.rebuild_files.specs.Writing.{IsOverSource};
 ghost use Rattle.strip_tool.specs.Writes.{object_done};
 
 use crate::commands::StripCommand;
-use crate::copying::write_plan;
 use crate::planning::plan_stripped;
 use elf_outside::{Files, Sink, Source};
+use rebuild_files::prelude::{Elf, refuse_for};
+use rebuild_files::write_plan;
 use std::alloc::Global;
-use tool_files::elf_images::refuse_for;
-use tool_files::prelude::Elf;
 use tool_output::{Outputs, Stop};
 
 /// Does the command with the object of the file `file`, of which nothing is dirty and whose base is

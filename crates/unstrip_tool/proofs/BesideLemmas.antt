@@ -14,9 +14,9 @@ use Rattle.tool_output.specs.declared.stops.Stop.{Stop}
 use Rattle.tool_output.specs.declared.outputs.Outputs.{Outputs}
 use Rattle.tool_output.specs.Names.{file_name}
 use Rattle.tool_output.specs.Made.{Done, Complaint, complaint, of_file}
-use Rattle.strip_tool.specs.tool_objects.Images.{file_object}
-use Rattle.strip_tool.specs.tool_objects.Refusals.{ReportsRefusal}
-use Rattle.strip_tool.proofs.tool_files.elf_images.WriteLemmas.{DoesHere, refused_does, refused_leaves}
+use Rattle.rebuild_files.specs.tool_objects.Images.{file_object}
+use Rattle.rebuild_files.specs.tool_objects.Refusals.{ReportsRefusal}
+use Rattle.rebuild_files.proofs.tool_files.elf_images.WriteLemmas.{DoesHere, refused_does, refused_leaves}
 use Rattle.unstrip_tool.specs.Joins.{held_object, WritesBeside}
 use Rattle.unstrip_tool.proofs.CauseLemmas.{rose_some}
 

@@ -11,13 +11,13 @@ use Rattle.tool_output.specs.declared.outputs.Outputs.{Outputs}
 use Rattle.tool_output.specs.Files.{LeavesFilesBy}
 use Rattle.tool_output.specs.Steps.{Writes, LeavesOutputs}
 use Rattle.tool_output.proofs.FileLemmas.{totals_then}
-use Rattle.strip_tool.proofs.tool_objects.SourceSteps.{leaves_then}
-use Rattle.strip_tool.proofs.tool_files.WriteLemmas.{images_unput, first_stopped, both_done, second_stopped, order_none, order_first, order_second, order_done}
+use Rattle.rebuild_files.proofs.tool_objects.SourceSteps.{leaves_then}
+use Rattle.rebuild_files.proofs.tool_files.WriteLemmas.{images_unput, first_stopped, both_done, second_stopped, order_none, order_first, order_second, order_done}
 use Rattle.rebuild_debug.specs.rebuild_image.Ranges.Ranges.{KeptSource}
 use Rattle.rebuild_debug.proofs.rebuild_image.ranges.RangeLaws.{kept_same}
 use Rattle.rebuild_debug.specs.rebuild_plan.declared.plans.RangedPlan.{RangedPlan}
-use Rattle.strip_tool.specs.Copies.{MakesPlan, text_with, plan_text, refuses_nothing}
-use Rattle.strip_tool.proofs.CopyLemmas.{put_left, made_left}
+use Rattle.rebuild_files.specs.Writing.{MakesPlan, text_with, plan_text, refuses_nothing}
+use Rattle.rebuild_files.proofs.WritingLemmas.{put_left, made_left}
 use Rattle.unstrip_tool.specs.declared.names.HalfNames.{HalfNames}
 use Rattle.unstrip_tool.specs.declared.plans.SplitPlans.{SplitPlans}
 use Rattle.unstrip_tool.specs.Copies.{StopsFirst, MakesSecond, MakesBoth, WritesHalves}

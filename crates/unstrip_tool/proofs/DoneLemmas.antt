@@ -10,11 +10,11 @@ use Rattle.rebuild_model.specs.Arranged.{Rebuilt}
 use Rattle.rebuild_model.specs.Files.{file_of}
 use Rattle.rebuild_model.specs.Split.{unstripped, or_elf, UnstripFault}
 use Rattle.rebuild_model.specs.Split.{UnstripFault as stated}
-use Rattle.strip_tool.specs.elfkit_outcomes.Files.{bytes_named, object_named}
-use Rattle.strip_tool.specs.elfkit_outcomes.Strip.{unstrip_complaint, or_complaint, unstrip_done, unstrip_outcome}
+use Rattle.rebuild_files.specs.elfkit_outcomes.Files.{bytes_named, object_named}
+use Rattle.rebuild_files.specs.elfkit_outcomes.Strip.{unstrip_complaint, or_complaint, unstrip_done, unstrip_outcome}
 use Rattle.tool_output.specs.Outcomes.{write_of}
 use Rattle.tool_output.specs.Made.{Done, Complaint, made_file_alone, complaint, of_file, written_outcome}
-use Rattle.strip_tool.proofs.tool_files.elf_images.NamedLemmas.{unwritten}
+use Rattle.rebuild_files.proofs.tool_files.elf_images.NamedLemmas.{unwritten}
 use Rattle.rebuild_join.specs.Joining.{file_joined}
 use Rattle.rebuild_join.specs.Joined.Answers.{UnstripAnswers}
 use Rattle.unstrip_tool.specs.declared.names.HalfNames.{HalfNames}

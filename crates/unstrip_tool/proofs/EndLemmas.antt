@@ -4,12 +4,12 @@ use Rattle.elf_outside.specs.Counts.{Rose}
 use Rattle.elf_outside.specs.Names.{SameNames}
 use Rattle.elf_outside.specs.declared.sinks.Sink.{Ghosts as SinkGhosts}
 use Rattle.elf_outside.specs.declared.file_sets.Files.{Ghosts as FilesGhosts}
-use Rattle.strip_tool.specs.elfkit_outcomes.Strip.{unstrip_outcome}
+use Rattle.rebuild_files.specs.elfkit_outcomes.Strip.{unstrip_outcome}
 use Rattle.tool_output.specs.declared.stops.Stop.{Stop}
 use Rattle.tool_output.specs.declared.outputs.Outputs.{Outputs}
 use Rattle.tool_output.specs.Statuses.{refused_status}
 use Rattle.tool_output.specs.Outcomes.{Outcome, Does}
-use Rattle.strip_tool.proofs.tool_files.elf_images.WriteLemmas.{DoesHere}
+use Rattle.rebuild_files.proofs.tool_files.elf_images.WriteLemmas.{DoesHere}
 use Rattle.unstrip_tool.specs.declared.names.HalfNames.{HalfNames}
 use Rattle.unstrip_tool.specs.Joins.{halves_joined, WritesBeside}
 use Rattle.unstrip_tool.proofs.DoneLemmas.{unstrip_is}

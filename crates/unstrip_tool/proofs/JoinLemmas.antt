@@ -20,12 +20,12 @@ use Rattle.tool_output.specs.Made.{Done, Complaint, complaint, made_file_alone, 
 use Rattle.tool_output.specs.Reports.{Report, no_report}
 use Rattle.tool_output.specs.Statuses.{refused_status}
 use Rattle.tool_output.proofs.UnderWayLemmas.{shown_none}
-use Rattle.strip_tool.specs.tool_objects.Refusals.{ReportsRefusal}
-use Rattle.strip_tool.proofs.tool_files.elf_images.WriteLemmas.{DoesHere, outputs_leave, said_done, refused_does, refused_leaves}
+use Rattle.rebuild_files.specs.tool_objects.Refusals.{ReportsRefusal}
+use Rattle.rebuild_files.proofs.tool_files.elf_images.WriteLemmas.{DoesHere, outputs_leave, said_done, refused_does, refused_leaves}
 use Rattle.rebuild_debug.specs.rebuild_image.Ranges.Ranges.{bytes_of_source}
 use Rattle.rebuild_debug.specs.rebuild_plan.declared.plans.RangedPlan.{RangedPlan}
 use Rattle.rebuild_debug.specs.rebuild_plan.Plans.{CopiesAs}
-use Rattle.strip_tool.specs.Copies.{IsOverSource}
+use Rattle.rebuild_files.specs.Writing.{IsOverSource}
 use Rattle.rebuild_join.specs.declared.joined.faults.UnstripFault.{UnstripFault}
 use Rattle.rebuild_join.specs.declared.joined.faults.UnstripFault.TheVariants as faults
 use Rattle.rebuild_join.specs.Joining.{file_joined, PlansJoined}

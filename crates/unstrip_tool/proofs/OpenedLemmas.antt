@@ -26,7 +26,7 @@ use Rattle.tool_output.specs.Made.{Done, Complaint, written_outcome}
 use Rattle.tool_output.proofs.StepLemmas.{writes_nothing, keeps_none}
 use Rattle.tool_output.proofs.FileLemmas.{closed_same}
 use Rattle.tool_output.proofs.MadeLemmas.{report_done, stopped_done}
-use Rattle.strip_tool.proofs.tool_files.elf_images.WriteLemmas.{DoesHere}
+use Rattle.rebuild_files.proofs.tool_files.elf_images.WriteLemmas.{DoesHere}
 use Rattle.unstrip_tool.specs.Refusing.{RefusesWith, RefusesUnopened}
 use Rattle.unstrip_tool.specs.Joins.{held_object, WritesBeside}
 use Rattle.unstrip_tool.proofs.DoneLemmas.{IsUnwritten, bound_unwritten}

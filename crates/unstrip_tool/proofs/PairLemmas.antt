@@ -14,7 +14,7 @@ use Rattle.rebuild_debug.specs.rebuild_image.Ranges.Ranges.{KeptSource, bytes_of
 use Rattle.rebuild_debug.proofs.rebuild_image.ranges.RangeLaws.{bytes_long}
 use Rattle.rebuild_debug.specs.rebuild_plan.declared.plans.RangedPlan.{RangedPlan}
 use Rattle.rebuild_debug.specs.rebuild_plan.Plans.{CopiesAs, kept_with}
-use Rattle.strip_tool.specs.Copies.{IsOverSource, WritesImage, text_with, plan_text}
+use Rattle.rebuild_files.specs.Writing.{IsOverSource, WritesImage, text_with, plan_text}
 use Rattle.tool_output.specs.declared.stops.Stop.{Stop}
 use Rattle.tool_output.specs.declared.outputs.Outputs.{Outputs}
 use Rattle.tool_output.specs.Outcomes.{Does}

@@ -18,15 +18,15 @@ use Rattle.rebuild_model.specs.Arranged.{Rebuilt}
 use Rattle.rebuild_model.specs.Files.{file_of}
 use Rattle.rebuild_model.specs.Rebuilt.{rebuilt}
 use Rattle.rebuild_model.specs.Split.{debug_of, removed_allocated}
-use Rattle.strip_tool.specs.elfkit_outcomes.Strip.{strip_split, allocated_text}
+use Rattle.rebuild_files.specs.elfkit_outcomes.Strip.{strip_split, allocated_text}
 use Rattle.rebuild_join.specs.rebuild_select.Calls as calls
 use Rattle.rebuild_debug.specs.rebuild_image.Ranges.Images.{ranged_text}
 use Rattle.rebuild_debug.specs.rebuild_image.Ranges.Ranges.{KeptSource, kept_of_source}
 use Rattle.rebuild_debug.specs.rebuild_plan.declared.plans.RangedPlan.{RangedPlan}
 use Rattle.rebuild_debug.specs.rebuild_plan.Plans.{kept_with}
 use Rattle.rebuild_debug.proofs.rebuild_plan.RemovedLaws.{set_is, never_refused}
-use Rattle.strip_tool.specs.Copies.{IsOverSource, text_with}
-use Rattle.strip_tool.proofs.StripLemmas.{over_stays}
+use Rattle.rebuild_files.specs.Writing.{IsOverSource, text_with}
+use Rattle.rebuild_files.proofs.BegunLemmas.{over_stays}
 use Rattle.tool_output.specs.declared.stops.Stop.{Stop}
 use Rattle.tool_output.specs.declared.outputs.Outputs.{Outputs}
 use Rattle.tool_output.specs.Steps.{LeavesOutputs}
@@ -36,10 +36,10 @@ use Rattle.tool_output.specs.Reports.{Report, Reports, no_report, refusal_report
 use Rattle.tool_output.specs.Statuses.{refused_status}
 use Rattle.tool_output.specs.Made.{Done, Complaint, made_file, complaint, of_file, outcome_with, written_outcome}
 use Rattle.tool_output.proofs.UnderWayLemmas.{shown_none}
-use Rattle.strip_tool.specs.tool_objects.Refusals.{ReportsRefusal}
-use Rattle.strip_tool.proofs.tool_objects.SourceSteps.{leaves_then}
-use Rattle.strip_tool.specs.tool_files.ElfImages.Writes.{WritesFile}
-use Rattle.strip_tool.proofs.tool_files.elf_images.WriteLemmas.{DoesHere, outputs_leave, said_done, refused_writes, written_then}
+use Rattle.rebuild_files.specs.tool_objects.Refusals.{ReportsRefusal}
+use Rattle.rebuild_files.proofs.tool_objects.SourceSteps.{leaves_then}
+use Rattle.rebuild_files.specs.tool_files.ElfImages.Writes.{WritesFile}
+use Rattle.rebuild_files.proofs.tool_files.elf_images.WriteLemmas.{DoesHere, outputs_leave, said_done, refused_writes, written_then}
 use Rattle.unstrip_tool.specs.declared.plans.SplitPlans.{SplitPlans}
 use Rattle.unstrip_tool.specs.declared.names.HalfNames.{HalfNames}
 use Rattle.unstrip_tool.specs.Copies.{WritesHalves}

@@ -13,11 +13,11 @@ use Rattle.tool_output.specs.Made.{made_file, outcome_with}
 use Rattle.tool_output.specs.Outcomes.{Does}
 use Rattle.tool_output.specs.Reports.{no_report}
 use Rattle.tool_output.specs.Statuses.{refused_status}
-use Rattle.strip_tool.specs.tool_files.Making.{InOrder}
+use Rattle.rebuild_files.specs.tool_files.Making.{InOrder}
 use Rattle.rebuild_debug.specs.rebuild_image.Ranges.Ranges.{bytes_of_source}
 use Rattle.rebuild_debug.specs.rebuild_plan.declared.plans.RangedPlan.{RangedPlan}
 use Rattle.rebuild_debug.specs.rebuild_plan.Plans.{CopiesAs}
-use Rattle.strip_tool.specs.Copies.{MakesPlan, plan_text}
+use Rattle.rebuild_files.specs.Writing.{MakesPlan, plan_text}
 use Rattle.unstrip_tool.specs.declared.names.HalfNames.{HalfNames}
 use Rattle.unstrip_tool.specs.declared.plans.SplitPlans.{SplitPlans}
 

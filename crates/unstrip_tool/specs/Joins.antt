@@ -6,15 +6,15 @@ use Rattle.elf_outside.specs.declared.file_sets.Files.{Ghosts as FilesGhosts}
 use Rattle.elf_object.specs.Object.{Object}
 use Rattle.rebuild_model.specs.Arranged.{Rebuilt}
 use Rattle.rebuild_model.specs.Split.{unstripped, UnstripFault}
-use Rattle.strip_tool.specs.elfkit_outcomes.Strip.{unstrip_complaint, or_complaint}
+use Rattle.rebuild_files.specs.elfkit_outcomes.Strip.{unstrip_complaint, or_complaint}
 use Rattle.tool_output.specs.declared.stops.Stop.{Stop}
 use Rattle.tool_output.specs.declared.outputs.Outputs.{Outputs}
 use Rattle.tool_output.specs.Statuses.{refused_status}
 use Rattle.tool_output.specs.Files.{LeavesFilesBy}
 use Rattle.tool_output.specs.Outcomes.{Does}
 use Rattle.tool_output.specs.Made.{Done, Complaint, complaint, of_file, written_outcome}
-use Rattle.strip_tool.specs.tool_objects.Images.{file_object}
-use Rattle.strip_tool.specs.tool_files.ElfImages.Writes.{written_done}
+use Rattle.rebuild_files.specs.tool_objects.Images.{file_object}
+use Rattle.rebuild_files.specs.tool_files.ElfImages.Writes.{written_done}
 use Rattle.unstrip_tool.specs.declared.names.HalfNames.{HalfNames}
 
 -- ---- What is stated

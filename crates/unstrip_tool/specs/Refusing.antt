@@ -9,7 +9,7 @@ use Rattle.tool_output.specs.declared.outputs.Outputs.{Outputs}
 use Rattle.tool_output.specs.Names.{file_name}
 use Rattle.tool_output.specs.Reports.{Reports, refusal_report}
 use Rattle.tool_output.specs.Steps.{LeavesOutputs}
-use Rattle.strip_tool.specs.tool_objects.Refusals.{ReportsRefusal}
+use Rattle.rebuild_files.specs.tool_objects.Refusals.{ReportsRefusal}
 use Rattle.rebuild_join.specs.declared.joined.faults.UnstripFault.{UnstripFault}
 use Rattle.rebuild_join.specs.declared.joined.faults.UnstripFault.TheVariants as faults
 use Rattle.unstrip_tool.specs.declared.names.HalfNames.{HalfNames}

@@ -4,7 +4,7 @@ use Rattle.elf_types.specs.declared.errors.ElfError.{ElfError}
 use Rattle.elf_types.specs.Answers.{◌>>=◌}
 use Rattle.elf_object.specs.Object.{Object}
 use Rattle.rebuild_model.specs.Removed.{removed_sections}
-use Rattle.strip_tool.specs.elfkit_outcomes.Strip.{strip_split}
+use Rattle.rebuild_files.specs.elfkit_outcomes.Strip.{strip_split}
 use Rattle.tool_output.specs.Made.{Done, Complaint, made_file, of_file}
 use Rattle.unstrip_tool.specs.declared.names.HalfNames.{HalfNames}
 

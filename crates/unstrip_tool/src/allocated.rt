@@ -2,7 +2,7 @@
 
 ghost use Rattle.std.specs.Prelude.{◌≡◌, ◌<◌, length, codes};
 ghost use Rattle.rebuild_model.specs.Split.{removed_allocated};
-ghost use Rattle.strip_tool.specs.elfkit_outcomes.Strip.{allocated_text};
+ghost use Rattle.rebuild_files.specs.elfkit_outcomes.Strip.{allocated_text};
 ghost use Rattle.rebuild_join.specs.rebuild_select.Steps.{IsRemovable};
 ghost use Rattle.tool_output.specs.Names.{file_name};
 ghost use Rattle.tool_output.specs.Reports.{Reports, refusal_report};

@@ -6,9 +6,9 @@ ghost use Rattle.unstrip_tool.specs.Writes.{object_split};
 use crate::names::HalfNames;
 use crate::writing::write_halves;
 use elf_outside::{Files, Sink, Source};
+use rebuild_files::prelude::ImageCommand;
 use rebuild_join::prelude::Elf;
 use std::alloc::Global;
-use strip_tool::prelude::ImageCommand;
 use tool_output::{Outputs, Stop};
 use tool_text::Args;
 

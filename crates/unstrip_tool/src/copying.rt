@@ -7,9 +7,9 @@ use crate::names::HalfNames;
 use crate::plans::SplitPlans;
 use elf_outside::{Files, Sink, Source};
 use rebuild_debug::prelude::RangedPlan;
+use rebuild_files::{make_plan, not_refused, write_plan};
 use rebuild_join::pair::SourcePair;
 use std::alloc::Global;
-use strip_tool::{make_plan, not_refused, write_plan};
 use tool_output::{Outputs, Stop};
 
 /// Makes the two files, the debug half last, copied out of a source, and hands that back.

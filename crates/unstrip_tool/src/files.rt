@@ -6,20 +6,20 @@ ghost use Rattle.elf_outside.specs.Counts.{Rose};
 ghost use Rattle.elf_object.specs.Object.{is_dirty};
 ghost use Rattle.elf_object.specs.Valid.{IsTied};
 ghost use Rattle.rebuild_debug.specs.law_rebuild.Strip.Made.{FitsClass};
-ghost use Rattle.strip_tool.specs.Copies.{IsOverSource};
+ghost use Rattle.rebuild_files.specs.Writing.{IsOverSource};
 ghost use Rattle.tool_output.specs.Files.{LeavesFiles};
 ghost use Rattle.tool_output.specs.Outcomes.{Does};
 ghost use Rattle.tool_output.specs.Statuses.{refused_status};
-ghost use Rattle.strip_tool.specs.elfkit_outcomes.Strip.{unstrip_outcome};
+ghost use Rattle.rebuild_files.specs.elfkit_outcomes.Strip.{unstrip_outcome};
 ghost use Rattle.unstrip_tool.specs.Joins.{debug_done, halves_joined, WritesBeside};
 
 use crate::joining::join_debug;
 use crate::names::HalfNames;
 use crate::refusing::{refuse_half, refuse_unopened};
 use elf_outside::{Files, Sink, Source};
+use rebuild_files::prelude::begin_image;
 use rebuild_join::prelude::Elf;
 use std::alloc::Global;
-use strip_tool::prelude::begin_image;
 use tool_output::{Outputs, Stop};
 
 /// Opens the file of the debug half, joins it to the object of the other half, in which nothing is

@@ -5,17 +5,17 @@ ghost use Rattle.elf_outside.specs.Asks.{Leaves};
 ghost use Rattle.elf_object.specs.Object.{is_dirty};
 ghost use Rattle.elf_object.specs.Valid.{IsTied};
 ghost use Rattle.rebuild_debug.specs.law_rebuild.Strip.Made.{FitsClass};
-ghost use Rattle.strip_tool.specs.Copies.{IsOverSource};
+ghost use Rattle.rebuild_files.specs.Writing.{IsOverSource};
 ghost use Rattle.unstrip_tool.specs.Joins.{objects_done, debug_done, WritesBeside};
 
 use crate::copying::write_pair;
 use crate::names::HalfNames;
 use crate::refusing::{refuse_fault, refuse_half};
 use elf_outside::{Files, Sink, Source};
+use rebuild_files::prelude::begin_image;
 use rebuild_join::plan_joined;
 use rebuild_join::prelude::Elf;
 use std::alloc::Global;
-use strip_tool::prelude::begin_image;
 use tool_output::{Outputs, Stop};
 
 /// Writes the image of what two objects, in which nothing is dirty, are halves of to the new file

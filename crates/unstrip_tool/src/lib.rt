@@ -1,8 +1,8 @@
 //! The commands `strip -f` and `unstrip`: an image is split into a stripped file and a debug file,
 //! and two such files are merged again.
 //!
-//! `debug_of` is of rebuild_debug, `unstrip` of rebuild_join (module `joined`); they make objects in
-//! memory, the commands write files range by range.
+//! `debug_of` is of rebuild_debug, `unstrip` of rebuild_join (module `joined`); they make objects
+//! in memory, the commands write files range by range.
 //!
 //! - `split_named`: `strip -f`: opens a file, and writes its stripped half and its debug half.
 //! - `join_files`: `unstrip`: opens two files, and writes what they are halves of.

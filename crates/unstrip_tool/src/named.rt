@@ -1,8 +1,8 @@
 //! The command by the name of its file.
 
 ghost use Rattle.std.specs.Prelude.{◌≡◌, ℕ, List, None, IsTrue, codes};
-ghost use Rattle.strip_tool.specs.tool_objects.Images.{file_object};
-ghost use Rattle.strip_tool.specs.tool_files.ElfImages.Writes.{image_done, named_done};
+ghost use Rattle.rebuild_files.specs.tool_objects.Images.{file_object};
+ghost use Rattle.rebuild_files.specs.tool_files.ElfImages.Writes.{image_done, named_done};
 ghost use Rattle.tool_output.specs.Files.{LeavesFiles};
 ghost use Rattle.tool_output.specs.Made.{written_outcome};
 ghost use Rattle.tool_output.specs.Outcomes.{write_of, Does};
@@ -11,8 +11,8 @@ ghost use Rattle.unstrip_tool.specs.Writes.{object_split};
 
 use crate::commands::SplitCommand;
 use elf_outside::{Files, Sink};
+use rebuild_files::prelude::edit_named;
 use std::alloc::Global;
-use strip_tool::prelude::edit_named;
 use tool_output::{Outputs, Stop};
 
 /// Opens a file, does the command with its image and closes it; a name that is not there, and what

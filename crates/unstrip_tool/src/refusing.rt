@@ -2,14 +2,14 @@
 
 ghost use Rattle.std.specs.Prelude.{codes};
 ghost use Rattle.tool_output.specs.Names.{file_name};
-ghost use Rattle.strip_tool.specs.tool_objects.Refusals.{ReportsRefusal};
+ghost use Rattle.rebuild_files.specs.tool_objects.Refusals.{ReportsRefusal};
 ghost use Rattle.unstrip_tool.specs.Refusing.{RefusesWith, RefusesUnopened, RefusesFault};
 
 use crate::names::HalfNames;
 use elf_outside::{OpenFault, Sink};
 use elf_types::ElfError;
+use rebuild_files::prelude::refuse_for;
 use rebuild_join::joined::UnstripFault;
-use strip_tool::prelude::refuse_for;
 use tool_output::{FileName, Message, Outputs, Stop};
 
 /// Rejects a file by a text.

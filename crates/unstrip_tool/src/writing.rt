@@ -2,11 +2,11 @@
 
 ghost use Rattle.std.specs.Prelude.{◌≡◌, false, codes};
 ghost use Rattle.elf_object.specs.Object.{is_dirty};
-ghost use Rattle.strip_tool.specs.elfkit_outcomes.Strip.{strip_split};
+ghost use Rattle.rebuild_files.specs.elfkit_outcomes.Strip.{strip_split};
 ghost use Rattle.tool_output.specs.Made.{written_outcome};
-ghost use Rattle.strip_tool.specs.tool_files.ElfImages.Writes.{WritesFile};
+ghost use Rattle.rebuild_files.specs.tool_files.ElfImages.Writes.{WritesFile};
 ghost use Rattle.rebuild_join.specs.rebuild_select.Steps.{IsRemovable};
-ghost use Rattle.strip_tool.specs.Copies.{IsOverSource};
+ghost use Rattle.rebuild_files.specs.Writing.{IsOverSource};
 ghost use Rattle.unstrip_tool.specs.Splitting.{split_file_bytes};
 ghost use Rattle.unstrip_tool.specs.Writes.{split_done, object_split};
 
@@ -16,9 +16,9 @@ use crate::copying::write_plans;
 use crate::names::HalfNames;
 use crate::planning::plan_split;
 use elf_outside::{Files, Sink, Source};
+use rebuild_files::prelude::refuse_for;
 use rebuild_join::prelude::{Elf, SectionSet, removed};
 use std::alloc::Global;
-use strip_tool::prelude::refuse_for;
 use tool_output::{Outputs, Stop};
 
 /// Splits an image, and writes its halves to two new files; what is not rebuilt is copied range by

@@ -48,7 +48,8 @@ memory_fault_unread T e is =
 pub memory_given : {A : Type 0} (e : ElfError) → e ≡ Memory → (r : Result A StatedFault)
     → IfSome (stated_copy_fault (faults.Strip e)) (λ d. r ≡ Err d)
 memory_given e is r =
-    subst (λ (x : ElfError). IfSome (stated_copy_fault (faults.Strip x)) (λ d. r ≡ Err d)) (sym is) tt
+    subst (λ (x : ElfError). IfSome (stated_copy_fault (faults.Strip x)) (λ d. r ≡ Err d)) (sym is)
+    tt
 
 -- ---- A fault that may come
 
@@ -69,7 +70,8 @@ pub number_given : (number : Option ℕ) (name : List ℕ) (r : Result ℕ CopyF
     → FollowsBy (λ s. s) stated_copy_fault r (or_refused answer (StatedFault.NoSection name))
 number_given (Some s) name r is answer same =
     subst (λ (q : Result ℕ CopyFault).
-    FollowsBy (λ s. s) stated_copy_fault q (or_refused answer (StatedFault.NoSection name))) (sym is)
+    FollowsBy (λ s. s) stated_copy_fault q (or_refused answer (StatedFault.NoSection name)))
+    (sym is)
     (ap (λ (n : Option ℕ). or_refused n (StatedFault.NoSection name)) (sym same))
 number_given None name (Ok s) is answer same = absurd is
 number_given None name (Err f) is answer same =

@@ -184,10 +184,6 @@ module _ {S : Type 0} (renames : List NameBytes) where
 
   module _ (i : ℕ) (old now : State S) (marks : List ℕ) (so_far : Renamed renames i old now marks)
     where
-      pub marks_long : length marks ≡ length now.o.sections
-      marks_long =
-          so_far.long ∙ ap (λ (o : Object). length o.sections) (sym so_far.object)
-
       -- what was found of the object as it is, of the object as it was
       given_before : {U : Type 0} (after : List ℕ) (x : NameBytes) (r : Result U CopyFault)
           (next : State S)

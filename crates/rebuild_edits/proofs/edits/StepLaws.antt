@@ -1,17 +1,14 @@
 -- Steps of copy, one after another.
 use Rattle.std.proofs.Common.{◌≡◌, Bool, length, Option, Some, None, Result, Ok, Err, refl, sym, ap, ◌∙◌, subst, arith}
 use Rattle.std.specs.Prelude.{IsTrue, IfSome}
-use Rattle.elf_types.specs.declared.errors.ElfError.{ElfError}
-use Rattle.elf_types.specs.declared.errors.ElfError.TheVariants.{Memory}
-use Rattle.elf_types.specs.Answers.{answered, ◌>>=◌}
+use Rattle.elf_types.specs.Answers.{◌>>=◌}
 use Rattle.law_rebuild.specs.elf_object.Object.{Object}
 use Rattle.rebuild_making.specs.elf_descriptor.State.{State}
 use Rattle.rebuild_changes.specs.rebuild_model.Copied.{CopyFault as StatedFault}
 use Rattle.rebuild_changes.specs.declared.faults.CopyFault.{CopyFault}
-use Rattle.rebuild_changes.specs.declared.faults.CopyFault.TheVariants as faults
 use Rattle.rebuild_changes.specs.Stated.{stated_copy_fault, IsWithoutDeviceFault}
-use Rattle.rebuild_edits.specs.Edits.Steps.{KeepsIndex, IsFaultIf, Finds, IsAltered, Alters}
-use Rattle.rebuild_edits.proofs.edits.FaultLaws.{unread_on, fault_given, fault_unread, memory_fault_unread, memory_given}
+use Rattle.rebuild_edits.specs.Edits.Steps.{KeepsIndex, Finds, IsAltered, Alters}
+use Rattle.rebuild_edits.proofs.edits.FaultLaws.{unread_on}
 
 -- ---- What stays
 
@@ -115,7 +112,8 @@ alter_none s = record {
 
 -- a fault before anything is done
 pub alter_stop : {S : Type 0} (T : Type 0) (f : CopyFault) (answer : Result Object StatedFault)
-    (s : State S) → IsWithoutDeviceFault {T = T} (Err f) → IfSome (stated_copy_fault f) (λ d. answer ≡ Err d)
+    (s : State S) → IsWithoutDeviceFault {T = T} (Err f)
+    → IfSome (stated_copy_fault f) (λ d. answer ≡ Err d)
     → Alters {T = T} answer (Err f) s s
 alter_stop T f answer s unread is = record {
   told = refl;
@@ -123,16 +121,3 @@ alter_stop T f answer s unread is = record {
   unread = unread;
   altered = λ t. is;
 }
-
-pub alter_memory : {S : Type 0} (T : Type 0) (e : ElfError) (answer : Result Object StatedFault)
-    (s : State S) → e ≡ Memory → Alters {T = T} answer (Err (faults.Strip e)) s s
-alter_memory T e answer s is =
-    alter_stop T (faults.Strip e) answer s (memory_fault_unread T e is) (memory_given e is answer)
-
-pub alter_fault : {S A : Type 0} (T : Type 0) (fault : Option StatedFault) (f : CopyFault) (x : A)
-    (next : A → Result Object StatedFault) (s : State S) → IsFaultIf fault (Some f)
-    → Alters {T = T} (answered fault x >>= next) (Err f) s s
-alter_fault T None f x next s is = absurd is
-alter_fault T (Some d) f x next s is =
-    alter_stop T f (answered (Some d) x >>= next) s (fault_unread T d f is)
-    (fault_given d f is (answered (Some d) x >>= next) refl)

@@ -1,7 +1,5 @@
 -- Sections that get other bytes.
-use Rattle.std.proofs.Common.{◌≡◌, ◌==◌, ◌&&◌, ◌-◌, ◌^◌, ◌<◌, ℕ, Bool, true, false, not, List, [], ◌∷◌, length, Some, None, sym, ap, ◌∙◌, subst, inl, inr, arith}
-use Rattle.std.specs.Prelude.{min}
-use Rattle.std.proofs.lemmas.Bool.{cases_lt, ne_eqb}
+use Rattle.std.proofs.Common.{◌≡◌, ◌==◌, ◌&&◌, ℕ, Bool, true, false, not, List, [], ◌∷◌, length, Some, None, sym, subst}
 use Rattle.elf_types.specs.Answers.{refused_if, first_refusal}
 use Rattle.law_rebuild.specs.elf_object.Object.{Object, occupies_file}
 use Rattle.law_rebuild.specs.elf_object.Joined.{pieces_end}
@@ -11,18 +9,6 @@ use Rattle.rebuild_changes.specs.rebuild_model.Copied.CopyFault.{NoBytes, Alloca
 use Rattle.rebuild_changes.specs.declared.faults.CopyFault.{CopyFault}
 use Rattle.rebuild_changes.specs.Stated.{IsFault}
 use Rattle.rebuild_edits.specs.Edits.Steps.{IsFaultIf}
-
--- a size that is told as at most a word is as long as what is shorter
-pub as_long : (len pieces : ℕ) → len < 2 ^ 64 - 1
-    → (len == min pieces (2 ^ 64 - 1)) ≡ (len == pieces)
-as_long len pieces small = elim (cases_lt pieces (2 ^ 64 - 1)) [
-  | inl less ↦
-      let same : min pieces (2 ^ 64 - 1) ≡ pieces = omega (arith, less) in
-      ap (λ (n : ℕ). len == n) same
-  | inr past ↦
-      ne_eqb len (min pieces (2 ^ 64 - 1)) (λ is. omega (arith, is, past, small))
-      ∙ sym (ne_eqb len pieces (λ is. omega (arith, is, past, small)))
-]
 
 module _ (o : Object) (s : ℕ) (name bytes : List ℕ) where
   pub none_in_file : (f : CopyFault) → occupies_file (header_at o s) ≡ false

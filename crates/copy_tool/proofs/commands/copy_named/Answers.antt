@@ -1,4 +1,4 @@
-use Rattle.strip_tool.specs.tool_objects.Images.{file_object}
+use Rattle.rebuild_files.specs.tool_objects.Images.{file_object}
 use Rattle.rebuild_changes.specs.Stated.{stated_changes}
 use Rattle.copy_tool.proofs.WriteLemmas.{copy_unwritten}
 use Rattle.copy_tool.proofs.commands.copy_named.Goals as goal

@@ -1,5 +1,5 @@
 use Rattle.std.proofs.Common.{◌++◌, ◌∷◌, []}
-use Rattle.strip_tool.specs.elfkit_outcomes.Files.{bytes_named}
+use Rattle.rebuild_files.specs.elfkit_outcomes.Files.{bytes_named}
 use Rattle.copy_tool.specs.Files.{length_held, pairs, list_if_all_found}
 use Rattle.copy_tool.proofs.NameLemmas.{put_filled, put_stops, put_names}
 use Rattle.copy_tool.proofs.ReadLemmas.{reads_made, made_none, made_stop}

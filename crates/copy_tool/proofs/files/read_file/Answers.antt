@@ -1,7 +1,7 @@
 use Rattle.std.proofs.Common.{rules, ◌∙◌}
 use Rattle.tool_output.specs.declared.stops.Stop.TheVariants as stops
 use Rattle.tool_output.proofs.FileLemmas.{closed_same, given_same, given_kept}
-use Rattle.strip_tool.specs.elfkit_outcomes.Files.{bytes_named}
+use Rattle.rebuild_files.specs.elfkit_outcomes.Files.{bytes_named}
 use Rattle.copy_tool.proofs.FileLemmas.{absent_says, stopped_says, file_says, read_file_asks, unasked, file_leaves}
 use Rattle.copy_tool.proofs.files.read_file.Goals as goal
 

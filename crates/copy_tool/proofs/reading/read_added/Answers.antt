@@ -1,7 +1,7 @@
 use Rattle.std.proofs.Common.{◌≡◌, Ok, Some}
 use Rattle.tool_output.specs.declared.stops.Stop.TheVariants.{Memory}
-use Rattle.strip_tool.specs.elfkit_outcomes.Copy.{changes_with}
-use Rattle.strip_tool.specs.elfkit_outcomes.Files.{bytes_of_each}
+use Rattle.rebuild_files.specs.elfkit_outcomes.Copy.{changes_with}
+use Rattle.rebuild_files.specs.elfkit_outcomes.Files.{bytes_of_each}
 use Rattle.rebuild_changes.specs.Stated.{stated_changes}
 use Rattle.copy_tool.specs.Files.{lengths_named, pairs, seen_in}
 use Rattle.copy_tool.proofs.ReadLemmas.{seen_ok, seen_err, reads_made, made_none, made_stop}

@@ -1,4 +1,4 @@
-use Rattle.strip_tool.specs.elfkit_outcomes.Files.{bytes_of_each}
+use Rattle.rebuild_files.specs.elfkit_outcomes.Files.{bytes_of_each}
 use Rattle.rebuild_changes.specs.Stated.{stated_changes}
 use Rattle.copy_tool.specs.Files.{lengths_named, pairs, seen_in}
 use Rattle.copy_tool.specs.Words.{added_changes}

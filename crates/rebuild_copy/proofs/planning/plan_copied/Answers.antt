@@ -1,27 +1,24 @@
-use Rattle.std.proofs.Common.{sym, ap, ◌∙◌, subst}
-use Rattle.elf_object.specs.Object.{Object, is_dirty}
-use Rattle.rebuild_edits.specs.rebuild_select.Steps.{IsRemovable}
+use Rattle.std.proofs.Common.{Ok, Err}
 use Rattle.rebuild_changes.specs.Stated.{stated_changes}
-use Rattle.rebuild_copy.proofs.PlanLaws.{copied_planned, copied_unplanned}
+use Rattle.rebuild_copy.proofs.PlanLaws.{plan_answers, plan_ends}
 use Rattle.rebuild_copy.proofs.planning.plan_copied.Goals as goal
 
-pub plan_without-requires-clause-clean : goal.plan_without-requires-clause-clean
-plan_without-requires-clause-clean g c =
-    ap is_dirty c.in-Ok.ensures.queries.object ∙ c.requires.clean
-
-pub plan_without-requires-clause-removable : goal.plan_without-requires-clause-removable
-plan_without-requires-clause-removable g c =
-    subst (λ (o : Object). IsRemovable o c.in-Ok.removed)
-    (sym c.in-Ok.ensures.queries.object) c.in-Ok.ensures.removable
-
-pub returns-in-Ok : goal.returns-in-Ok
-returns-in-Ok g c =
-    copied_planned g.S.Source (stated_changes c.args.changes.now) c.args.elf.now
-    c.removed_by_name.new.elf c.in-Ok.removed c.plan_without.result c.plan_without.new.elf
-    c.in-Ok.ensures.answer.1
-    c.in-Ok.ensures.removable c.in-Ok.ensures.queries c.plan_without.ensures
+pub plan_arranged-requires : goal.plan_arranged-requires
+plan_arranged-requires g c = c.in-Ok.ensures.small
 
 pub returns-in-Err : goal.returns-in-Err
 returns-in-Err g c =
-    copied_unplanned g.S.Source (stated_changes c.args.changes.now) c.args.elf.now
-    c.removed_by_name.new.elf c.in-Err.e _ c.in-Err.ensures.answer c.in-Err.ensures.queries
+    plan_ends g.S.Source (stated_changes c.args.changes.now) c.args.elf.now
+    c.arrange_copied.new.elf c.in-Err.fault c.in-Err.ensures
+
+pub returns-in-Ok-plan_arranged : goal.returns-in-Ok-plan_arranged
+returns-in-Ok-plan_arranged g c =
+    plan_answers g.S.Source (stated_changes c.args.changes.now) c.args.elf.now
+    c.arrange_copied.new.elf c.in-Ok.x (Ok c.in-Ok-plan_arranged.plan) c.in-Ok.ensures
+    c.in-Ok-plan_arranged.ensures
+
+pub returns-in-Err-plan_arranged : goal.returns-in-Err-plan_arranged
+returns-in-Err-plan_arranged g c =
+    plan_answers g.S.Source (stated_changes c.args.changes.now) c.args.elf.now
+    c.arrange_copied.new.elf c.in-Ok.x (Err c.in-Err-plan_arranged.e) c.in-Ok.ensures
+    c.in-Err-plan_arranged.ensures

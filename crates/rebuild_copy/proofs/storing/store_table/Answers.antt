@@ -4,8 +4,8 @@ use Rattle.rebuild_copy.proofs.storing.store_table.Goals as goal
 
 pub returns-in-Ok : goal.returns-in-Ok
 returns-in-Ok c =
-    table_alters c.args.names c.args.x.now c.put_names.new.x c.put_table.new.x c.put_names.ensures
-    c.in-Ok.ensures.ok
+    table_alters c.args.names c.args.x.now c.put_names.new.x c.put_table.new.x
+    c.put_names.ensures.places c.put_names.ensures.ranges c.in-Ok.ensures.ok
 
 pub returns : goal.returns
 returns c =

@@ -1,4 +1,4 @@
-use Rattle.std.proofs.Common.{List, ℕ, refl, sym, ◌∙◌, subst}
+use Rattle.std.proofs.Common.{List, ℕ, refl, sym, ◌∙◌, subst, arith}
 use Rattle.rebuild_model.specs.Copied.{with_bytes}
 use Rattle.rebuild_select.specs.Sought.Names.{AreUpTo}
 use Rattle.rebuild_changes.specs.Stated.{bytes_pair}
@@ -13,6 +13,7 @@ loop-change-init c = (
     turned = turn_none bytes_pair with_bytes c.args.changes.now o p c.args.x.now is;
     indexed = index;
   }),
+  omega arith,
 )
 
 pub update_section-requires-clause-sought : goal.update_section-requires-clause-sought
@@ -31,18 +32,22 @@ loop-change-preserved c = (
   c.update_section.ensures.sought ∙ c.loop-change.invariant.0,
   (λ o p is index.
       let so_far = c.loop-change.invariant.1 o p is index in
-      let step = c.in-Ok.ensures.updates o so_far.turned.left so_far.turned.contents so_far.indexed in
+      let step = c.in-Ok.ensures.updates o so_far.turned.left so_far.turned.contents
+      so_far.indexed in
       record {
         turned = turn_by bytes_pair with_bytes c.args.changes.now o p c.loop-change.change-index
             c.loop-change.x so_far.turned c.change-item.result c.update_section.new.x
             c.loop-change-test.true c.change-item.is step.turns;
         indexed = step.indexed;
       }),
+  let first = c.loop-change.invariant.2 in
+      let second = c.in-Ok.ensures.less in omega (arith, first, second),
 )
 
 pub returns-in-Err : goal.returns-in-Err
 returns-in-Err c = record {
   unread = c.in-Err.ensures.unread;
+  less = tt;
   turns = λ o p is index.
       let so_far = c.loop-change.invariant.1 o p is index in
       let step = c.in-Err.ensures.updates o so_far.turned.left so_far.turned.contents
@@ -55,6 +60,7 @@ returns-in-Err c = record {
 pub returns : goal.returns
 returns c = record {
   unread = tt;
+  less = c.loop-change.invariant.2;
   turns = λ o p is index.
       turn_all bytes_pair with_bytes c.args.changes.now o p c.loop-change.change-index
       c.loop-change.x (c.loop-change.invariant.1 o p is index).turned c.loop-change-test.false;

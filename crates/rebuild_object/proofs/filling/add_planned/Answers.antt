@@ -10,6 +10,7 @@ returns-in-Ok-clause-adds g c =
     one_more c.add_section.result c.args.elf.now.told c.args.elf.now.o c.args.x.now
     c.args.s c.in-Ok.items c.args.made.now c.add_section.new.elf
     (rw (c.as_slice.ensures, c.as_slice-2.ensures, c.as_slice-3.ensures) at c.in-Ok.ensures.told)
+    (rw (c.as_slice.ensures, c.as_slice-2.ensures, c.as_slice-3.ensures) at c.in-Ok.ensures.read)
     (rw c.as_slice.ensures at c.add_section.ensures.made)
 
 pub returns-in-Ok-clause-err : goal.returns-in-Ok-clause-err

@@ -1,18 +1,15 @@
 use Rattle.std.proofs.Common.{◌≡◌, true, false, length, sym, ap, ◌∙◌}
 use Rattle.std.proofs.lemmas.Bool.{eqb-true, eq-eqb}
 use Rattle.elf_object.specs.Object.{Object}
-use Rattle.rebuild_plan.proofs.rebuild_keep.FillLaws.{has_none, null_made, null_told, null_class}
-use Rattle.rebuild_object.specs.Objects.{sections_in}
-use Rattle.rebuild_object.proofs.FillLaws.{none_in, all_in}
+use Rattle.rebuild_plan.proofs.rebuild_keep.FillLaws.{null_made, null_told, null_class}
+use Rattle.rebuild_object.proofs.FillLaws.{none_planned, all_planned}
 use Rattle.rebuild_object.proofs.filling.fill_sections.Goals as goal
 
 pub returns-then-is_empty-clause-sections : goal.returns-then-is_empty-clause-sections
 returns-then-is_empty-clause-sections g c =
-    has_none c.args.elf.now.told
-    (sections_in c.args.elf.now.o c.args.x.now) c.args.made.now
-    (none_in c.args.elf.now.o c.args.x.now
+    none_planned c.args.elf.now.told c.args.elf.now.o c.args.x.now c.args.made.now
     (eqb-true (length c.args.x.now.listed.headers) 0
-    (sym c.is_empty.ensures ∙ c.if-is_empty.true))) c.requires.empty c.requires.count
+    (sym c.is_empty.ensures ∙ c.if-is_empty.true)) c.requires.empty c.requires.count
 
 pub add_sections-requires-clause-first : goal.add_sections-requires-clause-first
 add_sections-requires-clause-first g c =
@@ -26,7 +23,7 @@ add_sections-requires-clause-class g c =
 
 pub returns-clause-sections : goal.returns-clause-sections
 returns-clause-sections g c =
-    all_in c.add_sections.result c.args.elf.now.told c.args.elf.now.o c.args.x.now
+    all_planned c.add_sections.result c.args.elf.now.told c.args.elf.now.o c.args.x.now
     c.args.made.now c.newnull.new.self c.add_sections.new.made
     (λ none.
     let yes = eq-eqb (length c.args.x.now.listed.headers) 0 none in

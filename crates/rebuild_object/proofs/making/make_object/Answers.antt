@@ -5,7 +5,7 @@ use Rattle.elf_object.specs.Object.{Object}
 use Rattle.rebuild_plan.specs.elf_descriptor.State.{State}
 use Rattle.rebuild_plan.proofs.rebuild_keep.RebuildLaws.{fresh}
 use Rattle.rebuild_plan.proofs.rebuild_keep.AskLaws.{asks_as, asks_stop}
-use Rattle.rebuild_object.proofs.FillLaws.{stays_object, asks_created, made_whole, asks_front, asks_whole}
+use Rattle.rebuild_object.proofs.FillLaws.{stays_object, asks_created, made_whole, read_whole, asks_front, asks_whole}
 use Rattle.rebuild_object.proofs.making.make_object.Goals as goal
 
 pub fill_planned-requires-clause-empty : goal.fill_planned-requires-clause-empty
@@ -36,6 +36,12 @@ returns-in-Ok-fill_planned-clause-object g c = λ t.
     made_whole c.args.elf.now c.create_over_base.new.elf c.in-Ok.ensures.stays c.args.x.now
     c.in-Ok.made c.fill_planned.new.made c.in-Ok.ensures.made.exact
     c.in-Ok-fill_planned.ensures.made t
+
+pub returns-in-Ok-fill_planned-clause-read : goal.returns-in-Ok-fill_planned-clause-read
+returns-in-Ok-fill_planned-clause-read g c =
+    read_whole c.args.elf.now c.create_over_base.new.elf c.in-Ok.ensures.stays
+    c.args.elf.now.told c.args.x.now c.in-Ok.made c.fill_planned.new.made c.requires.front.below
+    c.in-Ok.ensures.made c.dirty-sound.ensures.sound.object.base c.in-Ok-fill_planned.ensures.made
 
 pub returns-in-Ok-fill_planned-clause-asks : goal.returns-in-Ok-fill_planned-clause-asks
 returns-in-Ok-fill_planned-clause-asks g c =

@@ -1,6 +1,6 @@
-use Rattle.tool_files.specs.elf_descriptor.Reads.{wanted}
-use Rattle.rebuild_plan.specs.rebuild_select.Calls as calls
-use Rattle.rebuild_plan.proofs.rebuild_keep.WholeLaws.{clean_stays, removable_stays}
+use Rattle.rebuild_files.specs.elf_descriptor.Reads.{wanted}
+use Rattle.rebuild_files.specs.rebuild_plan.rebuild_select.Calls as calls
+use Rattle.rebuild_files.proofs.rebuild_plan.rebuild_keep.WholeLaws.{clean_stays, removable_stays}
 use Rattle.strip_tool.proofs.StripLemmas.{planned_without, unplanned}
 use Rattle.strip_tool.proofs.planning.plan_stripped.Goals as goal
 

@@ -1,8 +1,8 @@
 use Rattle.std.proofs.Common.{IsTrue, IsSome, ◌<◌, ◌⊎◌, inr}
 use Rattle.elf_outside.specs.Counts.{Rose}
 use Rattle.rebuild_join.proofs.elf_descriptor.BeginAnswers.{begun_clean}
-use Rattle.strip_tool.proofs.tool_objects.SourceSteps.{leaves_then}
-use Rattle.strip_tool.proofs.StripLemmas.{begun_over, begun_tied, begun_object_fits}
+use Rattle.rebuild_files.proofs.tool_objects.SourceSteps.{leaves_then}
+use Rattle.rebuild_files.proofs.BegunLemmas.{begun_over, begun_tied, begun_object_fits}
 use Rattle.unstrip_tool.specs.Joins.{debug_done}
 use Rattle.unstrip_tool.proofs.BesideLemmas.{begun_writes, begun_refused}
 use Rattle.unstrip_tool.proofs.files.join_stripped.Goals as goal

@@ -1,7 +1,7 @@
 use Rattle.std.proofs.Common.{IsTrue, IsSome, ◌<◌, ◌⊎◌, inr}
 use Rattle.rebuild_join.proofs.elf_descriptor.BeginAnswers.{begun_clean}
-use Rattle.strip_tool.proofs.tool_objects.SourceSteps.{leaves_then}
-use Rattle.strip_tool.proofs.StripLemmas.{begun_over, begun_tied}
+use Rattle.rebuild_files.proofs.tool_objects.SourceSteps.{leaves_then}
+use Rattle.rebuild_files.proofs.BegunLemmas.{begun_over, begun_tied}
 use Rattle.unstrip_tool.specs.Joins.{objects_done}
 use Rattle.unstrip_tool.proofs.BesideLemmas.{same_source, begun_writes, begun_refused}
 use Rattle.unstrip_tool.proofs.joining.join_debug.Goals as goal

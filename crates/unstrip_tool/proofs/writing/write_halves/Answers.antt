@@ -1,7 +1,7 @@
 use Rattle.rebuild_join.specs.elf_descriptor.Reads.{wanted}
 use Rattle.rebuild_join.specs.rebuild_select.Calls as calls
 use Rattle.rebuild_join.proofs.rebuild_keep.WholeLaws.{clean_stays, removable_stays}
-use Rattle.strip_tool.proofs.StripLemmas.{over_stays}
+use Rattle.rebuild_files.proofs.BegunLemmas.{over_stays}
 use Rattle.unstrip_tool.proofs.WriteLemmas.{removed_written, removed_refused}
 use Rattle.unstrip_tool.proofs.writing.write_halves.Goals as goal
 

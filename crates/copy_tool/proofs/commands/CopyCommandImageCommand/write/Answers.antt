@@ -1,9 +1,9 @@
 use Rattle.std.proofs.Common.{codes, subst}
 use Rattle.tool_output.specs.Made.{written_outcome}
-use Rattle.strip_tool.specs.tool_files.ElfImages.Writes.{WritesFile}
+use Rattle.rebuild_files.specs.tool_files.ElfImages.Writes.{WritesFile}
 use Rattle.copy_tool.specs.Writes.{Copying, copied_done}
-use Rattle.strip_tool.proofs.elf_descriptor.BeginAnswers.{begun_clean}
-use Rattle.strip_tool.proofs.StripLemmas.{begun_over}
+use Rattle.rebuild_files.proofs.elf_descriptor.BeginAnswers.{begun_clean}
+use Rattle.rebuild_files.proofs.BegunLemmas.{begun_over}
 use Rattle.copy_tool.proofs.commands.CopyCommandImageCommand.write.Goals as goal
 
 pub write_copied-requires-clause-over : goal.write_copied-requires-clause-over

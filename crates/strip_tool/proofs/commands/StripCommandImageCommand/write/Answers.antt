@@ -1,5 +1,5 @@
-use Rattle.tool_files.proofs.elf_descriptor.BeginAnswers.{begun_clean}
-use Rattle.strip_tool.proofs.StripLemmas.{begun_over}
+use Rattle.rebuild_files.proofs.elf_descriptor.BeginAnswers.{begun_clean}
+use Rattle.rebuild_files.proofs.BegunLemmas.{begun_over}
 use Rattle.strip_tool.proofs.commands.StripCommandImageCommand.write.Goals as goal
 
 pub write_stripped-requires-clause-over : goal.write_stripped-requires-clause-over

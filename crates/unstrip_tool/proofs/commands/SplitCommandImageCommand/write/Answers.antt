@@ -1,5 +1,5 @@
 use Rattle.rebuild_join.proofs.elf_descriptor.BeginAnswers.{begun_clean}
-use Rattle.strip_tool.proofs.StripLemmas.{begun_over}
+use Rattle.rebuild_files.proofs.BegunLemmas.{begun_over}
 use Rattle.unstrip_tool.proofs.commands.SplitCommandImageCommand.write.Goals as goal
 
 pub write_halves-requires-clause-over : goal.write_halves-requires-clause-over
