@@ -111,7 +111,7 @@ help_text usage = command_help usage
 
 -- the name and the version
 unfoldable pub version_text : List ℕ
-version_text = codes "elfkit 0.1.0\n"
+version_text = codes "elfkit 1.0.0\n"
 
 unfoldable pub notice_text : Notice → List ℕ
 notice_text (Help usage) = help_text usage

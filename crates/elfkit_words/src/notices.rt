@@ -36,7 +36,7 @@ impl Notice {
     {
         match self {
             Notice::Help(usage) => help_text(usage),
-            Notice::Version => "elfkit 0.1.0\n",
+            Notice::Version => "elfkit 1.0.0\n",
         }
     }
 }

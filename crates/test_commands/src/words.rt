@@ -77,7 +77,7 @@ static SAID: [Case; 7] = [
         line: "--version F",
         ending: Ending {
             status: Status::Done,
-            out: b"elfkit 0.1.0\n",
+            out: b"elfkit 1.0.0\n",
             err: b"",
         },
         ..UNOPENED

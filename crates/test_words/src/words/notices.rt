@@ -91,7 +91,7 @@ const TEXTS: [Row; 5] = [
             "  lines     show line tables of DWARF 2 to 4\n",
         ),
     ),
-    ("version", "elfkit 0.1.0\n"),
+    ("version", "elfkit 1.0.0\n"),
     ("size", "usage: elfkit size FILE..\n"),
     (
         "nm",
