@@ -10,10 +10,10 @@
 bool
 begin_archive (Elf *elf)
 {
-  struct elfkit_lent image = { elf->lent, elf->size }, back = { NULL, 0 };
-  elf->archive = new_zeros (sizeof *elf->archive);
+  elf->archive = is_apart (elf) ? new_zeros (sizeof *elf->archive) : NULL;
   if (elf->archive == NULL)
     return false;
+  struct elfkit_lent image = { elf->lent, elf->size }, back = { NULL, 0 };
   elf->archive->place = FIRST_HEADER;
   return is_given (elfkit_ar_begin (image, &elf->archive->handle, &back));
 }

@@ -1,5 +1,7 @@
 /* begin.c: elf_begin, elf_memory, elf_clone, elf_end and what asks for the descriptor as a whole.
-   The core reads the headers of an image and refuses what is none. */
+   The core reads the headers of an image and refuses what is none. An image in the machine's order
+   whose ELF header says where its tables are, and which has them there, is none of these: the core
+   reads its headers once a program asks for more than counts and headers. */
 #include <fcntl.h>
 
 #include "object.h"
@@ -18,35 +20,95 @@ kind_of (const uint8_t *image, size_t size)
   return ELF_K_NONE;
 }
 
-/* The native form of the ELF header, from the core's. What it says of the tables is what stands in
-   the image. */
+/* Puts the ELF header of the core's object into its native form. What it says of the tables is what
+   stands in the image. */
 static bool
-make_ehdr (Elf *elf)
+put_core_ehdr (Elf *elf, struct elfkit_handle *h)
 {
   struct elfkit_ehdr x;
-  elfkit_ehdr (&elf->handle, &x);
-  elf->class = x.class;
-  elf->order = x.order;
+  elfkit_ehdr (h, &x);
   const struct tables t = elf->tables;
   GElf_Ehdr e = { .e_type = x.etype, .e_machine = x.machine, .e_version = t.version,
                   .e_entry = x.entry, .e_phoff = t.phoff, .e_shoff = t.shoff, .e_flags = x.flags,
                   .e_ehsize = x.ehsize, .e_phentsize = t.phentsize, .e_phnum = t.phnum,
                   .e_shentsize = t.shentsize, .e_shnum = t.shnum, .e_shstrndx = t.shstrndx };
   memcpy (e.e_ident, elf->lent, EI_NIDENT);
-  elf->ehdr = new_zeros (item_size (ELF_T_EHDR, elf->class));
-  return elf->ehdr != NULL && put_ehdr (elf, &e);
+  return put_ehdr (elf, &e);
 }
 
-/* Makes the object of the image; false and an error where it is refused. */
+#ifdef ELFKIT_CHECK
+/* Compares what was taken from a plain image with the core's, of an object that is ended again, and
+   the section headers that read_shdr takes. */
+static bool
+check_ehdr (Elf *elf)
+{
+  struct elfkit_handle h = { NULL };
+  GElf_Ehdr taken, core;
+  GElf_Shdr shdr;
+  if (!begin_over (elf->lent, elf->size, &h))
+    {
+      if (elf_errno () != E_NOMEM)
+        abort ();
+      return false_with (E_NOMEM);
+    }
+  gelf_getehdr (elf, &taken);
+  if (!put_core_ehdr (elf, &h) || memcmp (&taken, gelf_getehdr (elf, &core), sizeof taken) != 0
+      || elfkit_phnum (&h) != elf->phnum || elfkit_shnum (&h) != elf->shnum
+      || elfkit_shstrndx (&h) != elf->shstrndx)
+    abort ();
+  const uint8_t *table = elf->lent + elf->tables.shoff;
+  for (size_t i = 0; elf->class == ELFCLASS64 && i < elf->shnum; i++)
+    if (elfkit_shdr (&h, i, &shdr) != REFUSED_NOT
+        || memcmp (&shdr, table + i * sizeof shdr, sizeof shdr) != 0)
+      abort ();
+  end_object (&h);
+  return true;
+}
+#endif
+
+/* Takes the ELF header and the counts from an image that is plain. A library that is built with
+   ELFKIT_CHECK compares them with the core's. */
+static bool
+take_ehdr (Elf *elf)
+{
+  memcpy (elf->ehdr, elf->lent, item_size (ELF_T_EHDR, elf->class));
+  elf->phnum = elf->tables.phnum;
+  elf->shnum = elf->opened = elf->tables.shnum;
+  elf->shstrndx = elf->shnum == 0 ? SHN_UNDEF : elf->tables.shstrndx;
+#ifdef ELFKIT_CHECK
+  return check_ehdr (elf);
+#else
+  return true;
+#endif
+}
+
+/* Takes them from the core, which makes the object; false and an error where it refuses the
+   image. */
+static bool
+ask_ehdr (Elf *elf)
+{
+  if (!is_given (begin_core (elf)) || !put_core_ehdr (elf, core_of (elf)))
+    return false;
+  elf->phnum = elfkit_phnum (core_of (elf));
+  elf->shnum = elf->opened = elfkit_shnum (core_of (elf));
+  elf->shstrndx = elfkit_shstrndx (core_of (elf));
+  return true;
+}
+
+/* Has the ELF header in native form, and the counts; false and an error where the image is
+   refused. */
 static bool
 begin_object (Elf *elf)
 {
-  if (!is_given (begin_core (elf)))
+  elf->class = elf->lent[EI_CLASS];
+  elf->order = elf->lent[EI_DATA];
+  elf->tables = tables_of (elf->lent);
+  elf->ehdr = new_zeros (item_size (ELF_T_EHDR, elf->class));
+  if (elf->ehdr == NULL || !(is_plain (elf) ? take_ehdr (elf) : ask_ehdr (elf)))
     return false;
-  /* a table at place 0 is none */
-  elf->phnum = elf->tables.phoff == 0 ? 0 : elfkit_phnum (&elf->handle);
-  elf->shnum = elf->opened = elfkit_shnum (&elf->handle);
-  return make_ehdr (elf);
+  if (elf->tables.phoff == 0)
+    elf->phnum = 0;             /* a table at place 0 is none */
+  return true;
 }
 
 /* Makes what a descriptor of its kind has besides; false and an error where the image is
@@ -93,7 +155,11 @@ begun_member (Elf *archive, Elf_Cmd cmd)
       elf_end (elf);
       return null_with (E_NOMEM);
     }
+  free (elf->ehdr);
+  elf->ehdr = NULL;
   elf->kind = ELF_K_NONE;
+  elf->class = ELFCLASSNONE;
+  elf->order = ELFDATANONE;
   return elf;
 }
 
@@ -296,7 +362,10 @@ elf_getident (Elf *elf, size_t *size)
 PUBLIC char *
 elf_rawfile (Elf *elf, size_t *size)
 {
+  bool has_bytes = elf != NULL && is_apart (elf);
   if (size != NULL)
-    *size = elf == NULL ? 0 : elf->size;
-  return elf == NULL ? null_with (E_INVALID_HANDLE) : (char *) elf->shown;
+    *size = has_bytes ? elf->size : 0;
+  if (elf == NULL)
+    return null_with (E_INVALID_HANDLE);
+  return has_bytes ? (char *) elf->shown : NULL;
 }

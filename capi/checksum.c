@@ -33,7 +33,7 @@ gelf_checksum (Elf *elf)
     {
       GElf_Shdr shdr;
       if (gelf_getshdr (scn, &shdr) == NULL)
-        return negative_with (E_INVALID_SECTION_HEADER);
+        return -1;
       if (shdr.sh_type == SHT_NOBITS || !stays (elf, names, &shdr))
         continue;
       const Elf_Data *data = elf_rawdata (scn, NULL);

@@ -70,7 +70,7 @@ static bool
 make_raw (Elf_Scn *scn)
 {
   GElf_Shdr shdr;
-  if (!is_given (elfkit_shdr (&scn->elf->handle, scn->index, &shdr)) || !has_home (scn))
+  if (!has_home (scn) || !is_given (elfkit_shdr (core_of (scn->elf), scn->index, &shdr)))
     return false;
   if (!lies_in (scn->home.at, scn->home.len, scn->elf->size) && scn->home.len > 0)
     return false_with (E_INVALID_SECTION_HEADER);
@@ -92,10 +92,13 @@ elf_rawdata (Elf_Scn *scn, Elf_Data *data)
     return null_with (E_INVALID_HANDLE);
   if (data != NULL)
     return scn->raw != NULL && data == &scn->raw->d ? NULL : null_with (E_INVALID_OPERAND);
-  if (scn->raw == NULL && scn->raw_error == E_NONE
+  int error = scn->raw_error;
+  if (scn->raw == NULL && error == E_NONE
       && !(scn->is_made ? raw_of (scn) != NULL : make_raw (scn)))
-    scn->raw_error = elf_errno ();
-  return scn->raw != NULL ? &scn->raw->d : null_with (scn->raw_error);
+    error = elf_errno ();
+  if (error != E_NOMEM)
+    scn->raw_error = error;
+  return scn->raw != NULL ? &scn->raw->d : null_with (error);
 }
 
 /* Whether the core says that a section has such items; an error where it does not. */
@@ -103,7 +106,7 @@ static bool
 has_items (Elf_Scn *scn, Elf_Type type)
 {
   uint32_t kind;
-  if (!is_given (elfkit_kind (&scn->elf->handle, scn->index, 0, &kind)))
+  if (!is_given (elfkit_kind (core_of (scn->elf), scn->index, 0, &kind)))
     return false;
   return kind == (types[type].kind != 0 ? types[type].kind : BYTES) || false_with (E_INVALID_DATA);
 }
@@ -151,12 +154,15 @@ elf_getdata (Elf_Scn *scn, Elf_Data *data)
     return next_piece (scn, data);
   if (scn->is_made)
     return &scn->data.d;
+  int error = scn->data_error;
   if (scn->has_data == 0)
     {
-      scn->has_data = make_data (scn) ? 1 : 2;
-      scn->data_error = scn->has_data == 2 ? elf_errno () : E_NONE;
+      bool is_there = make_data (scn);
+      error = is_there ? E_NONE : elf_errno ();
+      scn->has_data = is_there ? 1 : error == E_NOMEM ? 0 : 2;
+      scn->data_error = error;
     }
-  return scn->has_data == 1 ? &scn->data.d : null_with (scn->data_error);
+  return scn->has_data == 1 ? &scn->data.d : null_with (error);
 }
 
 /* The order of the chunks of a file, which stand in a tree. */
@@ -203,7 +209,7 @@ free_chunks (Elf *elf)
 static Elf_Scn *
 make_chunk (Elf *elf, int64_t offset, size_t size, Elf_Type type)
 {
-  Elf_Scn *made = new_zeros (sizeof *made);
+  Elf_Scn *made = is_apart (elf) ? new_zeros (sizeof *made) : NULL;
   if (made == NULL)
     return NULL;
   made->elf = elf;

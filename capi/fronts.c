@@ -63,6 +63,23 @@ make_front (uint8_t *image, const uint8_t *ident)
   put (image, ehsize_at, 2, item_size (ELF_T_EHDR, ident[EI_CLASS]));
 }
 
+/* The most bytes that an image has (crates/elf_types, MAX_IMAGE). */
+#define MOST_BYTES ((uint64_t) 1 << 40)
+
+bool
+is_plain (const Elf *elf)
+{
+  const struct places *p = places_of (elf->lent);
+  const struct tables *t = &elf->tables;
+  bool has_segments = t->phentsize == p->phdr
+                      && lies_in (t->phoff, (uint64_t) t->phnum * p->phdr, elf->size);
+  bool has_table = t->shentsize == p->shdr && t->shnum != 0 && t->shstrndx != SHN_XINDEX
+                   && lies_in (t->shoff, (uint64_t) t->shnum * p->shdr, elf->size);
+  return elf->lent[EI_DATA] == NATIVE_ORDER && elf->size <= MOST_BYTES
+         && t->version == EV_CURRENT && t->phnum != PN_XNUM && (t->phnum == 0 || has_segments)
+         && (t->shoff == 0 ? t->shnum == 0 : has_table);
+}
+
 /* Takes the section headers out of a front, where it has any. */
 static bool
 drop_sections (Elf *elf, uint8_t *image)
@@ -163,7 +180,8 @@ end_object (struct elfkit_handle *h)
 uint32_t
 begin_core (Elf *elf)
 {
-  elf->tables = tables_of (elf->lent);
+  if (!is_apart (elf))
+    return REFUSED_MEMORY;
   for (;;)
     {
       uint32_t number = lend (elf->lent, elf->size, &elf->handle);

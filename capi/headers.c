@@ -96,10 +96,13 @@ elf_getshdrstrndx (Elf *elf, size_t *index)
   if (ehdr.e_shstrndx == SHN_XINDEX && elf->shnum == 0)
     return negative_with (E_INVALID_SECTION_HEADER);
   if (is_as_opened)
-    *index = elfkit_shstrndx (&elf->handle);
-  else if (ehdr.e_shstrndx == SHN_XINDEX
-           && gelf_getshdr (elf_getscn (elf, 0), &first) != NULL)
-    *index = first.sh_link;
+    *index = elf->shstrndx;
+  else if (ehdr.e_shstrndx == SHN_XINDEX)
+    {
+      if (gelf_getshdr (elf_getscn (elf, 0), &first) == NULL)
+        return -1;
+      *index = first.sh_link;
+    }
   return 0;
 }
 
@@ -123,7 +126,8 @@ gelf_getphdr (Elf *elf, int ndx, GElf_Phdr *dst)
   if (elf->phnum == 0)
     return null_with (E_NO_PHDR);
   if (elf->phdr == NULL)
-    return is_given (elfkit_phdr (&elf->handle, (uint32_t) ndx, dst)) ? dst : NULL;
+    return has_core (elf) && is_given (elfkit_phdr (core_of (elf), (uint32_t) ndx, dst)) ? dst
+                                                                                         : NULL;
   if (ndx < 0 || (size_t) ndx >= elf->phnum)
     return null_with (E_INVALID_INDEX);
   to_gelf (ELF_T_PHDR, elf->class, dst, phdr_at (elf, ndx));
@@ -138,11 +142,13 @@ native_phdrs (Elf *elf)
     return elf->phdr;
   if (elf->phnum == 0)
     return null_with (E_NO_PHDR);
+  if (!has_core (elf))
+    return NULL;
   elf->phdr = new_zeros (elf->phnum * item_size (ELF_T_PHDR, elf->class));
   for (size_t i = 0; elf->phdr != NULL && i < elf->phnum; i++)
     {
       GElf_Phdr x;
-      if (elfkit_phdr (&elf->handle, i, &x) == REFUSED_NOT)
+      if (elfkit_phdr (core_of (elf), i, &x) == REFUSED_NOT)
         from_gelf (ELF_T_PHDR, elf->class, phdr_at (elf, i), &x);
     }
   return elf->phdr;
@@ -177,11 +183,13 @@ read_shdr (const Elf_Scn *scn, GElf_Shdr *dst)
   uint64_t at = elf->tables.shoff + scn->index * sizeof *dst;
   if (elf->class != ELFCLASS64 || elf->order != NATIVE_ORDER
       || !lies_in (at, sizeof *dst, elf->size))
-    return is_given (elfkit_shdr (&elf->handle, scn->index, dst));
+    return has_core (elf) && is_given (elfkit_shdr (core_of (elf), scn->index, dst));
   memcpy (dst, elf->lent + at, sizeof *dst);
 #ifdef ELFKIT_CHECK
-  GElf_Shdr x;
-  if (elfkit_shdr (&elf->handle, scn->index, &x) != REFUSED_NOT || memcmp (&x, dst, sizeof x) != 0)
+  GElf_Shdr x;                  /* before there is an object, check_ehdr has compared them */
+  if (elf->handle.ptr != NULL
+      && (elfkit_shdr (&elf->handle, scn->index, &x) != REFUSED_NOT
+          || memcmp (&x, dst, sizeof x) != 0))
     abort ();
 #endif
   return true;

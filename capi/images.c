@@ -1,7 +1,8 @@
 /* images.c: where the bytes of an image are. The layer maps the file twice, privately: one mapping
    is lent to the core and nobody writes it, the other is what programs see, since some write into
    the data of a section. Of ELF_C_READ_MMAP both are one mapping, which nobody can write. A file
-   that cannot be mapped is read, and so is a small one of ELF_C_READ, which takes less time. */
+   that cannot be mapped is read, and so is a small one of ELF_C_READ, which takes less time; of
+   that the core gets bytes of its own once it is asked. */
 #define _GNU_SOURCE
 #include <sys/mman.h>
 #include <sys/stat.h>
@@ -75,20 +76,29 @@ read_bytes (int fd, size_t *size)
   return bytes;
 }
 
-/* Has the bytes that were read, once for the core and once for programs. */
-static bool
-take_bytes (Elf *elf, uint8_t *bytes)
+bool
+is_apart (Elf *elf)
 {
-  uint8_t *shown = bytes == NULL ? NULL : new_copy (bytes, elf->size);
-  if (shown == NULL)
-    {
-      free (bytes);
-      return false;
-    }
-  elf->lent = bytes;
-  elf->shown = shown;
+  if (elf->memory != COPIED || elf->lent != elf->shown)
+    return true;
+  const uint8_t *own = new_copy (elf->shown, elf->size);
+  if (own != NULL)
+    elf->lent = own;
+  return own != NULL;
+}
+
+/* Has the bytes of a file, which are read unless it is a small one that was; false and an error
+   where they cannot be read. */
+static bool
+take_bytes (Elf *elf, int fd, uint8_t *small)
+{
   elf->memory = COPIED;
-  return true;
+  elf->shown = small != NULL ? small : read_bytes (fd, &elf->size);
+  elf->lent = elf->shown;
+  if (elf->shown != NULL && (small != NULL || is_apart (elf)))
+    return true;
+  free (elf->shown);
+  return false;
 }
 
 bool
@@ -101,7 +111,7 @@ take_file (Elf *elf, int fd)
   elf->size = st.st_size;
   bool is_mapped = small == NULL && S_ISREG (st.st_mode) && st.st_size > 0
                    && map_file (elf, fd, st.st_size);
-  if (!is_mapped && !take_bytes (elf, small != NULL ? small : read_bytes (fd, &elf->size)))
+  if (!is_mapped && !take_bytes (elf, fd, small))
     return false;
   elf->map = elf->shown;
   return true;
@@ -120,7 +130,7 @@ void
 let_go (Elf *elf)
 {
   bool is_twice = elf->memory == MAPPED || elf->memory == COPIED || elf->memory == WRITTEN;
-  if (is_twice)
+  if (is_twice && elf->lent != elf->shown)
     drop_bytes ((void *) elf->lent, elf->size, elf->memory == MAPPED);
   if (is_twice || elf->memory == MAPPED_ONCE
       || (elf->memory == BORROWED && (elf->marks & IS_HANDED_OVER)))

@@ -18,7 +18,7 @@ is_asked (const struct elfkit_data *d, Elf_Type type)
 static uint32_t
 core_item (const struct elfkit_data *d, uint64_t i, void *dst)
 {
-  struct elfkit_handle *h = &d->elf->handle;
+  struct elfkit_handle *h = core_of (d->elf);
   switch (d->d.d_type)
     {
     case ELF_T_SYM:

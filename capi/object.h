@@ -89,7 +89,7 @@ struct Elf
   uint64_t theirs[11];          /* libdwfl writes here to find an image in a kernel's file */
 
   uint8_t *shown;               /* the image as programs see it, and may change it */
-  struct elfkit_handle handle;  /* the core's object, where the kind is ELF_K_ELF */
+  struct elfkit_handle handle;  /* the core's object, where the kind is ELF_K_ELF (has_core) */
   const uint8_t *lent;          /* the image as the core reads it */
   /* MAPPED_ONCE: programs see the lent bytes themselves; INSIDE: it lies in its archive's image */
   enum { MAPPED, MAPPED_ONCE, COPIED, BORROWED, INSIDE, WRITTEN, NOTHING } memory;
@@ -100,6 +100,7 @@ struct Elf
   unsigned int order;
   void *phdr;                   /* its program headers in native form */
   size_t phnum;
+  uint32_t shstrndx;            /* the section of names that the image tells */
   Elf_Scn *sections;            /* those of the image that was opened */
   size_t opened;
   struct list added;            /* those that a program made, behind them */
@@ -278,6 +279,10 @@ bool put_shdr (Elf_Scn *scn, const GElf_Shdr *src);
    had. */
 bool take_file (Elf *elf, int fd);
 
+/* Has the bytes that are lent apart from those that programs see, where they are not in a mapping
+   or the program's; false and an error where there is no memory. */
+bool is_apart (Elf *elf);
+
 /* Lets go of the image, and of what programs saw of images before. */
 void let_go (Elf *elf);
 
@@ -329,6 +334,31 @@ void end_object (struct elfkit_handle *h);
 
 /* Begins over the image of a descriptor; the number of the core's refusal, or 0. */
 uint32_t begin_core (Elf *elf);
+
+/* Whether the core is sure to take the image as it is, with the counts of its ELF header, and that
+   header has the native form. */
+bool is_plain (const Elf *elf);
+
+/* Whether there is the core's object of an image, which is made when it is first asked for where
+   the image is plain; false and an error where there is no memory, or where another program has
+   changed the file meanwhile. */
+static inline bool
+has_core (Elf *elf)
+{
+  return elf->handle.ptr != NULL
+         || (is_apart (elf) && begin_over (elf->lent, elf->size, &elf->handle));
+}
+
+/* That object, which is there. */
+static inline struct elfkit_handle *
+core_of (Elf *elf)
+{
+#ifdef ELFKIT_CHECK
+  if (elf->handle.ptr == NULL)
+    abort ();
+#endif
+  return &elf->handle;
+}
 
 /* Makes the archive of the image; false and an error where it is refused. */
 bool begin_archive (Elf *elf);

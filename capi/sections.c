@@ -52,7 +52,9 @@ has_home (Elf_Scn *scn)
 {
   if (scn->has_home == 0)
     {
-      uint32_t number = elfkit_home (&scn->elf->handle, scn->index, &scn->home);
+      if (!has_core (scn->elf))
+        return false;
+      uint32_t number = elfkit_home (core_of (scn->elf), scn->index, &scn->home);
       scn->has_home = number == 0 ? 1 : 2;
       scn->home_error = error_of (number);
     }
@@ -105,7 +107,9 @@ gelf_offscn (Elf *elf, GElf_Off offset)
   for (size_t i = 0; i < elf->shnum; i++)
     {
       GElf_Shdr shdr;
-      if (gelf_getshdr (section_at (elf, i), &shdr) == NULL || shdr.sh_offset != offset)
+      if (gelf_getshdr (section_at (elf, i), &shdr) == NULL)
+        return NULL;
+      if (shdr.sh_offset != offset)
         continue;
       found = section_at (elf, i);
       if (shdr.sh_size != 0 && shdr.sh_type != SHT_NOBITS)
@@ -120,8 +124,9 @@ PUBLIC Elf_Scn *elf64_offscn (Elf *elf, Elf64_Off offset)
 { return gelf_getclass (elf) == ELFCLASS64 ? gelf_offscn (elf, offset) : NULL; }
 
 /* Notes of each section which one has its extended indexes: the first that links to it. One pass
-   serves all sections, until a header is stored. */
-static void
+   serves all sections, until a header is stored. False and an error where a header is not to be
+   had. */
+static bool
 link_sections (Elf *elf)
 {
   for (size_t i = 0; i < elf->shnum; i++)
@@ -129,11 +134,12 @@ link_sections (Elf *elf)
   for (size_t i = elf->shnum; i-- > 1;)
     {
       GElf_Shdr shdr;
-      if (gelf_getshdr (section_at (elf, i), &shdr) != NULL && shdr.sh_type == SHT_SYMTAB_SHNDX
-          && shdr.sh_link < elf->shnum)
+      if (gelf_getshdr (section_at (elf, i), &shdr) == NULL)
+        return false;
+      if (shdr.sh_type == SHT_SYMTAB_SHNDX && shdr.sh_link < elf->shnum)
         section_at (elf, shdr.sh_link)->extended = i;
     }
-  elf->has_links = true;
+  return elf->has_links = true;
 }
 
 /* elf_scnshndx: the section with the extended indexes of a symbol table, 0 where there is none. */
@@ -142,8 +148,8 @@ elf_scnshndx (Elf_Scn *scn)
 {
   if (scn == NULL)
     return -1;
-  if (!scn->elf->has_links)
-    link_sections (scn->elf);
+  if (!scn->elf->has_links && !link_sections (scn->elf))
+    return -1;
   return (int) scn->extended;
 }
 
@@ -155,7 +161,7 @@ find_end (Elf_Scn *scn)
 {
   GElf_Shdr shdr;
   uint32_t kind;
-  struct elfkit_handle *h = &scn->elf->handle;
+  struct elfkit_handle *h = core_of (scn->elf);
   if (elfkit_shdr (h, scn->index, &shdr) != 0 || shdr.sh_type != SHT_STRTAB
       || elfkit_kind (h, scn->index, 0, &kind) != 0 || kind != BYTES || !has_home (scn)
       || !lies_in (scn->home.at, scn->home.len, scn->elf->size))
@@ -183,11 +189,11 @@ refused_string (Elf_Scn *scn, size_t offset)
   if (!scn->has_end)
     find_end (scn);
   if (!scn->has_end)
-    return elfkit_string (&scn->elf->handle, scn->index, offset, &length);
+    return elfkit_string (core_of (scn->elf), scn->index, offset, &length);
   uint32_t number = offset < scn->strings_end ? REFUSED_NOT
                     : offset < scn->home.len ? REFUSED_UNENDED : REFUSED_NO_STRING;
 #ifdef ELFKIT_CHECK
-  if (elfkit_string (&scn->elf->handle, scn->index, offset, &length) != number)
+  if (elfkit_string (core_of (scn->elf), scn->index, offset, &length) != number)
     abort ();
 #endif
   return number;
@@ -238,11 +244,9 @@ unpacked_string (Elf_Scn *scn, size_t offset)
 
 /* Whether a section is one of strings that are compressed. */
 static bool
-is_packed (Elf_Scn *scn)
+is_packed (const GElf_Shdr *shdr)
 {
-  GElf_Shdr shdr;
-  return gelf_getshdr (scn, &shdr) != NULL && shdr.sh_type == SHT_STRTAB
-         && (shdr.sh_flags & SHF_COMPRESSED) != 0;
+  return shdr->sh_type == SHT_STRTAB && (shdr->sh_flags & SHF_COMPRESSED) != 0;
 }
 
 /* elf_strptr: the string at an offset of a section, which lies where programs see the section; of a
@@ -260,11 +264,17 @@ elf_strptr (Elf *elf, size_t index, size_t offset)
     return NULL;
   if (index >= elf->shnum)
     return null_with (E_INVALID_INDEX);
+  GElf_Shdr shdr;
   Elf_Scn *scn = section_at (elf, index);
-  if (!scn->has_end && is_packed (scn))
-    return unpacked_string (scn, offset);
+  if (!scn->has_end)
+    {
+      if (gelf_getshdr (scn, &shdr) == NULL)
+        return NULL;
+      if (is_packed (&shdr))
+        return unpacked_string (scn, offset);
+    }
   if (scn->is_made || scn->last != NULL || (scn->has_data == 1 && !scn->data.from_core))
     return own_string (scn, offset);
-  return is_given (refused_string (scn, offset)) && has_home (scn)
+  return has_core (elf) && is_given (refused_string (scn, offset)) && has_home (scn)
          ? (char *) elf->shown + scn->home.at + offset : NULL;
 }

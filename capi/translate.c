@@ -30,7 +30,7 @@ translate_items (unsigned int kind, unsigned int class, bool to_memory, uint8_t 
                  const uint8_t *from, size_t size)
 {
   const unsigned int foreign = NATIVE_ORDER == ELFDATA2LSB ? ELFDATA2MSB : ELFDATA2LSB;
-  const size_t page = 3 * 16384;        /* which the size of each item divides */
+  const size_t page = 3 * 2048; /* which the size of each item divides */
   for (size_t n; size > 0; bytes += n, from += n, size -= n)
     {
       n = size < page ? size : page;

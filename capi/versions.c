@@ -8,7 +8,7 @@
   if (d == NULL) \
     return NULL; \
   if (d->from_core) \
-    return is_given (call (&d->elf->handle, d->scn->index, 0, offset, dst)) ? dst : NULL; \
+    return is_given (call (core_of (d->elf), d->scn->index, 0, offset, dst)) ? dst : NULL; \
   memcpy (dst, (const uint8_t *) data->d_buf + offset, sizeof *dst); \
   return dst
 
@@ -23,50 +23,59 @@ PUBLIC GElf_Verneed *gelf_getverneed (Elf_Data *data, int offset, GElf_Verneed *
 PUBLIC GElf_Vernaux *gelf_getvernaux (Elf_Data *data, int offset, GElf_Vernaux *dst)
 { RECORD (elfkit_vernaux, ELF_T_VNEED); }
 
-/* A note in the buffer, as the core finds one: header, name and descriptor lie in it;
-   false and an error where they do not. */
-static bool
-note_in (const Elf_Data *data, size_t offset, struct elfkit_note *note)
+/* A note in the buffer, as the core finds one: header, name and descriptor lie in it. Gives the
+   place of the next one, 0 at the end, and 0 and an error where they do not lie in it. */
+static size_t
+note_in (const Elf_Data *data, size_t offset, GElf_Nhdr *nhdr, size_t *name, size_t *desc)
 {
-  Elf64_Nhdr n;
-  size_t size = data->d_size, align = data->d_type == ELF_T_NHDR8 ? 8 : 4;
+  const size_t size = data->d_size, mask = data->d_type == ELF_T_NHDR8 ? 7 : 3;
   if (offset == size)
-    {
-      *note = (struct elfkit_note) { 0 };
-      return true;
-    }
-  if (!lies_in (offset, sizeof n, size))
+    return 0;
+  GElf_Nhdr n;
+  if (size - offset < sizeof n)
     return false_with (E_OFFSET_RANGE);
   memcpy (&n, (const uint8_t *) data->d_buf + offset, sizeof n);
-  size_t name = offset + sizeof n, desc = round_up (name + n.n_namesz, align);
-  if (desc > size)
-    desc = size;
-  if (!lies_in (name, n.n_namesz, size) || !lies_in (desc, n.n_descsz, size))
+  /* no sum is too large: both sizes have 32 bits */
+  size_t name_at = offset + sizeof n, desc_at = (name_at + n.n_namesz + mask) & ~mask;
+  if (desc_at > size)
+    desc_at = size;
+  if (n.n_namesz > size - name_at || n.n_descsz > size - desc_at)
     return false_with (E_OFFSET_RANGE);
-  size_t next = round_up (desc + n.n_descsz, align);
-  *note = (struct elfkit_note) { .found = 1, .ntype = n.n_type, .name_at = name,
-                                 .namesz = n.n_namesz, .desc_at = desc, .descsz = n.n_descsz,
-                                 .next = next > size ? size : next };
-  return true;
+  size_t next = (desc_at + n.n_descsz + mask) & ~mask;
+  *nhdr = n;
+  *name = name_at;
+  *desc = desc_at;
+  return next > size ? size : next;
 }
 
-/* A note of data; false and an error where it does not lie in it. A library that is built with
-   ELFKIT_CHECK compares what it reads itself with the core's. */
-static bool
-note_of (const struct elfkit_data *d, size_t offset, struct elfkit_note *note)
+/* The same of the core, for a section as the image has it. */
+static size_t
+core_note (const struct elfkit_data *d, size_t offset, GElf_Nhdr *nhdr, size_t *name, size_t *desc)
 {
-  if (d->from_core && !d->is_native)
-    return is_given (elfkit_note (&d->elf->handle, d->scn->index, 0, offset, note));
-  bool is_there = note_in (&d->d, offset, note);
-#ifdef ELFKIT_CHECK
   struct elfkit_note x;
-  if (d->from_core
-      && ((elfkit_note (&d->elf->handle, d->scn->index, 0, offset, &x) == REFUSED_NOT) != is_there
-          || (is_there && memcmp (&x, note, sizeof x) != 0)))
-    abort ();
-#endif
-  return is_there;
+  if (!is_given (elfkit_note (core_of (d->elf), d->scn->index, 0, offset, &x)) || x.found == 0)
+    return 0;
+  *nhdr = (GElf_Nhdr) { .n_namesz = x.namesz, .n_descsz = x.descsz, .n_type = x.ntype };
+  *name = x.name_at;
+  *desc = x.desc_at;
+  return x.next;
 }
+
+#ifdef ELFKIT_CHECK
+/* Compares a note that was read in the buffer with the core's. */
+static void
+check_note (const struct elfkit_data *d, size_t offset, size_t next, const GElf_Nhdr *nhdr,
+            const size_t *name, const size_t *desc)
+{
+  struct elfkit_note x;
+  uint32_t number = elfkit_note (core_of (d->elf), d->scn->index, 0, offset, &x);
+  if (next == 0 ? (number == REFUSED_NOT) != (offset == d->d.d_size) || (number == 0 && x.found)
+      : number != REFUSED_NOT || !x.found || x.next != next || x.namesz != nhdr->n_namesz
+          || x.descsz != nhdr->n_descsz || x.ntype != nhdr->n_type || x.name_at != *name
+          || x.desc_at != *desc)
+    abort ();
+}
+#endif
 
 /* gelf_getnote: a note, and the place of the next one; 0 at the end and where there is none. */
 PUBLIC size_t
@@ -75,16 +84,17 @@ gelf_getnote (Elf_Data *data, size_t offset, GElf_Nhdr *nhdr, size_t *name_offse
 {
   if (data == NULL)
     return 0;
-  struct elfkit_data *d = data_of (data);
+  const struct elfkit_data *d = data_of (data);
   if ((data->d_type != ELF_T_NHDR && data->d_type != ELF_T_NHDR8) || d->elf == NULL)
     return false_with (E_INVALID_HANDLE);
   if (data->d_buf == NULL || offset > data->d_size)
     return false_with (E_OFFSET_RANGE);
-  struct elfkit_note note;
-  if (!note_of (d, offset, &note) || note.found == 0)
-    return 0;
-  *nhdr = (GElf_Nhdr) { .n_namesz = note.namesz, .n_descsz = note.descsz, .n_type = note.ntype };
-  *name_offset = note.name_at;
-  *desc_offset = note.desc_at;
-  return note.next;
+  if (d->from_core && !d->is_native)
+    return core_note (d, offset, nhdr, name_offset, desc_offset);
+  size_t next = note_in (data, offset, nhdr, name_offset, desc_offset);
+#ifdef ELFKIT_CHECK
+  if (d->from_core)
+    check_note (d, offset, next, nhdr, name_offset, desc_offset);
+#endif
+  return next;
 }

@@ -391,6 +391,7 @@ write_over (Elf *elf, const struct written *w)
   elf->kept = kept;
   end_object (&elf->handle);
   elf->handle = handle;
+  elf->shstrndx = elfkit_shstrndx (&elf->handle);
   elf->is_torn = !write_file (elf, w);
   drop_bytes ((void *) elf->lent, elf->size, elf->memory == MAPPED);
   elf->lent = w->image;

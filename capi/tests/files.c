@@ -51,6 +51,23 @@ read_file (const struct image *m, Elf_Cmd cmd)
   CHECK (elf_strptr (elf, STRINGS, 7) != NULL && elf_end (elf) == 0);
 }
 
+/* What a program writes where it sees the image is not what is read of headers, also when it wrote
+   before anything but the ELF header was asked for. */
+static void
+write_seen_bytes (const struct image *m, Elf_Cmd cmd)
+{
+  int fd = file_of (m->bytes, m->size);
+  Elf *elf = elf_begin (fd, cmd, NULL);
+  size_t size, count;
+  GElf_Shdr shdr;
+  memset (elf_rawfile (elf, &size), 0, m->size);
+  CHECK (elf_getshdrnum (elf, &count) == 0 && count == IMAGE_SECTIONS);
+  CHECK (gelf_getshdr (elf_getscn (elf, SYMBOLS), &shdr) == &shdr && shdr.sh_type == SHT_SYMTAB);
+  Elf_Data *data = elf_getdata (elf_getscn (elf, STRINGS), NULL);
+  CHECK (data != NULL && data->d_size == sizeof "\0first\0second");
+  CHECK (elf_end (elf) == 0 && holds (fd, m, m->size) && close (fd) == 0);
+}
+
 static void
 read_cut_file (const struct image *m)
 {
@@ -109,7 +126,11 @@ main (void)
       struct image m;
       make_image (&m, kind & 1, kind >> 1);
       for (int i = 0; i < 4; i++)
-        read_file (&m, cmds[i]);
+        {
+          read_file (&m, cmds[i]);
+          if (cmds[i] != ELF_C_READ_MMAP)
+            write_seen_bytes (&m, cmds[i]);
+        }
       read_cut_file (&m);
       read_pipe (&m);
       read_long_pipe (&m);

@@ -106,17 +106,44 @@ find_once (struct image *m)
   return whole;
 }
 
+/* Opens the file of an image, and asks for a section's extended indexes, a string, and what programs
+   see of the image; whether all of it was there. */
+static int
+look_once (struct image *m)
+{
+  size_t size = 0;
+  int fd = file_of (m->bytes, m->size);
+  Elf *elf = elf_begin (fd, ELF_C_READ, NULL);
+  int whole = elf_scnshndx (elf_getscn (elf, SYMBOLS)) == 0
+              && elf_strptr (elf, STRINGS, 1) != NULL && elf_rawfile (elf, &size) != NULL
+              && elf_getdata_rawchunk (elf, 0, 16, ELF_T_BYTE) != NULL;
+  CHECK (size == m->size || (size == 0 && !whole));
+  elf_end (elf);
+  close (fd);
+  return whole;
+}
+
+enum what { READ, WRITE, FIND, LOOK };
+
+/* Does once what is asked for, with the archive where there is one. */
+static int
+do_once (struct image *m, struct archive *a, enum what what)
+{
+  return a != NULL ? walk_once (a)
+         : what == READ ? read_once (m)
+         : what == WRITE ? write_once (m) : what == FIND ? find_once (m) : look_once (m);
+}
+
 /* What reads the image or the archive or writes the image, each allocation failing in turn. A write
-   may do without some of them, and zlib says in its own way what it lacks. */
+   and what opens a file may do without some of them, and zlib says in its own way what it lacks. */
 static void
-fail_each (struct image *m, struct archive *a, int writes)
+fail_each (struct image *m, struct archive *a, enum what what)
 {
   long n = 0;
   for (;; n++)
     {
       left = n;
-      int whole = a != NULL ? walk_once (a) : writes == 2 ? find_once (m)
-                  : writes ? write_once (m) : read_once (m);
+      int whole = do_once (m, a, what);
       int all_made = left >= 0;
       left = -1;
       if (all_made)
@@ -124,8 +151,8 @@ fail_each (struct image *m, struct archive *a, int writes)
           CHECK (whole);
           break;
         }
-      CHECK (!whole || writes);
-      CHECK (whole || writes == 2 || strcmp (elf_errmsg (-1), "out of memory") == 0);
+      CHECK (!whole || what != READ);
+      CHECK (whole || what == FIND || strcmp (elf_errmsg (-1), "out of memory") == 0);
       elf_errno ();
     }
   CHECK (n > 3);
@@ -140,11 +167,10 @@ main (void)
   for (int kind = 0; kind < 4; kind++)
     {
       make_image (&m, kind & 1, kind >> 1);
-      fail_each (&m, NULL, 0);
-      fail_each (&m, NULL, 1);
-      fail_each (&m, NULL, 2);
+      for (enum what what = READ; what <= LOOK; what++)
+        fail_each (&m, NULL, what);
     }
   make_archive (&a);
-  fail_each (NULL, &a, 0);
+  fail_each (NULL, &a, READ);
   return ended ("no_memory");
 }
