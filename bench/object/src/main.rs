@@ -2,7 +2,7 @@
 //! headers, symbols and names are used where they stand. The lines are those of elfkit for what compilers and linkers
 //! write; what is damaged ends the program.
 //!
-//! usage: object-peer size|symbols|nm FILE
+//! usage: object-peer size|header|sections|symbols|nm FILE
 
 use std::error::Error;
 use std::io::{self, BufWriter, StdoutLock, Write};
@@ -22,6 +22,8 @@ type Done = Result<(), Box<dyn Error>>;
 #[derive(Clone, Copy)]
 enum Command {
     Size,
+    Header,
+    Sections,
     Symbols,
     Nm,
 }
@@ -61,6 +63,92 @@ fn size<E: FileHeader<Endian = Endianness>>(object: &Object<'_>, out: &mut Out) 
         writeln!(out, " (ex {})", object.path)?;
     } else {
         writeln!(out, "{}", object.path)?;
+    }
+    Ok(())
+}
+
+// ---- readelf -h, -S
+
+/// Writes the line that names a member.
+fn title(object: &Object<'_>, out: &mut Out) -> io::Result<()> {
+    if let Some(member) = object.member {
+        write!(out, "{}[", object.path)?;
+        out.write_all(member)?;
+        out.write_all(b"]:\n")?;
+    }
+    Ok(())
+}
+
+fn object_type_name(kind: u16) -> &'static str {
+    ["NONE", "REL", "EXEC", "DYN", "CORE"].get(usize::from(kind)).copied().unwrap_or("OTHER")
+}
+
+fn machine_name(machine: u16) -> &'static str {
+    match machine {
+        elf::EM_386 => "386",
+        elf::EM_X86_64 => "X86_64",
+        _ => "OTHER",
+    }
+}
+
+/// Writes the fields of the ELF header, with the true counts.
+fn header<E: FileHeader<Endian = Endianness>>(object: &Object<'_>, out: &mut Out) -> Done {
+    let header = E::parse(object.data)?;
+    let endian = header.endian()?;
+    let ident = header.e_ident();
+    title(object, out)?;
+    writeln!(out, "ELF header\n  class: {}", if header.is_class_64() { 64 } else { 32 })?;
+    writeln!(out, "  order: {}", if header.is_little_endian() { "least" } else { "greatest" })?;
+    writeln!(out, "  osabi: {}\n  abiversion: {}", ident.os_abi, ident.abi_version)?;
+    writeln!(out, "  type: {}\n  machine: {}", object_type_name(header.e_type(endian)), machine_name(header.e_machine(endian)))?;
+    let (entry, phoff, shoff): (u64, u64, u64) =
+        (header.e_entry(endian).into(), header.e_phoff(endian).into(), header.e_shoff(endian).into());
+    writeln!(out, "  version: {}\n  entry: {entry:#x}\n  phoff: {phoff}\n  shoff: {shoff}", header.e_version(endian))?;
+    writeln!(out, "  flags: {:#x}\n  ehsize: {}", header.e_flags(endian), header.e_ehsize(endian))?;
+    writeln!(out, "  phentsize: {}\n  phnum: {}", header.e_phentsize(endian), header.phnum(endian, object.data)?)?;
+    writeln!(out, "  shentsize: {}\n  shnum: {}", header.e_shentsize(endian), header.shnum(endian, object.data)?)?;
+    writeln!(out, "  shstrndx: {}", header.shstrndx(endian, object.data)?)?;
+    Ok(())
+}
+
+fn section_type_name(kind: u32) -> &'static str {
+    match kind {
+        elf::SHT_NOBITS => "NOBITS",
+        elf::SHT_NOTE => "NOTE",
+        elf::SHT_NULL => "NULL",
+        elf::SHT_PROGBITS => "PROGBITS",
+        elf::SHT_RELA => "RELA",
+        elf::SHT_STRTAB => "STRTAB",
+        elf::SHT_SYMTAB => "SYMTAB",
+        _ => "OTHER",
+    }
+}
+
+/// Writes a row for each section header.
+fn sections<E: FileHeader<Endian = Endianness>>(object: &Object<'_>, out: &mut Out) -> Done {
+    let header = E::parse(object.data)?;
+    let endian = header.endian()?;
+    let sections: SectionTable<'_, E> = header.sections(endian, object.data)?;
+    title(object, out)?;
+    writeln!(out, "Section headers: {}", sections.len())?;
+    for (i, section) in sections.iter().enumerate() {
+        let [flags, addr, offset, size, align, entsize]: [u64; 6] = [
+            section.sh_flags(endian).into(),
+            section.sh_addr(endian).into(),
+            section.sh_offset(endian).into(),
+            section.sh_size(endian).into(),
+            section.sh_addralign(endian).into(),
+            section.sh_entsize(endian).into(),
+        ];
+        write!(out, "  {i} [")?;
+        out.write_all(sections.section_name(endian, section)?)?;
+        writeln!(
+            out,
+            "] {} flags {flags:#x} addr {addr:#x} offset {offset:#x} size {size:#x} link {} info {} align {align} entsize {entsize}",
+            section_type_name(section.sh_type(endian)),
+            section.sh_link(endian),
+            section.sh_info(endian),
+        )?;
     }
     Ok(())
 }
@@ -215,11 +303,7 @@ fn nm<E: FileHeader<Endian = Endianness>>(object: &Object<'_>, out: &mut Out) ->
             rows.push((name, i as u32));
         }
     }
-    if let Some(member) = object.member {
-        write!(out, "{}[", object.path)?;
-        out.write_all(member)?;
-        out.write_all(b"]:\n")?;
-    }
+    title(object, out)?;
     rows.sort_unstable();
     let digits = if header.is_class_64() { 16 } else { 8 };
     for (name, i) in rows {
@@ -241,6 +325,8 @@ fn nm<E: FileHeader<Endian = Endianness>>(object: &Object<'_>, out: &mut Out) ->
 fn show_as<E: FileHeader<Endian = Endianness>>(command: Command, object: &Object<'_>, out: &mut Out) -> Done {
     match command {
         Command::Size => size::<E>(object, out),
+        Command::Header => header::<E>(object, out),
+        Command::Sections => sections::<E>(object, out),
         Command::Symbols => symbols::<E>(object, out),
         Command::Nm => nm::<E>(object, out),
     }
@@ -277,10 +363,12 @@ fn main() -> ExitCode {
     let words: Vec<String> = std::env::args().skip(1).collect();
     let (command, path) = match words.iter().map(String::as_str).collect::<Vec<_>>()[..] {
         ["size", path] => (Command::Size, path),
+        ["header", path] => (Command::Header, path),
+        ["sections", path] => (Command::Sections, path),
         ["symbols", path] => (Command::Symbols, path),
         ["nm", path] => (Command::Nm, path),
         _ => {
-            eprintln!("usage: object-peer size|symbols|nm FILE");
+            eprintln!("usage: object-peer size|header|sections|symbols|nm FILE");
             return ExitCode::from(2);
         }
     };
