@@ -25,31 +25,30 @@ PUBLIC GElf_Vernaux *gelf_getvernaux (Elf_Data *data, int offset, GElf_Vernaux *
 
 /* A note in the buffer, as the core finds one: header, name and descriptor lie in it. Gives the
    place of the next one, 0 at the end, and 0 and an error where they do not lie in it. */
-static size_t
+static inline size_t
 note_in (const Elf_Data *data, size_t offset, GElf_Nhdr *nhdr, size_t *name, size_t *desc)
 {
   const size_t size = data->d_size, mask = data->d_type == ELF_T_NHDR8 ? 7 : 3;
-  if (offset == size)
-    return 0;
-  GElf_Nhdr n;
-  if (size - offset < sizeof n)
-    return false_with (E_OFFSET_RANGE);
-  memcpy (&n, (const uint8_t *) data->d_buf + offset, sizeof n);
+  const uint8_t *at = (const uint8_t *) data->d_buf + offset;
+  if (size - offset < sizeof *nhdr)
+    return offset == size ? 0 : false_with (E_OFFSET_RANGE);
+  uint64_t sizes;               /* of the name and of the descriptor, the least byte first */
+  memcpy (&sizes, at, sizeof sizes);
   /* no sum is too large: both sizes have 32 bits */
-  size_t name_at = offset + sizeof n, desc_at = (name_at + n.n_namesz + mask) & ~mask;
-  if (desc_at > size)
-    desc_at = size;
-  if (n.n_namesz > size - name_at || n.n_descsz > size - desc_at)
+  size_t name_at = offset + sizeof *nhdr, name_end = name_at + (uint32_t) sizes;
+  size_t desc_at = (name_end + mask) & ~mask;
+  desc_at = desc_at > size ? size : desc_at;
+  size_t desc_end = desc_at + (sizes >> 32), next = (desc_end + mask) & ~mask;
+  if (name_end > size || desc_end > size)
     return false_with (E_OFFSET_RANGE);
-  size_t next = (desc_at + n.n_descsz + mask) & ~mask;
-  *nhdr = n;
+  memcpy (nhdr, at, sizeof *nhdr);
   *name = name_at;
   *desc = desc_at;
   return next > size ? size : next;
 }
 
 /* The same of the core, for a section as the image has it. */
-static size_t
+static __attribute__ ((noinline)) size_t
 core_note (const struct elfkit_data *d, size_t offset, GElf_Nhdr *nhdr, size_t *name, size_t *desc)
 {
   struct elfkit_note x;
