@@ -1,6 +1,7 @@
 //! What is added to an object, and as much pushed to lists.
 
 use elf_descriptor::Elf;
+use elf_outside::Source;
 use elf_types::{Class, NULL_SECTION, Octets, Order, Shdrs};
 use elf_xlate::Items;
 use std::alloc::Global;
@@ -8,12 +9,20 @@ use std::alloc::Global;
 /// The number of sections that were added to an object, each with a piece.
 pub fn sections(alloc: Global, count: u32) -> Option<u64> {
     let mut elf = Elf::create(alloc, Class::C64, Order::Least);
+    match add_sections(&mut elf, alloc, count) {
+        Some(()) => Some(u64::from(elf.shnum().saturating_sub(1))),
+        None => None,
+    }
+}
+
+/// Adds section 0 and so many sections, each with a piece.
+fn add_sections<S: Source>(elf: &mut Elf<S>, alloc: Global, count: u32) -> Option<()> {
     elf.newnull().ok()?;
     for _ in 0..count {
         let s = elf.newscn().ok()?;
         elf.newdata(s, Items::Bytes(Octets::new(alloc))).ok()?;
     }
-    Some(u64::from(elf.shnum().saturating_sub(1)))
+    Some(())
 }
 
 /// A piece of a section.

@@ -37,22 +37,28 @@ pub struct TranslationTask {
 /// What the words after the program's name ask for, or None where they are not of the form of
 /// `TRANSLATION_USAGE`.
 pub fn read_translation_task(mut words: Args) -> Option<TranslationTask> {
-    let _program = words.next()?;
-    let way = read_way(words.next()?.as_str())?;
-    let class = read_class(words.next()?.as_str())?;
-    let order = read_order(words.next()?.as_str())?;
-    let symbols = words.next()?.as_str().parse().ok()?;
-    let rounds = words.next()?.as_str().parse().ok()?;
-    if words.next().is_some() {
-        return None;
+    let task = read_words(&mut words)?;
+    match words.next() {
+        Some(_) => None,
+        None => Some(task),
     }
+}
+
+/// What the words up to the rounds ask for.
+fn read_words(words: &mut Args) -> Option<TranslationTask> {
+    let _program = words.next()?;
     Some(TranslationTask {
-        way,
-        class,
-        order,
-        symbols,
-        rounds,
+        way: read_way(words.next()?.as_str())?,
+        class: read_class(words.next()?.as_str())?,
+        order: read_order(words.next()?.as_str())?,
+        symbols: read_number(words)?,
+        rounds: read_number(words)?,
     })
+}
+
+/// The number that the next word names.
+fn read_number(words: &mut Args) -> Option<u32> {
+    words.next()?.as_str().parse().ok()
 }
 
 /// The way that a word names.
