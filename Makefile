@@ -99,7 +99,7 @@ build/libelfkit.a: crates.txt $(sources)
 build/libelf.so.1: build/libelfkit.a $(capi_sources) $(capi_headers) capi/libelf.map
 	$(CC) $(CFLAGS) $(capi_debug) $(capi_flags) $(capi_link) -o $@ $(capi_sources) build/libelfkit.a \
 	    $(kit)c/liblibc_c.a -lz
-	ln -sf libelf.so.1 build/libelf.so
+	cp $@ build/libelf.so
 
 test-c: needs-lib build/libelfkit.a
 	@capi/run-tests $(kit)c/liblibc_c.a
