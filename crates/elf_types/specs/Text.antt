@@ -53,35 +53,45 @@ overlap_text a b = ((codes "overlap " ++ part_text a) ++ codes " ") ++ part_text
 unfoldable pub held_text : Kind → List ℕ
 held_text kind = codes "held kind " ++ kind_text kind
 
+-- an error that tells no number, by its name alone; no text of any other
+unfoldable pub plain_text : ElfError → List ℕ
+plain_text Memory = codes "out of memory"
+plain_text Read = codes "read failed"
+plain_text Write = codes "write failed"
+plain_text Short = codes "too short"
+plain_text Magic = codes "not an ELF image"
+plain_text Class = codes "bad class"
+plain_text Order = codes "bad byte order"
+plain_text Version = codes "bad version"
+plain_text PhTable = codes "bad program header table"
+plain_text ShTable = codes "bad section header table"
+plain_text TooLarge = codes "too large"
+plain_text TooMany = codes "too many"
+plain_text FlagKept = codes "flag kept"
+plain_text Reserved = codes "section 0 reserved"
+plain_text _ = []
+
+-- an error with what it tells: numbers, parts or a kind; no text of any other
+unfoldable pub telling_text : ElfError → List ℕ
+telling_text (NoSection index count) =
+    numbered_twice (codes "no section ") index (codes " of ") count
+telling_text (NoData index count) = numbered_twice (codes "no piece ") index (codes " of ") count
+telling_text (NoEntry index count) = numbered_twice (codes "no entry ") index (codes " of ") count
+telling_text (WrongKind held) = held_text held
+telling_text (OutOfFile section) = numbered (codes "section ") section (codes " out of file")
+telling_text (Ragged section) = numbered (codes "section ") section (codes " ragged")
+telling_text (Unfit part index) = unfit_text part index
+telling_text (Overlap a b) = overlap_text a b
+telling_text (NotStrings section) = numbered (codes "section ") section (codes " not strings")
+telling_text (NoString offset size) =
+    numbered_twice (codes "no string at ") offset (codes " of ") size
+telling_text (Unended offset) = numbered (codes "string at ") offset (codes " has no end")
+telling_text (BadMember at) = numbered (codes "bad member at ") at []
+telling_text (BadChain at) = numbered (codes "bad chain at ") at []
+telling_text (BadAlign align) = numbered (codes "bad alignment ") align []
+telling_text (Unsorted at) = numbered (codes "symbols not in order at ") at []
+telling_text _ = []
+
 -- an error
 unfoldable pub error_text : ElfError → List ℕ
-error_text Memory = codes "out of memory"
-error_text Read = codes "read failed"
-error_text Write = codes "write failed"
-error_text Short = codes "too short"
-error_text Magic = codes "not an ELF image"
-error_text Class = codes "bad class"
-error_text Order = codes "bad byte order"
-error_text Version = codes "bad version"
-error_text PhTable = codes "bad program header table"
-error_text ShTable = codes "bad section header table"
-error_text (NoSection index count) = numbered_twice (codes "no section ") index (codes " of ") count
-error_text (NoData index count) = numbered_twice (codes "no piece ") index (codes " of ") count
-error_text (NoEntry index count) = numbered_twice (codes "no entry ") index (codes " of ") count
-error_text (WrongKind held) = held_text held
-error_text (OutOfFile section) = numbered (codes "section ") section (codes " out of file")
-error_text (Ragged section) = numbered (codes "section ") section (codes " ragged")
-error_text (Unfit part index) = unfit_text part index
-error_text (Overlap a b) = overlap_text a b
-error_text TooLarge = codes "too large"
-error_text TooMany = codes "too many"
-error_text FlagKept = codes "flag kept"
-error_text (NotStrings section) = numbered (codes "section ") section (codes " not strings")
-error_text (NoString offset size) =
-    numbered_twice (codes "no string at ") offset (codes " of ") size
-error_text (Unended offset) = numbered (codes "string at ") offset (codes " has no end")
-error_text (BadMember at) = numbered (codes "bad member at ") at []
-error_text (BadChain at) = numbered (codes "bad chain at ") at []
-error_text Reserved = codes "section 0 reserved"
-error_text (BadAlign align) = numbered (codes "bad alignment ") align []
-error_text (Unsorted at) = numbered (codes "symbols not in order at ") at []
+error_text e = plain_text e ++ telling_text e

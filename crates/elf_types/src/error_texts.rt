@@ -4,7 +4,7 @@
 
 ghost use Rattle.std.specs.Prelude.{◌≡◌, ◌++◌, [], OnOk, IfOk, IfErr, codes};
 ghost use Rattle.elf_types.specs.Writers.{WantsMemory, Extends};
-ghost use Rattle.elf_types.specs.Text.{numbered, numbered_twice, kind_text, part_text, unfit_text, overlap_text, held_text, error_text};
+ghost use Rattle.elf_types.specs.Text.{numbered, numbered_twice, kind_text, part_text, unfit_text, overlap_text, held_text, plain_text, telling_text, error_text};
 
 use crate::errors::ElfError;
 use crate::lists::Octets;
@@ -129,27 +129,36 @@ fn put_section(out: &mut Octets, section: u32, fault: &str) -> Result<(), ElfErr
     put_numbered(out, "section ", u64::from(section), fault)
 }
 
-/// Appends the text of an error.
-#[tactic(auto, unfolding(crate::specs::Text::error_text))]
-pub fn put_error(out: &mut Octets, e: &ElfError) -> Result<(), ElfError>
-    ensures ok { OnOk result (out.new ≡ out.old ++ error_text e.now) }
-    ensures err { IfErr result (WantsMemory out.old out.new) }
+/// The text of an error that tells no number; empty for any other. It takes no memory.
+#[tactic(auto, unfolding(crate::specs::Text::plain_text))]
+fn plain_name(e: &ElfError) -> &'static str
+    ensures { result.now ≡ plain_text e.now }
 {
     match *e {
-        ElfError::Memory => put_text(out, "out of memory"),
-        ElfError::Read => put_text(out, "read failed"),
-        ElfError::Write => put_text(out, "write failed"),
-        ElfError::Short => put_text(out, "too short"),
-        ElfError::Magic => put_text(out, "not an ELF image"),
-        ElfError::Class => put_text(out, "bad class"),
-        ElfError::Order => put_text(out, "bad byte order"),
-        ElfError::Version => put_text(out, "bad version"),
-        ElfError::PhTable => put_text(out, "bad program header table"),
-        ElfError::ShTable => put_text(out, "bad section header table"),
-        ElfError::TooLarge => put_text(out, "too large"),
-        ElfError::TooMany => put_text(out, "too many"),
-        ElfError::FlagKept => put_text(out, "flag kept"),
-        ElfError::Reserved => put_text(out, "section 0 reserved"),
+        ElfError::Memory => "out of memory",
+        ElfError::Read => "read failed",
+        ElfError::Write => "write failed",
+        ElfError::Short => "too short",
+        ElfError::Magic => "not an ELF image",
+        ElfError::Class => "bad class",
+        ElfError::Order => "bad byte order",
+        ElfError::Version => "bad version",
+        ElfError::PhTable => "bad program header table",
+        ElfError::ShTable => "bad section header table",
+        ElfError::TooLarge => "too large",
+        ElfError::TooMany => "too many",
+        ElfError::FlagKept => "flag kept",
+        ElfError::Reserved => "section 0 reserved",
+        _ => "",
+    }
+}
+
+/// Appends the text of an error with what it tells; nothing for any other.
+#[tactic(auto, unfolding(crate::specs::Text::telling_text))]
+fn put_telling(out: &mut Octets, e: &ElfError) -> Result<(), ElfError>
+    ensures { Extends result out.old out.new (telling_text e.now) }
+{
+    match *e {
         ElfError::NoSection { index, count } => put_missing_index(out, "no section ", index, count),
         ElfError::NoData { index, count } => put_missing_index(out, "no piece ", index, count),
         ElfError::NoEntry { index, count } => put_missing(out, "no entry ", index, count),
@@ -165,7 +174,18 @@ pub fn put_error(out: &mut Octets, e: &ElfError) -> Result<(), ElfError>
         ElfError::WrongKind { held } => put_held(out, held),
         ElfError::Unfit { part, index } => put_unfit(out, part, index),
         ElfError::Overlap { a, b } => put_overlap(out, a, b),
+        _ => Ok(()),
     }
+}
+
+/// Appends the text of an error.
+#[tactic(auto, using(crate::proofs::Writers::stays), unfolding(crate::specs::Text::error_text))]
+pub fn put_error(out: &mut Octets, e: &ElfError) -> Result<(), ElfError>
+    ensures ok { OnOk result (out.new ≡ out.old ++ error_text e.now) }
+    ensures err { IfErr result (WantsMemory out.old out.new) }
+{
+    put_text(out, plain_name(e))?;
+    put_telling(out, e)
 }
 
 /// The text of an error. It fails with `Memory` alone.

@@ -1,5 +1,5 @@
 -- A section's data in its file form and in its memory form (gABI chapter 4, "Data Representation").
-use Rattle.std.specs.Prelude.{ℕ, ◌-◌, ◌*◌, ◌/◌, ◌%◌, ◌^◌, ◌<◌, List, [], length, take, drop, map, Bool, true, not, ◌==◌, if◌then◌else◌, Option, Some, None, Result, IfSome, ◌≡◌, ◌≢◌}
+use Rattle.std.specs.Prelude.{ℕ, ◌-◌, ◌*◌, ◌/◌, ◌%◌, ◌^◌, ◌<◌, List, [], length, take, drop, map, Bool, true, not, ◌==◌, if◌then◌else◌, Option, Some, None, Result, Ok, Err, Unit, tt, IfSome, ◌≡◌, ◌≢◌}
 use Rattle.std.specs.Option.{option_map}
 use Rattle.std.specs.List.{range_with_len, flat_map, position, All}
 use Rattle.elf_types.specs.declared.records.Class.{Class}
@@ -156,3 +156,11 @@ abbrev pub DecodesAsEncoded : Class → Order → Items → Type 0
 DecodesAsEncoded class order items =
     AreItems items → first_unfit class items ≡ None
     → decoded (items_kind items) class order (encoded class order items) ≡ Some items
+
+-- What a translation in place answers and leaves: the file form, in the other order, of the items
+-- that the bytes hold; where they hold none, the bytes as they were.
+abbrev pub TranslatesInPlace : Class → Order → Option Items → Result (Unit {0}) XlateError
+    → List ℕ → List ℕ → Type 0
+TranslatesInPlace class to (Some items) result old new =
+    (result ≡ Ok tt) × (new ≡ encoded class to items)
+TranslatesInPlace class to None result old new = (result ≡ Err errors.Ragged) × (new ≡ old)

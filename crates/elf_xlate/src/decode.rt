@@ -53,7 +53,7 @@ pub fn to_memory(
 }
 
 /// Whether so many bytes are whole items of a kind.
-fn is_whole(kind: Kind, class: Class, len: usize) -> bool
+pub fn is_whole(kind: Kind, class: Class, len: usize) -> bool
     ensures { result ≡ is_whole kind class len }
 {
     kind == Kind::Empty || len as u64 % item_size(kind, class) == 0

@@ -5,6 +5,7 @@
 //!
 //! - `to_memory`: the items that bytes hold, as `Items` of a kind.
 //! - `to_file`: appends the bytes of items to a list.
+//! - `translate_in_place`: puts items from one byte order into the other.
 //! - `fsize`: how many bytes so many items take, or None from 2^64 on.
 //! - `get_ehdr`: an ELF header of its bytes, `put_ehdr` its bytes; so `get_phdr`, `get_shdr` and
 //!   `put_phdr`, `put_shdr`.
@@ -36,6 +37,7 @@ mod fields;
 mod fitting;
 mod header_tables;
 mod headers;
+mod in_place;
 mod laws;
 mod numbers;
 mod records;
@@ -49,6 +51,7 @@ pub use failure::XlateError;
 pub use fitting::{ehdr_fits, phdr_fits, shdr_fits, unfit};
 pub use header_tables::{get_phdr, get_phdrs, get_shdr, get_shdrs, put_phdr, put_shdr};
 pub use headers::{get_ehdr, put_ehdr};
+pub use in_place::translate_in_place;
 pub use laws::{
     decodes_as_encoded, ehdr_both_ways, encodes_as_decoded, phdr_both_ways, shdr_both_ways,
 };
