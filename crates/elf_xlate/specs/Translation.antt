@@ -1,5 +1,5 @@
 -- A section's data in its file form and in its memory form (gABI chapter 4, "Data Representation").
-use Rattle.std.specs.Prelude.{ℕ, ◌-◌, ◌*◌, ◌/◌, ◌%◌, ◌^◌, ◌<◌, List, [], length, take, drop, map, Bool, true, not, ◌==◌, if◌then◌else◌, Option, Some, None, Result, Ok, Err, Unit, tt, IfSome, ◌≡◌, ◌≢◌}
+use Rattle.std.specs.Prelude.{ℕ, ◌-◌, ◌*◌, ◌/◌, ◌%◌, ◌^◌, ◌<◌, List, [], length, take, drop, map, Bool, true, not, ◌==◌, if◌then◌else◌, Option, Some, None, Result, Ok, Err, IfSome, ◌≡◌, ◌≢◌}
 use Rattle.std.specs.Option.{option_map}
 use Rattle.std.specs.List.{range_with_len, flat_map, position, All}
 use Rattle.elf_types.specs.declared.records.Class.{Class}

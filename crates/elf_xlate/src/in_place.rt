@@ -43,14 +43,12 @@ fn turn_order(kind: Kind, class: Class, from: Order, to: Order, bytes: &mut [u8]
     ensures { IfSome (decoded kind class from bytes.old) (λ items.
         bytes.new ≡ encoded class to items) }
 {
-    match (from, to) {
-        (Order::Least, Order::Greatest) => {
-            turn_class::<LittleEndian, BigEndian>(kind, class, bytes)
-        }
-        (Order::Greatest, Order::Least) => {
-            turn_class::<BigEndian, LittleEndian>(kind, class, bytes)
-        }
-        (Order::Least, Order::Least) | (Order::Greatest, Order::Greatest) => {}
+    if from == to {
+        return;
+    }
+    match from {
+        Order::Least => turn_class::<LittleEndian, BigEndian>(kind, class, bytes),
+        Order::Greatest => turn_class::<BigEndian, LittleEndian>(kind, class, bytes),
     }
 }
 
@@ -88,7 +86,7 @@ fn turn_items<T: Endian, U: Endian, const WIDE: bool>(kind: Kind, bytes: &mut [u
 
 /// Reads each item of whole bytes in one form, and puts it in its place in another, which has as
 /// many bytes for it and room for each.
-fn turn_list<C: Codec<R>, D: Codec<R>, R>(bytes: &mut [u8])
+fn turn_list<C: Codec<R>, D: Codec<R>, R: Drop>(bytes: &mut [u8])
     requires whole { length bytes.old % C.size ≡ 0 }
     requires size { D.size ≡ C.size }
     requires fits { (x : R) → IsTrue (C.fitting x) → IsTrue (D.fitting x) }
