@@ -147,9 +147,11 @@ put_header (const Elf_Scn *scn, const GElf_Shdr *shdr, const struct whole *w, ui
     }
   GElf_Chdr chdr = { .ch_type = ELFCOMPRESS_ZLIB, .ch_size = w->size,
                      .ch_addralign = class == ELFCLASS64 ? shdr->sh_addralign : w->align };
-  return from_gelf (ELF_T_CHDR, class, bytes, &chdr)
-         && (!is_foreign (scn->elf, ELF_T_CHDR)
-             || translate (ELF_T_CHDR, class, false, bytes, bytes, item_size (ELF_T_CHDR, class)));
+  if (!from_gelf (ELF_T_CHDR, class, bytes, &chdr))
+    return false;
+  if (is_foreign (scn->elf, ELF_T_CHDR))
+    translate (ELF_T_CHDR, class, false, bytes, bytes, item_size (ELF_T_CHDR, class));
+  return true;
 }
 
 /* Compresses a section: 1, 0 where it would not get shorter, or -1 and an error. */

@@ -230,9 +230,8 @@ bool from_gelf (Elf_Type type, unsigned int class, void *to, const void *from);
 uint64_t number_at (const uint8_t *at, size_t width, bool msb);
 void put_number (uint8_t *at, size_t width, bool msb, uint64_t number);
 
-/* Translates so many bytes of items between the orders; the two ranges are the same or apart. False
-   and an error where there is no memory. */
-bool translate (Elf_Type type, unsigned int class, bool to_memory, void *to, const void *from,
+/* Translates so many bytes of items between the orders; the two ranges are the same or apart. */
+void translate (Elf_Type type, unsigned int class, bool to_memory, void *to, const void *from,
                 size_t size);
 
 /* The same, to memory of their own; NULL and an error where there is none. */

@@ -23,9 +23,9 @@ static const char *const fields[ELF_T_NUM][2] = {
   [ELF_T_CHDR] = { "444", "4488" },
 };
 
-/* Copies whole items of a kind, and translates them there, a page at a time, so that the core takes
-   memory for no more. */
-static bool
+/* Copies whole items of a kind, and has the core translate them there, a page at a time, while it
+   is in the processor's cache. The core rejects no whole items. */
+static void
 translate_items (unsigned int kind, unsigned int class, bool to_memory, uint8_t *bytes,
                  const uint8_t *from, size_t size)
 {
@@ -36,24 +36,22 @@ translate_items (unsigned int kind, unsigned int class, bool to_memory, uint8_t 
       n = size < page ? size : page;
       if (bytes != from)
         memcpy (bytes, from, n);
-      if (!is_given (elfkit_translate (kind, class, to_memory ? foreign : NATIVE_ORDER,
-                                       to_memory ? NATIVE_ORDER : foreign, bytes, n)))
-        return false;
+      elfkit_translate (kind, class, to_memory ? foreign : NATIVE_ORDER,
+                        to_memory ? NATIVE_ORDER : foreign, bytes, n);
     }
-  return true;
 }
 
 /* Translates so many numbers of a width. */
-static bool
+static void
 translate_numbers (unsigned int width, bool to_memory, uint8_t *bytes, size_t count)
 {
   static const uint8_t by_width[9] = { [2] = HALVES, [4] = WORDS, [8] = ADDRESSES };
-  return width == 1
-         || translate_items (by_width[width], ELFCLASS64, to_memory, bytes, bytes, width * count);
+  if (width > 1)
+    translate_items (by_width[width], ELFCLASS64, to_memory, bytes, bytes, width * count);
 }
 
 /* Translates the fields of one record where they are. */
-static bool
+static void
 translate_fields (bool to_memory, uint8_t *at, const char *widths)
 {
   while (*widths != '\0')
@@ -62,12 +60,10 @@ translate_fields (bool to_memory, uint8_t *at, const char *widths)
       while (widths[count] == widths[0])
         count++;
       unsigned int width = widths[0] - '0';
-      if (!translate_numbers (width, to_memory, at, count))
-        return false;
+      translate_numbers (width, to_memory, at, count);
       at += width * count;
       widths += count;
     }
-  return true;
 }
 
 static uint32_t
@@ -87,16 +83,14 @@ half (const uint8_t *at)
 }
 
 /* Translates a record, and gives its native form, by which the walk goes on. */
-static bool
+static void
 translate_record (bool to_memory, uint8_t *at, const char *widths, uint8_t *native, size_t size)
 {
   if (!to_memory)
     memcpy (native, at, size);
-  if (!translate_fields (to_memory, at, widths))
-    return false;
+  translate_fields (to_memory, at, widths);
   if (to_memory)
     memcpy (native, at, size);
-  return true;
 }
 
 /* How records lead to others: each to a list behind it, and to the next one. */
@@ -112,7 +106,7 @@ static const struct chain definitions = { "2222444", 6, 12, 16, "44", 4 };
 static const struct chain needs = { "22444", 2, 8, 12, "42244", 12 };
 
 /* The list behind a record. All lists together have no more records than have room in the bytes. */
-static bool
+static void
 translate_list (const struct chain *c, bool to_memory, uint8_t *bytes, size_t size, size_t at,
                 unsigned int count, size_t *left)
 {
@@ -121,46 +115,40 @@ translate_list (const struct chain *c, bool to_memory, uint8_t *bytes, size_t si
   while (count-- > 0 && lies_in (at, record, size) && *left > 0)
     {
       --*left;
-      if (!translate_record (to_memory, bytes + at, c->aux_widths, native, record))
-        return false;
+      translate_record (to_memory, bytes + at, c->aux_widths, native, record);
       if (word (native + c->aux_next_at) == 0)
         break;
       at += word (native + c->aux_next_at);
     }
-  return true;
 }
 
 /* A list of records, each with a list of others behind it. A record that does not lie in the bytes
    ends its list; what is reached by no way is left as it is. */
-static bool
+static void
 translate_chains (const struct chain *c, bool to_memory, uint8_t *bytes, size_t size)
 {
   size_t record = c->next_at + 4, left = size / (c->aux_next_at + 4), more = size / record;
   uint8_t native[20];
   for (size_t at = 0; more > 0 && lies_in (at, record, size); more--)
     {
-      if (!translate_record (to_memory, bytes + at, c->widths, native, record))
-        return false;
-      if (word (native + c->aux_at) != 0
-          && !translate_list (c, to_memory, bytes, size, at + word (native + c->aux_at),
-                              half (native + c->count_at), &left))
-        return false;
+      translate_record (to_memory, bytes + at, c->widths, native, record);
+      if (word (native + c->aux_at) != 0)
+        translate_list (c, to_memory, bytes, size, at + word (native + c->aux_at),
+                        half (native + c->count_at), &left);
       if (word (native + c->next_at) == 0)
         break;
       at += word (native + c->next_at);
     }
-  return true;
 }
 
 /* Notes: three words each, then a name and a descriptor, aligned to 4 or 8 bytes. */
-static bool
+static void
 translate_notes (bool to_memory, uint8_t *bytes, size_t size, size_t align)
 {
   uint8_t native[12];
   for (size_t at = 0; lies_in (at, sizeof native, size);)
     {
-      if (!translate_record (to_memory, bytes + at, "444", native, sizeof native))
-        return false;
+      translate_record (to_memory, bytes + at, "444", native, sizeof native);
       size_t name = at + sizeof native;
       if (!lies_in (name, word (native), size))
         break;
@@ -169,45 +157,42 @@ translate_notes (bool to_memory, uint8_t *bytes, size_t size, size_t align)
         break;
       at = round_up (desc + word (native + 4), align);
     }
-  return true;
 }
 
 /* GNU's hash section: four words, as many bloom words as the third says, and words. */
-static bool
+static void
 translate_gnu_hash (unsigned int class, bool to_memory, uint8_t *bytes, size_t size)
 {
-  uint8_t native[16];
-  if (size < sizeof native)
-    return translate_numbers (4, to_memory, bytes, size / 4);
-  if (!translate_record (to_memory, bytes, "4444", native, sizeof native))
-    return false;
-  size_t at = sizeof native, bloom = class == ELFCLASS64 ? word (native + 8) : 0;
+  uint8_t native[16] = { 0 };
+  size_t at = size < sizeof native ? 0 : sizeof native;
+  if (at > 0)
+    translate_record (to_memory, bytes, "4444", native, sizeof native);
+  size_t bloom = class == ELFCLASS64 ? word (native + 8) : 0;
   if (bloom > (size - at) / 8)
     bloom = (size - at) / 8;
-  return translate_numbers (8, to_memory, bytes + at, bloom)
-         && translate_numbers (4, to_memory, bytes + at + 8 * bloom, (size - at - 8 * bloom) / 4);
+  translate_numbers (8, to_memory, bytes + at, bloom);
+  translate_numbers (4, to_memory, bytes + at + 8 * bloom, (size - at - 8 * bloom) / 4);
 }
 
 /* Items of one size, and no more than whole ones: at once where all their numbers have one
    width. */
-static bool
+static void
 translate_records (Elf_Type type, unsigned int class, bool to_memory, uint8_t *bytes, size_t size)
 {
   const char *widths = fields[type][class == ELFCLASS64];
   size_t record = item_size (type, class);
   size -= size % record;
   if (widths == NULL)
-    return true;
+    return;
   unsigned int width = widths[0] - '0';
   if (strspn (widths, (char[]) { widths[0], '\0' }) == strlen (widths))
-    return translate_numbers (width, to_memory, bytes, size / width);
-  for (size_t at = 0; at < size; at += record)
-    if (!translate_fields (to_memory, bytes + at, widths))
-      return false;
-  return true;
+    translate_numbers (width, to_memory, bytes, size / width);
+  else
+    for (size_t at = 0; at < size; at += record)
+      translate_fields (to_memory, bytes + at, widths);
 }
 
-bool
+void
 translate (Elf_Type type, unsigned int class, bool to_memory, void *to, const void *from,
            size_t size)
 {
@@ -216,35 +201,26 @@ translate (Elf_Type type, unsigned int class, bool to_memory, void *to, const vo
   if (to != from && rest > 0)
     memcpy (end, (const uint8_t *) from + (size - rest), rest);
   if (types[type].kind != 0)
-    return translate_items (types[type].kind, class, to_memory, to, from, size - rest);
-  switch (type)
-    {
-    case ELF_T_VDEF:
-      return translate_chains (&definitions, to_memory, to, size);
-    case ELF_T_VNEED:
-      return translate_chains (&needs, to_memory, to, size);
-    case ELF_T_NHDR:
-      return translate_notes (to_memory, to, size, 4);
-    case ELF_T_NHDR8:
-      return translate_notes (to_memory, to, size, 8);
-    case ELF_T_GNUHASH:
-      return translate_gnu_hash (class, to_memory, to, size);
-    case ELF_T_CHDR:
-      return size < item_size (type, class)
-             || translate_fields (to_memory, to, fields[type][class == ELFCLASS64]);
-    default:
-      return translate_records (type, class, to_memory, to, size);
-    }
+    translate_items (types[type].kind, class, to_memory, to, from, size - rest);
+  else if (type == ELF_T_VDEF || type == ELF_T_VNEED)
+    translate_chains (type == ELF_T_VDEF ? &definitions : &needs, to_memory, to, size);
+  else if (type == ELF_T_NHDR || type == ELF_T_NHDR8)
+    translate_notes (to_memory, to, size, type == ELF_T_NHDR ? 4 : 8);
+  else if (type == ELF_T_GNUHASH)
+    translate_gnu_hash (class, to_memory, to, size);
+  else if (type != ELF_T_CHDR)
+    translate_records (type, class, to_memory, to, size);
+  else if (size >= item_size (type, class))
+    translate_fields (to_memory, to, fields[type][class == ELFCLASS64]);
 }
 
 void *
 translated (const Elf *elf, Elf_Type type, bool to_memory, const void *from, size_t size)
 {
   void *made = new_bytes (size);
-  if (made == NULL || translate (type, elf->class, to_memory, made, from, size))
-    return made;
-  free (made);
-  return NULL;
+  if (made != NULL)
+    translate (type, elf->class, to_memory, made, from, size);
+  return made;
 }
 
 /* elf32_xlatetom and its like: what the source holds goes into the destination, in the other form.
@@ -263,11 +239,10 @@ xlate (Elf_Data *dest, const Elf_Data *src, unsigned int encode, unsigned int cl
     return null_with (E_DEST_SIZE);
   if (encode != ELFDATA2LSB && encode != ELFDATA2MSB)
     return null_with (E_INVALID_ENCODING);
-  if (encode == NATIVE_ORDER && dest->d_buf != src->d_buf)
+  if (encode != NATIVE_ORDER)
+    translate (src->d_type, class, to_memory, dest->d_buf, src->d_buf, src->d_size);
+  else if (dest->d_buf != src->d_buf)
     memmove (dest->d_buf, src->d_buf, src->d_size);
-  else if (encode != NATIVE_ORDER
-           && !translate (src->d_type, class, to_memory, dest->d_buf, src->d_buf, src->d_size))
-    return NULL;
   dest->d_type = src->d_type;
   dest->d_size = src->d_size;
   return dest;

@@ -4,11 +4,14 @@ use Rattle.std.proofs.Math.Nat.{mul-le-mul_right, div-mul-le_self}
 use Rattle.std.proofs.lemmas.List.{take_all, get_or_default, length-take, length-drop}
 use Rattle.std.proofs.lemmas.List.FromFn.{map-range_with_len_more, length-map-range_with_len}
 use Rattle.std.specs.Prelude.{Some, None, Bool, true, false, not, cond, nat_lt, IsTrue}
-use Rattle.std.specs.List.{All, position_or_len}
+use Rattle.std.specs.List.{All, position_or_len, flat_map}
 use Rattle.std.proofs.lemmas.List.Sums.{position_or_len_is, fails_before_first}
 use Rattle.std.proofs.lemmas.List.Elements.{All-get_or, All-nil, All-cons, All-append, All-take, All-drop}
 use Rattle.std.proofs.lemmas.Bool.{cases_lt, le-ltb, lt-ltb, not-false}
-use Rattle.elf_xlate.specs.Translation.{items_of, first_not}
+use Rattle.elf_types.specs.declared.records.Class.{Class}
+use Rattle.elf_types.specs.declared.records.Order.{Order}
+use Rattle.elf_xlate.specs.declared.content.Items.{Items}
+use Rattle.elf_xlate.specs.Translation.{items_of, first_not, between, items_between, encoded}
 
 -- one item more
 pub items_of_more : {X : Type 0} (item : List ℕ → X) (size i : ℕ) (bytes : List ℕ)
@@ -123,3 +126,41 @@ pub range_passes : {X : Type 0} (passes : X → Bool) (l : List X) (place count 
 range_passes {X} passes l place count none =
     All-take (λ x. passes x ≡ true) count (drop place l)
     (All-drop (λ x. passes x ≡ true) place l (λ k d low. each_passes passes l k (get_or l k d) none low (get_or_default l k d (get_or l k d) low)))
+
+-- the same of a range of a slice that is the list
+pub slice_passes : {X : Type 0} (passes : X → Bool) (l slice : List X) (place count : ℕ)
+    → slice ≡ l → first_not passes l ≡ None
+    → All (λ x. passes x ≡ true) (take count (drop place slice))
+slice_passes {X} passes l slice place count same none =
+    range_passes passes slice place count (ap (first_not passes) same ∙ none)
+
+-- as many bytes as a range of items has
+pub range_room : {X : Type 0} (size from to len : ℕ) (l slice : List X) → slice ≡ l
+    → from ≤ to → to ≤ length l → len ≡ size * (to - from)
+    → len ≡ size * length (take (to - from) (drop from slice))
+range_room size from to len l slice same order inside room =
+    let all : length slice ≡ length l = ap length same in
+    let count : length (take (to - from) (drop from slice)) ≡ to - from =
+    omega (
+      arith,
+      order,
+      inside,
+      all,
+      length-drop from slice,
+      length-take (to - from) (drop from slice),
+    ) in
+    room ∙ ap (λ (n : ℕ). size * n) (sym count)
+
+-- the bytes of a range of items
+pub range_put : {X : Type 0} (variant : List X → Items) (bytes_of : X → List ℕ) (class : Class)
+    (order : Order) (from to : ℕ) (items : Items) (l slice : List X) (out : List ℕ)
+    → ((m : List X) → encoded class order (variant m) ≡ flat_map bytes_of m)
+    → ((m : List X) → items_between from to (variant m) ≡ variant (between from to m))
+    → items ≡ variant l → slice ≡ l
+    → out ≡ flat_map bytes_of (take (to - from) (drop from slice))
+    → out ≡ encoded class order (items_between from to items)
+range_put {X} variant bytes_of class order from to items l slice out bytes range is same put =
+    put ∙ ap (λ (m : List X). flat_map bytes_of (take (to - from) (drop from m))) same
+    ∙ sym (bytes (between from to l))
+    ∙ ap (encoded class order) (sym (range l))
+    ∙ sym (ap (λ (x : Items). encoded class order (items_between from to x)) is)

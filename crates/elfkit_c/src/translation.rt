@@ -5,18 +5,16 @@ ghost use Rattle.c_calls.specs.Translation.Numbers.{kind_from, class_from, order
 ghost use Rattle.c_calls.specs.Translation.Translations.{Translates};
 
 use c_calls::translation::{class_from, kind_from, order_from, translate};
-use std::alloc::Global;
 
 /// Reads bytes as items of a kind in one byte order, and puts them in their place in another. The
 /// numbers are those of `elfkit_kind`, of `e_ident[EI_CLASS]` and of `e_ident[EI_DATA]`; a kind
 /// that is none of 2 to 8 stands for bytes, a class that is not 1 for class 64, an order that is
 /// not 2 for the least byte first. It fails with `Ragged` where the size of an item does not divide
-/// the number of bytes, and `Memory`; the bytes stay then.
+/// the number of bytes; the bytes stay then. It takes no memory.
 ///
 /// Source: gABI chapter 4, "Data Representation"; gelf_xlatetom and gelf_xlatetof of gelf(3E).
 #[unsafe(no_mangle)]
 pub extern "C" fn elfkit_translate(
-    alloc: Global,
     kind: u32,
     class: u32,
     from: u32,
@@ -31,5 +29,5 @@ pub extern "C" fn elfkit_translate(
     let class = class_from(class);
     let from = order_from(from);
     let to = order_from(to);
-    translate(alloc, kind, class, from, to, bytes)
+    translate(kind, class, from, to, bytes)
 }

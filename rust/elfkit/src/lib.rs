@@ -195,7 +195,7 @@ pub fn gnu_hash(name: impl AsRef<[u8]>) -> u32 {
 /// Reads bytes as items of a kind in one byte order, and puts them in their place in another.
 ///
 /// Rests on `elfkit_translate`. It refuses [`Error::Ragged`] where the size of an item does not
-/// divide the number of bytes, and [`Error::Memory`]; the bytes stay then. `Kind::Empty` stands for
+/// divide the number of bytes; the bytes stay then. It takes no memory. `Kind::Empty` stands for
 /// bytes.
 pub fn translate(kind: Kind, class: Class, from: Order, to: Order, bytes: &mut [u8]) -> Result<()> {
     let (class, from, to) = (class.number(), from.number(), to.number());
