@@ -1,5 +1,6 @@
 //! The items of sections against bytes written by hand from the tables of the gABI.
 
+mod turned;
 mod values;
 
 use elf_types::{Class, Dyn, ElfError, Kind, Octets, Order, Rel, Rela, Sym};
@@ -7,6 +8,7 @@ use elf_xlate::{Items, XlateError, fsize, number, put_items, to_file, to_memory,
 use std::alloc::Global;
 use test_kit_images::ClassAndOrder;
 use test_kit_rows::{failed, failed_by, in_row, other, same, same_bytes};
+use turned::{is_turned, three_stay};
 use values::{Value, is_first, is_single, kind, of_two};
 
 const NARROW_LEAST: ClassAndOrder = (Class::C32, Order::Least);
@@ -76,10 +78,15 @@ fn is_written(rt: &HostRuntime, items: &Items, form: ClassAndOrder, bytes: &[u8]
 /// A form, bytes, and the item that they hold in it.
 type Row = (ClassAndOrder, &'static [u8], Value);
 
+/// Whether items have these bytes in a form, and those of the other byte order in place of them.
+fn have_bytes(rt: &HostRuntime, items: &Items, form: ClassAndOrder, bytes: &[u8]) -> bool {
+    is_written(rt, items, form, bytes) && is_turned(rt, items, form, bytes)
+}
+
 /// Whether bytes hold an item in a form, in a list, and are written for it again.
 fn is_held(rt: &HostRuntime, form: ClassAndOrder, bytes: &[u8], value: Value) -> bool {
     match to_memory(rt.alloc(), kind(value), form.0, form.1, bytes) {
-        Ok(items) => is_first(rt, &items, value) && is_written(rt, &items, form, bytes),
+        Ok(items) => is_first(rt, &items, value) && have_bytes(rt, &items, form, bytes),
         Err(e) => failed_by(rt, &e),
     }
 }
@@ -414,6 +421,7 @@ fn has_sizes(rt: &HostRuntime, kind: Kind, narrow: u64, broad: u64) -> bool {
         &Some(narrow.wrapping_mul(3)),
     ) && same(rt, &fsize(kind, Class::C64, 1), &Some(broad));
     sizes
+        && three_stay(rt, kind)
         && same(
             rt,
             &count_in_three(rt.alloc(), kind),
