@@ -223,6 +223,41 @@ fn new_file(alloc: Global, room: u64, bad_writes: &Addrs) -> Result<MemDevice, O
     }
 }
 
+/// What is kept of a new name. It takes no memory.
+fn nothing_kept(alloc: Global) -> Kept
+    ensures { result ≡ emptied None }
+{
+    Kept {
+        bytes: Octets::new(alloc),
+        bad_reads: Addrs::new(alloc),
+        bad_writes: Addrs::new(alloc),
+    }
+}
+
+/// Sets what is kept of a name. It fails with `Memory` alone, and then every name is as before.
+fn keep(names: &mut BTreeMap<String, Kept>, name: String, kept: Kept) -> Result<(), OpenFault>
+    ensures ok { OnOk result (SetsKept names.old names.new name.bytes.items (Some kept)) }
+    ensures unchanged { OnErr result (SameKept names.old names.new) }
+    ensures err { IfErr result (λ e. e ≡ OpenFault.Memory) }
+{
+    match names.insert(name, kept) {
+        Ok(_) => Ok(()),
+        Err(_) => Err(OpenFault::Memory),
+    }
+}
+
+/// Adds a name with the empty text. It fails with `Memory` alone, and then every name is as before.
+fn add_empty(names: &mut BTreeMap<String, Kept>, alloc: Global, name: &str) -> Result<(), OpenFault>
+    ensures ok { OnOk result (SetsKept names.old names.new name.now (Some (emptied None))) }
+    ensures unchanged { OnErr result (SameKept names.old names.new) }
+    ensures err { IfErr result (λ e. e ≡ OpenFault.Memory) }
+{
+    match String::from_str(alloc, name) {
+        Ok(key) => keep(names, key, nothing_kept(alloc)),
+        Err(_) => Err(OpenFault::Memory),
+    }
+}
+
 /// Sets a name to the empty text, and leaves the failing calls of a name that is there. It fails
 /// with `Memory` alone, and then every name is as before.
 fn set_empty(names: &mut BTreeMap<String, Kept>, alloc: Global, name: &str) -> Result<(), OpenFault>
@@ -235,16 +270,8 @@ fn set_empty(names: &mut BTreeMap<String, Kept>, alloc: Global, name: &str) -> R
         kept.bytes = Octets::new(alloc);
         return Ok(());
     }
-    let Ok(key) = String::from_str(alloc, name) else {
-        return Err(OpenFault::Memory);
-    };
-    let kept = Kept {
-        bytes: Octets::new(alloc),
-        bad_reads: Addrs::new(alloc),
-        bad_writes: Addrs::new(alloc),
-    };
-    match names.insert(key, kept) {
-        Ok(_) => Ok(()),
-        Err(_) => Err(OpenFault::Memory),
+    match add_empty(names, alloc, name) {
+        Ok(()) => Ok(()),
+        Err(e) => Err(e),
     }
 }
