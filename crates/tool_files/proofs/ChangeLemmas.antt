@@ -1,10 +1,10 @@
 -- A file that was opened, changed in place and closed.
-use Rattle.std.proofs.Common.{◌≡◌, ◌≢◌, ◌⊎◌, inl, inr, ◌+◌, ◌-◌, ◌^◌, ◌<◌, ◌≤◌, ℕ, Bool, true, false, List, Option, Some, None, Result, Ok, Err, IfSome, IsSome, IsTrue, refl, sym, ap, ◌∙◌, subst, arith}
+use Rattle.std.proofs.Common.{◌≡◌, ◌≢◌, ◌⊎◌, inl, inr, ◌-◌, ◌<◌, ◌≤◌, ℕ, Bool, true, false, List, Option, Some, None, Result, Ok, Err, IfSome, IsSome, IsTrue, refl, sym, ◌∙◌, subst, arith}
 use Rattle.std.specs.Str.{bytes_eq}
 use Rattle.std.proofs.lemmas.Bool.{true≢false}
 use Rattle.std.proofs.lemmas.Slice.Eq.{bytes_eq-Decides}
 use Rattle.tool_output.specs.elf_outside.Counts.{Rose, RaisedBy, RisesWith, next_count}
-use Rattle.tool_output.specs.elf_outside.Names.{Map, SameNames, Closes}
+use Rattle.tool_output.specs.elf_outside.Names.{SameNames, Closes}
 use Rattle.tool_output.specs.elf_outside.Opens.{meanings, HandsOver}
 use Rattle.tool_output.specs.elf_outside.declared.sources.Source.{Ghosts as SourceGhosts}
 use Rattle.tool_output.specs.elf_outside.declared.devices.Device.{Ghosts as DeviceGhosts}
@@ -18,7 +18,7 @@ use Rattle.tool_output.specs.Steps.{OnRead, OnWrite, SinkRose}
 use Rattle.tool_output.specs.Files.{IsWithin, LeavesFiles}
 use Rattle.tool_output.specs.Outcomes.{FileWrite, Outcome, write_of, held_after, MayHold, Does}
 use Rattle.tool_files.specs.Edits.{edited_outcome}
-use Rattle.tool_files.specs.Changes.{DoesInPlace, LeavesDevice, ChangesFile}
+use Rattle.tool_files.specs.Changes.{DoesInPlace, ChangesFile}
 
 some_is : (x : Option (List ℕ)) (y : List ℕ) → x ≡ Some y → IsSome x
 some_is x y is = rw is refl

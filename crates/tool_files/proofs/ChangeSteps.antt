@@ -1,5 +1,5 @@
 -- Steps over an open file that is changed in place, one after another.
-use Rattle.std.proofs.Common.{◌≡◌, ◌≢◌, ◌⊎◌, inl, inr, ◌∷◌, ◌++◌, ◌||◌, ◌≤◌, ℕ, Bool, true, false, List, [], drop, get_or, Option, Some, None, Result, Ok, Err, OnOk, IsTrue, if◌then◌else◌, refl, sym, ap, ◌∙◌, subst, arith}
+use Rattle.std.proofs.Common.{◌≡◌, ◌≢◌, ◌⊎◌, inl, inr, ◌∷◌, ◌++◌, ◌||◌, ◌≤◌, ℕ, Bool, true, false, List, [], drop, get_or, Option, Some, None, Result, Ok, Err, OnOk, if◌then◌else◌, refl, sym, ap, ◌∙◌, subst, arith}
 use Rattle.std.specs.Str.{bytes_eq}
 use Rattle.std.proofs.lemmas.Slice.Eq.{bytes_eq-Decides}
 use Rattle.tool_output.specs.elf_outside.Asks.{Leaves}

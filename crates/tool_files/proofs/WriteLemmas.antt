@@ -1,5 +1,5 @@
 -- The files of a command, made one after another.
-use Rattle.std.proofs.Common.{◌≡◌, ◌≢◌, ◌⊎◌, inl, inr, ◌∷◌, ℕ, Bool, true, false, List, [], length, take, Option, Some, None, Result, Ok, Err, IfSome, OnErr, IsTrue, if◌then◌else◌, refl, sym, ap, ◌∙◌, subst, arith}
+use Rattle.std.proofs.Common.{◌≡◌, ◌≢◌, ◌⊎◌, inl, inr, ◌∷◌, ℕ, Bool, true, false, List, [], length, take, Option, Some, None, Result, Ok, Err, IfSome, OnOk, OnErr, IsTrue, if◌then◌else◌, refl, sym, ap, ◌∙◌, subst, arith}
 use Rattle.std.specs.Str.{bytes_eq}
 use Rattle.std.proofs.lemmas.Bool.{true≢false}
 use Rattle.std.proofs.lemmas.List.{take_all}
@@ -17,7 +17,7 @@ use Rattle.tool_output.proofs.StepLemmas.{writes_went}
 use Rattle.tool_output.proofs.FileLemmas.{only_reads_none}
 use Rattle.tool_output.proofs.OutcomeLemmas.{may_hold_same}
 use Rattle.tool_output.proofs.MadeLemmas.{made_held, made_left, stopped_done, writes_whole}
-use Rattle.tool_files.specs.Making.{InOrder}
+use Rattle.tool_files.specs.Making.{InOrder, MakesFiles}
 
 -- ---- One file, once what waited was put
 
@@ -241,3 +241,82 @@ module _ {F D : Type 0} (f : FilesGhosts F D) (first second : List ℕ) where
             → Ordered {T = V} (Err stop) a c image
         by told None made = tt
         by told (Some bytes) made = inr (g.others.same first differ ∙ made.made told)
+
+-- ---- Two files by one step
+
+-- the step is made of two
+module _ {F D T : Type 0} (f : FilesGhosts F D) (first second : List ℕ)
+    (one other : Option (List ℕ)) (n m k l : ℕ) (a b : F) where
+  pub first_fails : (stop : Stop) → MakesFile {T = T} f first one (Err stop) n m a b
+      → MakesFiles {T = T} f first second one other (Err stop) n m k l a b
+  first_fails stop h = record {
+    middle = b;
+    made = Err stop;
+    makes = h;
+    stopped = (refl, refl);
+    next = tt;
+  }
+
+  pub second_follows : (x : T) (r : Result T Stop) (c : F)
+      → MakesFile f first one (Ok x) n m a c → MakesFile f second other r k l c b
+      → MakesFiles f first second one other r n m k l a b
+  second_follows x r c h g =
+      record { middle = c; made = Ok x; makes = h; stopped = tt; next = g }
+
+-- what it does, once what waited was put
+module _ {F D O E : Type 0} (f : FilesGhosts F D) (o : SinkGhosts O) (e : SinkGhosts E)
+    (a b : F) (s t : Outputs O E) (first second : List ℕ) (differ : first ≢ second)
+    (one other : Option (List ℕ)) (n m k l : ℕ) where
+  abbrev BothDone : Result Bool Stop → F → Type 0
+  BothDone r g = IfSome one (λ bytes. IfSome other (λ others. Does f o e refused_status
+      (outcome_with no_report (made_file first bytes ∷ made_file second others ∷ [])) r a g s t))
+
+  pub files_done : {T U : Type 0} (x : U) (y : T) → Writes {T = U} o e (Ok x) s t []
+      → IsTrue (f.tells a) → MakesFiles {T = T} f first second one other (Ok y) n m k l a b
+      → BothDone (Ok false) b
+  files_done {T} {U} x y put told h = by h.made h.makes h.stopped h.next
+    where
+      by : (made : Result T Stop) → MakesFile f first one made n m a h.middle
+          → OnErr made ((Ok y ≡ made) × (b ≡ h.middle))
+          → OnOk made (MakesFile {T = T} f second other (Ok y) k l h.middle b)
+          → BothDone (Ok false) b
+      by (Ok z) makes stopped next =
+          both_done f o e x a h.middle s t first second n m put told z b k l differ y one other
+          makes next
+      by (Err why) makes stopped next = let is = stopped.0 in cc
+
+  pub files_stopped : {T U : Type 0} (x : U) (stop : Stop)
+      → Writes {T = U} o e (Ok x) s t [] → IsTrue (f.tells a)
+      → MakesFiles {T = T} f first second one other (Err stop) n m k l a b
+      → BothDone (Err stop) b
+  files_stopped {T} {U} x stop put told h = by h.made h.makes h.stopped h.next
+    where
+      by : (made : Result T Stop) → MakesFile f first one made n m a h.middle
+          → OnErr made ((Err stop ≡ made) × (b ≡ h.middle))
+          → OnOk made (MakesFile {T = T} f second other (Err stop) k l h.middle b)
+          → BothDone (Err stop) b
+      by (Ok z) makes stopped next =
+          second_stopped f o e x a h.middle s t first second n m put told z b k l differ stop one
+          other makes next
+      by (Err why) makes stopped next =
+          let same : stop ≡ why = let is = stopped.0 in cc in
+          subst (λ (w : Stop). BothDone (Err w) b) (sym same)
+          (subst (λ (g : F). BothDone (Err why) g) (sym stopped.1)
+          (first_stopped f o e x a h.middle s t first second n m put told why one other makes))
+
+  pub files_in_order : {T V : Type 0} (stop : Stop)
+      → MakesFiles {T = T} f first second one other (Err stop) n m k l a b
+      → InOrder {T = V} f first second one (Err stop) a b
+  files_in_order {T} {V} stop h = by h.made h.makes h.stopped h.next
+    where
+      by : (made : Result T Stop) → MakesFile f first one made n m a h.middle
+          → OnErr made ((Err stop ≡ made) × (b ≡ h.middle))
+          → OnOk made (MakesFile {T = T} f second other (Err stop) k l h.middle b)
+          → InOrder {T = V} f first second one (Err stop) a b
+      by (Ok z) makes stopped next =
+          order_second f first second differ n m a h.middle stop one other z k l b makes next
+      by (Err why) makes stopped next =
+          let same : stop ≡ why = let is = stopped.0 in cc in
+          subst (λ (w : Stop). InOrder {T = V} f first second one (Err w) a b) (sym same)
+          (subst (λ (g : F). InOrder {T = V} f first second one (Err why) a g) (sym stopped.1)
+          (order_first f first second differ n m a h.middle why one makes))

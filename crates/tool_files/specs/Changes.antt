@@ -1,8 +1,10 @@
 -- A file that is changed in place.
-use Rattle.std.specs.Prelude.{◌≡◌, ◌≤◌, ◌⊎◌, ℕ, Bool, List, Option, Some, Result, OnOk, IfOk, IfErr, IfSome}
-use Rattle.tool_output.specs.elf_outside.Counts.{Rose}
+use Rattle.std.specs.Prelude.{◌≡◌, ◌≤◌, ◌⊎◌, ◌-◌, ℕ, Bool, List, Some, Result, OnOk, IfOk, IfErr, IfSome}
+use Rattle.tool_output.specs.elf_outside.Counts.{Rose, RaisedBy, RisesWith}
+use Rattle.tool_output.specs.elf_outside.Names.{Closes}
 use Rattle.tool_output.specs.elf_outside.declared.sources.Source.{Ghosts as SourceGhosts}
 use Rattle.tool_output.specs.elf_outside.declared.devices.Device.{Ghosts as DeviceGhosts}
+use Rattle.tool_output.specs.elf_outside.declared.file_sets.Files.{Ghosts as FilesGhosts}
 use Rattle.tool_output.specs.elf_outside.declared.sinks.Sink.{Ghosts as SinkGhosts}
 use Rattle.tool_output.specs.declared.stops.Stop.{Stop}
 use Rattle.tool_output.specs.declared.outputs.Outputs.{Outputs}
@@ -47,3 +49,19 @@ pub record ChangesFile {D O E : Type 0} (s : SourceGhosts D) (d : DeviceGhosts D
   pub does : IfSome (s.holds device_old) (λ bytes.
       DoesInPlace s d o e (outcome bytes) name bytes result device_old device_new old new)
   pub leaves : LeavesDevice s d o e result device_old device_new old new
+
+-- a step does what `ChangesFile` says with an open file, which is then closed under its name
+pub record ChangesAndCloses {F D O E : Type 0} (s : SourceGhosts D) (d : DeviceGhosts D)
+    (f : FilesGhosts F D) (o : SinkGhosts O) (e : SinkGhosts E) (outcome : List ℕ → Outcome)
+    (name : List ℕ) (result : Result Bool Stop) (file : D) (files_old files_new : F)
+    (old new : Outputs O E) : Type 0 where
+  pub left : D
+  pub changes : ChangesFile s d o e outcome name result file left old new
+  pub closed : Closes (f.tells files_old) (f.named files_old) (f.tells files_new)
+      (f.named files_new) name (s.holds left)
+  pub read_faults : RisesWith (f.read_faults files_old) (f.read_faults files_new) (s.faults left)
+  pub write_faults : RisesWith (f.write_faults files_old) (f.write_faults files_new)
+      (d.write_faults left)
+  pub taken : RaisedBy (f.taken files_old) (f.taken files_new) (s.taken left)
+  pub given : RaisedBy (f.given files_old) (f.given files_new) (d.given left)
+  pub live : f.live files_new ≡ f.live files_old - 1

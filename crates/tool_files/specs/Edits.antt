@@ -1,16 +1,21 @@
 -- A file that stays open while other files are made of it.
-use Rattle.std.specs.Prelude.{◌≡◌, ◌≤◌, ◌<◌, ◌+◌, ◌-◌, ◌^◌, ℕ, List, Bool, Option, Some, None, Result, IfSome, OnOk, IsTrue, codes}
+use Rattle.std.specs.Prelude.{◌≡◌, ◌≤◌, ◌<◌, ◌+◌, ◌-◌, ◌^◌, ℕ, List, Bool, Option, Some, None, Result, Err, IfSome, OnOk, IsTrue, codes}
 use Rattle.tool_output.specs.elf_outside.Asks.{Leaves}
-use Rattle.tool_output.specs.elf_outside.Counts.{Rose}
-use Rattle.tool_output.specs.elf_outside.Names.{Map}
+use Rattle.tool_output.specs.elf_outside.Counts.{Rose, RaisedBy, RisesWith}
+use Rattle.tool_output.specs.elf_outside.Names.{Map, Closes}
 use Rattle.tool_output.specs.elf_outside.declared.sources.Source.{Ghosts as SourceGhosts}
+use Rattle.tool_output.specs.elf_outside.declared.devices.Device.{Ghosts as DeviceGhosts}
+use Rattle.tool_output.specs.elf_outside.declared.file_sets.OpenFault.{OpenFault}
+use Rattle.tool_output.specs.elf_outside.declared.file_sets.OpenFault.TheVariants.{NotThere, Failed, Memory}
 use Rattle.tool_output.specs.elf_outside.declared.sinks.Sink.{Ghosts as SinkGhosts}
 use Rattle.tool_output.specs.elf_outside.declared.file_sets.Files.{Ghosts as FilesGhosts}
 use Rattle.tool_output.specs.declared.stops.Stop.{Stop}
+use Rattle.tool_output.specs.declared.stops.Stop.TheVariants as stop
 use Rattle.tool_output.specs.declared.outputs.Outputs.{Outputs}
 use Rattle.tool_output.specs.Names.{file_name}
-use Rattle.tool_output.specs.Reports.{refusal_report}
+use Rattle.tool_output.specs.Reports.{Reports, refusal_report}
 use Rattle.tool_output.specs.Statuses.{refused_status}
+use Rattle.tool_output.specs.Steps.{LeavesOutputs}
 use Rattle.tool_output.specs.Files.{IsWithin, LeavesFilesBy}
 use Rattle.tool_output.specs.Outcomes.{Outcome, report_outcome, Does}
 
@@ -43,3 +48,34 @@ pub record EditsFile {S F D O E : Type 0} (s : SourceGhosts S) (f : FilesGhosts 
   pub live : f.live files_old < 2 ^ 64 - 2 → f.live files_new ≡ f.live files_old
   pub leaves : LeavesFilesBy f o e (Rose (s.faults source_old) (s.faults source_new))
       result files_old files_new old new
+
+-- What a step does with a file that could not be opened: a name that is not there has its message,
+-- and otherwise it stops before it does anything.
+abbrev pub RefusesOpening : {O E : Type 0} → SinkGhosts O → SinkGhosts E → List ℕ → List ℕ
+    → OpenFault → Result Bool Stop → Outputs O E → Outputs O E → Type 0
+RefusesOpening o e command name NotThere result old new =
+    Reports o e result old new
+    (refusal_report command (file_name name) (codes "not found"))
+    × LeavesOutputs o e ⊥ result old new
+RefusesOpening o e command name Failed result old new =
+    (result ≡ Err stop.Read) × (new ≡ old)
+RefusesOpening o e command name Memory result old new =
+    (result ≡ Err stop.Memory) × (new ≡ old)
+
+-- a step does what `EditsFile` says with an open file, which is then closed under its name
+pub record EditsAndCloses {F D O E : Type 0} (s : SourceGhosts D) (d : DeviceGhosts D)
+    (f : FilesGhosts F D) (o : SinkGhosts O) (e : SinkGhosts E) (outcome : List ℕ → Outcome)
+    (name : List ℕ) (result : Result Bool Stop) (file : D) (files_old files_new : F)
+    (old new : Outputs O E) : Type 0 where
+  pub left : D
+  pub middle : F
+  pub edits : EditsFile s f o e outcome result file left files_old middle old new
+  pub same_given : d.given left ≡ d.given file
+  pub closed : Closes (f.tells middle) (f.named middle) (f.tells files_new) (f.named files_new)
+      name (s.holds left)
+  pub read_faults : RisesWith (f.read_faults middle) (f.read_faults files_new) (s.faults left)
+  pub write_faults : RisesWith (f.write_faults middle) (f.write_faults files_new)
+      (d.write_faults left)
+  pub taken : RaisedBy (f.taken middle) (f.taken files_new) (s.taken left)
+  pub given : RaisedBy (f.given middle) (f.given files_new) (d.given left)
+  pub live : f.live files_new ≡ f.live middle - 1

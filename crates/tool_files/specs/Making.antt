@@ -13,6 +13,7 @@ use Rattle.tool_output.specs.Stops.{stop_of}
 use Rattle.tool_output.specs.Statuses.{refused_status}
 use Rattle.tool_output.specs.Reports.{Report}
 use Rattle.tool_output.specs.Outcomes.{FileWrite, Outcome}
+use Rattle.tool_output.specs.Made.{MakesFile}
 
 -- a call that is never refused, as a step of a tool: its value, or the stop of its error
 abbrev pub IsStepOf : {T : Type 0} → Result T ElfError → Result T Stop → Type 0
@@ -39,6 +40,16 @@ pub record FillsFile {D S T : Type 0} (w : SourceGhosts D) (d : DeviceGhosts D) 
   pub write : OnWrite result (Rose (d.write_faults old) (d.write_faults new))
   pub source : ReadsFrom s source_old source_new due
   pub read : OnRead result (Rose (s.faults source_old) (s.faults source_new))
+
+-- A step makes two files, one after another: where the first is not made, it stops as that does.
+pub record MakesFiles {F D T : Type 0} (f : FilesGhosts F D) (first second : List ℕ)
+    (one other : Option (List ℕ)) (result : Result T Stop) (one_old one_new other_old other_new : ℕ)
+    (old new : F) : Type 0 where
+  pub middle : F
+  pub made : Result T Stop
+  pub makes : MakesFile f first one made one_old one_new old middle
+  pub stopped : OnErr made ((result ≡ made) × (new ≡ middle))
+  pub next : OnOk made (MakesFile f second other result other_old other_new middle new)
 
 -- Where a step that makes two files stops, the second holds what it held, or the first is whole.
 pub record InOrder {F D T : Type 0} (f : FilesGhosts F D) (first second : List ℕ)

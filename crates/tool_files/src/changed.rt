@@ -5,11 +5,12 @@ ghost use Rattle.tool_output.specs.Files.{LeavesFiles};
 ghost use Rattle.tool_output.specs.Outcomes.{Outcome, write_of, Does};
 ghost use Rattle.tool_output.specs.Statuses.{refused_status};
 ghost use Rattle.tool_files.specs.Edits.{edited_outcome};
-ghost use Rattle.tool_files.specs.Changes.{ChangesFile};
+ghost use Rattle.tool_files.specs.Changes.{ChangesFile, ChangesAndCloses};
 
+use crate::opening::refuse_opening;
 use std::alloc::Global;
-use tool_output::prelude::{Device, Files, OpenFault, Sink};
-use tool_output::{FileName, Message, Outputs, Stop};
+use tool_output::prelude::{Device, Files, Sink};
+use tool_output::{Outputs, Stop};
 
 /// What a command does with the file that it is given, in place: it reads it and writes it.
 ///
@@ -41,6 +42,24 @@ pub trait FileChange {
             device result.0 outputs.old outputs.new };
 }
 
+/// Does with an open file what a command does, in place, and closes it.
+fn change_open<T: FileChange, F: Files, O: Sink, E: Sink>(
+    alloc: Global,
+    change: &T,
+    file: F::File,
+    file_name: &str,
+    files: &mut F,
+    outputs: &mut Outputs<'_, O, E>,
+) -> Result<bool, Stop>
+    ensures { ChangesAndCloses F.File.Source F.File.Device.own F.Files O.Sink E.Sink
+        (T.outcome change.now file_name.now) file_name.now result file
+        files.old files.new outputs.old outputs.new }
+{
+    let (file, changed) = change.change(alloc, file, file_name.as_bytes(), outputs);
+    files.close(file_name, file);
+    changed
+}
+
 /// Opens a file for reading and writing, does with it what a command does, and closes it; only then
 /// is the result looked at. A name that is not there has its message. The command writes no file of
 /// another name.
@@ -60,20 +79,8 @@ pub fn change_file<T: FileChange, F: Files, O: Sink, E: Sink>(
     ensures leaves { LeavesFiles F.Files O.Sink E.Sink
         result files.old files.new outputs.old outputs.new }
 {
-    let name = file_name.as_bytes();
-    let file = match files.edit(alloc, file_name) {
-        Ok(file) => file,
-        Err(OpenFault::NotThere) => {
-            return outputs.refuse(&Message {
-                command: change.command(),
-                name: &FileName::of(name),
-                text: "not found",
-            });
-        }
-        Err(OpenFault::Failed) => return Err(Stop::Read),
-        Err(OpenFault::Memory) => return Err(Stop::Memory),
-    };
-    let (file, changed) = change.change(alloc, file, name, outputs);
-    files.close(file_name, file);
-    changed
+    match files.edit(alloc, file_name) {
+        Ok(file) => change_open(alloc, change, file, file_name, files, outputs),
+        Err(fault) => refuse_opening(change.command(), file_name, fault, outputs),
+    }
 }

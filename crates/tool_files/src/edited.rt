@@ -4,11 +4,12 @@ ghost use Rattle.std.specs.Prelude.{◌≡◌, ℕ, List, None, IsTrue};
 ghost use Rattle.tool_output.specs.Files.{LeavesFiles};
 ghost use Rattle.tool_output.specs.Outcomes.{Outcome, write_of, Does};
 ghost use Rattle.tool_output.specs.Statuses.{refused_status};
-ghost use Rattle.tool_files.specs.Edits.{EditsFile, edited_outcome};
+ghost use Rattle.tool_files.specs.Edits.{EditsFile, EditsAndCloses, edited_outcome};
 
+use crate::opening::refuse_opening;
 use std::alloc::Global;
-use tool_output::prelude::{Files, OpenFault, Sink, Source};
-use tool_output::{FileName, Message, Outputs, Stop};
+use tool_output::prelude::{Files, Sink, Source};
+use tool_output::{Outputs, Stop};
 
 /// What a command does with the file that it is given, while that is open: it reads it, and makes
 /// other files.
@@ -38,6 +39,24 @@ pub trait FileEdit {
             src result.0 files.old files.new outputs.old outputs.new };
 }
 
+/// Does with an open file what a command does, and closes it.
+fn edit_open<T: FileEdit, F: Files, O: Sink, E: Sink>(
+    alloc: Global,
+    edit: &T,
+    file: F::File,
+    file_name: &str,
+    files: &mut F,
+    outputs: &mut Outputs<'_, O, E>,
+) -> Result<bool, Stop>
+    ensures { EditsAndCloses F.File.Source F.File.Device.own F.Files O.Sink E.Sink
+        (T.outcome edit.now file_name.now) file_name.now result file
+        files.old files.new outputs.old outputs.new }
+{
+    let (file, edited) = edit.edit(alloc, file, file_name.as_bytes(), files, outputs);
+    files.close(file_name, file);
+    edited
+}
+
 /// Opens a file for reading, does with it what a command does, and closes it once all that is made
 /// of it is closed; only then is the result looked at. A name that is not there has its message.
 /// The command writes no file of that name.
@@ -57,20 +76,8 @@ pub fn edit_file<T: FileEdit, F: Files, O: Sink, E: Sink>(
     ensures leaves { LeavesFiles F.Files O.Sink E.Sink
         result files.old files.new outputs.old outputs.new }
 {
-    let name = file_name.as_bytes();
-    let file = match files.open(alloc, file_name) {
-        Ok(file) => file,
-        Err(OpenFault::NotThere) => {
-            return outputs.refuse(&Message {
-                command: edit.command(),
-                name: &FileName::of(name),
-                text: "not found",
-            });
-        }
-        Err(OpenFault::Failed) => return Err(Stop::Read),
-        Err(OpenFault::Memory) => return Err(Stop::Memory),
-    };
-    let (file, edited) = edit.edit(alloc, file, name, files, outputs);
-    files.close(file_name, file);
-    edited
+    match files.open(alloc, file_name) {
+        Ok(file) => edit_open(alloc, edit, file, file_name, files, outputs),
+        Err(fault) => refuse_opening(edit.command(), file_name, fault, outputs),
+    }
 }

@@ -15,6 +15,7 @@ pub mod elf_images;
 pub mod images;
 pub mod making;
 pub mod objects;
+mod opening;
 pub mod prelude;
 pub mod writing;
 

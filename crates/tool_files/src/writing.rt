@@ -7,7 +7,7 @@ ghost use Rattle.tool_output.specs.Made.{made_file, outcome_with};
 ghost use Rattle.tool_output.specs.Outcomes.{Does};
 ghost use Rattle.tool_output.specs.Reports.{no_report};
 ghost use Rattle.tool_output.specs.Statuses.{refused_status};
-ghost use Rattle.tool_files.specs.Making.{ReadsFrom, InOrder};
+ghost use Rattle.tool_files.specs.Making.{ReadsFrom, InOrder, MakesFiles};
 
 use crate::images::Image;
 use crate::making::make_file;
@@ -43,6 +43,28 @@ pub fn write_image<I: Image, F: Files, O: Sink, E: Sink>(
     Ok(false)
 }
 
+/// Makes two files, one after another.
+fn make_files<I: Image, J: Image, F: Files>(
+    alloc: Global,
+    first: &mut I,
+    first_name: &str,
+    second: &mut J,
+    second_name: &str,
+    files: &mut F,
+) -> Result<(), Stop>
+    requires first { I.ready first.old }
+    requires second { J.ready second.old }
+    ensures makes { MakesFiles F.Files first_name.now second_name.now
+        (I.bytes first.old) (J.bytes second.old) result
+        (I.From.faults (I.source first.old)) (I.From.faults (I.source first.new))
+        (J.From.faults (J.source second.old)) (J.From.faults (J.source second.new))
+        files.old files.new }
+    ensures live { F.live files.old < 2 ^ 64 - 2 → F.live files.new ≡ F.live files.old }
+{
+    make_file(alloc, first, first_name, files)?;
+    make_file(alloc, second, second_name, files)
+}
+
 /// Makes the two files of a command, one after another. It stops as `write_image` does: while the
 /// first is made the name of the second holds what it held, and while the second is made the first
 /// holds its image.
@@ -73,7 +95,6 @@ pub fn write_images<I: Image, J: Image, F: Files, O: Sink, E: Sink>(
     ensures live { F.live files.old < 2 ^ 64 - 2 → F.live files.new ≡ F.live files.old }
 {
     outputs.flush()?;
-    make_file(alloc, first, first_name, files)?;
-    make_file(alloc, second, second_name, files)?;
+    make_files(alloc, first, first_name, second, second_name, files)?;
     Ok(false)
 }
