@@ -1,5 +1,5 @@
 -- An image that a tool is to speak of.
-use Rattle.std.proofs.Common.{◌≡◌, ◌≢◌, ◌+◌, ◌*◌, ◌≤◌, ℕ, Bool, false, true, List, [], Option, Some, None, Result, Ok, Err, IfSome, IfOk, IsTrue, refl, sym, ap, ◌∙◌, subst, arith}
+use Rattle.std.proofs.Common.{◌≡◌, ◌≢◌, ◌+◌, ◌*◌, ◌≤◌, ℕ, Bool, false, true, List, Option, Some, None, Result, Ok, Err, IfSome, IfOk, IsTrue, refl, sym, ap, ◌∙◌, subst, arith}
 use Rattle.std.specs.Prelude.{is_some, OnOk, if◌then◌else◌}
 use Rattle.elf_types.specs.declared.constants.TheConstants.{MAX_IMAGE}
 use Rattle.elf_types.specs.declared.errors.ElfError.{ElfError}

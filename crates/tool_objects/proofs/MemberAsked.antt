@@ -139,6 +139,12 @@ module _ (looks : SectionLooks) (holds now : Option (List ℕ)) (same : now ≡ 
       (sum_by (member_asks looks bytes) (members_left bytes old).list)
       whole (next_within looks bytes old) walked)
 
+  pub asked_breaks_by : (r : Result Bool Stop) (c : ℕ)
+      → IfSome now (λ bytes. c ≤ b + next_due bytes old)
+      → OnOk r (IfSome holds (λ bytes. c ≤ a + left_asks looks bytes first))
+  asked_breaks_by (Ok x) c walked = asked_breaks c walked
+  asked_breaks_by (Err stop) c walked = tt
+
 -- ---- An archive
 
 module _ (looks : SectionLooks) (holds : Option (List ℕ)) (a b : ℕ) (line : b ≤ a + 8) where

@@ -1,14 +1,11 @@
 -- The names of sections.
-use Rattle.std.proofs.Common.{◌≡◌, ◌≢◌, ◌⊎◌, inl, inr, ◌==◌, ℕ, Bool, true, false, List, [], ◌∷◌, Option, Some, None, Result, Ok, Err, IsTrue, refl, sym, ap, ◌∙◌, subst}
-use Rattle.std.proofs.lemmas.Bool.{ne_eqb}
-use Rattle.std.specs.Prelude.{filter, map, if◌then◌else◌}
+use Rattle.std.proofs.Common.{◌≡◌, ◌⊎◌, inl, inr, ℕ, Bool, true, false, List, [], ◌∷◌, Some, None, Result, Err, IsTrue, refl, ap, ◌∙◌}
+use Rattle.std.specs.Prelude.{filter, if◌then◌else◌}
 use Rattle.elf_types.specs.declared.errors.ElfError.{ElfError}
 use Rattle.elf_types.specs.declared.errors.ElfError.TheVariants as error
 use Rattle.gelf_view.specs.elf_object.Words.{Wants, Refusals, AnswersRead}
-use Rattle.gelf_view.specs.elf_object.Object.{Object, section_at}
-use Rattle.gelf_view.specs.elf_object.Strings.{string_answer, section_name, readable, is_name}
 use Rattle.tool_output.specs.Stops.{stop_of}
-use Rattle.tool_output.specs.Reports.{Report, no_report, joined_reports, all_reports_joined, reports_of}
+use Rattle.tool_output.specs.Reports.{Report, joined_reports, all_reports_joined, reports_of}
 use Rattle.tool_output.proofs.ReportLemmas.{no_report_joined}
 use Rattle.tool_objects.specs.Sections.{report_if}
 

@@ -1,12 +1,11 @@
 -- A step that obtains an object, by how it ends.
-use Rattle.std.proofs.Common.{◌≡◌, ℕ, Bool, List, [], Option, Some, None, Result, Ok, Err, refl, sym, ap, subst}
+use Rattle.std.proofs.Common.{◌≡◌, ℕ, Bool, List, [], Option, Some, None, Result, Ok, Err, refl}
 use Rattle.tool_output.specs.elf_outside.declared.sinks.Sink.{Ghosts}
 use Rattle.gelf_view.specs.elf_object.Object.{Object}
 use Rattle.tool_output.specs.declared.stops.Stop.{Stop}
 use Rattle.tool_output.specs.declared.outputs.Outputs.{Outputs}
 use Rattle.tool_output.specs.Names.{file_name}
 use Rattle.tool_output.specs.Made.{Complaint, complaint_report}
-use Rattle.tool_output.specs.Marks.{Mark}
 use Rattle.tool_output.specs.Steps.{Writes}
 use Rattle.tool_output.specs.Reports.{Reports, no_report, refusal_report}
 use Rattle.tool_output.proofs.StepLemmas.{writes_went, stops_as}

@@ -18,7 +18,7 @@ use Rattle.tool_output.specs.Steps.{OnRead, OnWrite}
 use Rattle.tool_output.specs.declared.stops.Stop.TheVariants.{Read, Write, Memory}
 use Rattle.tool_output.specs.Stops.{stop_of, value_or_stop}
 use Rattle.tool_objects.specs.Answers.{value_of}
-use Rattle.tool_objects.specs.Steps.{LeavesElfBy, LeavesElf, Looked, ReadsElf, Learns, SourceRose}
+use Rattle.tool_objects.specs.Steps.{LeavesElfBy, LeavesElf, Looked, ReadsElf, Learns}
 use Rattle.tool_objects.proofs.OnceSums.{Once}
 use Rattle.tool_objects.proofs.OnceReads.{reads_once}
 use Rattle.tool_objects.proofs.ElfSteps.{settled_elf}

@@ -15,6 +15,7 @@ use Rattle.tool_output.specs.Sources.{ReportsOn}
 use Rattle.tool_output.proofs.StepLemmas.{keeps_none, keeps_then}
 use Rattle.tool_output.proofs.ReportLemmas.{joined_no_report}
 use Rattle.tool_output.proofs.UnderWayLemmas.{begins, goes_on, stops_at, is_given}
+use Rattle.tool_objects.specs.Refusals.{IsJoined}
 
 -- ---- What is left
 
@@ -144,6 +145,12 @@ module _ {S O E : Type 0} {s : SourceGhosts S} {o : SinkGhosts O} {e : SinkGhost
   pub way_last_stop : {c : S} {v : Outputs O E} {stop : Stop} → ReportsOn s o e rest (Err stop) b c u v → ReportsOn s o e whole (Err stop) a c t v
   way_last_stop {c} {v} {stop} k =
       way_stops_at rest (λ bytes. no_report) (told_by (s.holds b) (λ bytes there. sym (joined_no_report (rest bytes)))) k
+
+  -- and either way
+  pub way_last_by : {c : S} {v : Outputs O E} (own r : Result Bool Stop) → IsJoined x own r
+      → ReportsOn s o e rest own b c u v → ReportsOn s o e whole r a c t v
+  way_last_by (Ok y) r is k = rw is (way_last k)
+  way_last_by (Err stop) r is k = rw is (way_last_stop k)
 
   -- nothing is left, after a call that reads
   pub way_ends : {T : Type 0} (q : Result T ElfError) (n : ℕ) (c : S) → Asks s q b c n → IfSome (s.holds b) (λ bytes. rest bytes ≡ no_report)

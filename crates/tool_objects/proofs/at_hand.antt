@@ -2,3 +2,4 @@ pub mod OneTable
 pub mod Ends
 pub mod HeldItems
 pub mod Passing
+mod ItemPlaces

@@ -5,11 +5,13 @@ ghost use Rattle.ar_members.specs.Archives.{members_left};
 ghost use Rattle.tool_output.specs.Names.{file_name};
 ghost use Rattle.tool_output.specs.Sources.{ReportsOn};
 ghost use Rattle.tool_objects.specs.Images.{image_report};
+ghost use Rattle.tool_objects.specs.Refusals.{EndsByRefusal};
 ghost use Rattle.tool_objects.specs.Archives.{member_report, members_report, archive_report};
 ghost use Rattle.tool_objects.specs.Archives.{member_asks, left_asks, archive_asks};
 
 use crate::tools::{ObjectTool, refuse};
 use ar_members::{Ar, ArHdr};
+use elf_types::ElfError;
 use std::alloc::Global;
 use tool_output::prelude::{Sink, Source};
 use tool_output::{FileName, Outputs, Stop};
@@ -21,23 +23,41 @@ fn show_member<T: ObjectTool, S: Source, O: Sink, E: Sink>(
     tool: &T,
     archive: Ar<S>,
     file: &[u8],
-    header: &ArHdr,
+    header: ArHdr,
     outputs: &mut Outputs<'_, O, E>,
 ) -> (Ar<S>, Result<bool, Stop>)
-    requires { header.now.body + header.now.size ≤ S.size archive.source }
+    requires { header.body + header.size ≤ S.size archive.source }
     ensures reports { ReportsOn S.Source O.Sink E.Sink
         (λ bytes. member_report (image_report (T.command tool.now) (T.report tool.now))
-        file.now bytes header.now)
+        file.now bytes header)
         result.1 archive.source result.0.source outputs.old outputs.new }
     ensures walk { result.0.walk ≡ archive.walk }
     ensures asks { OnOk result.1 (IfSome (S.holds archive.source) (λ bytes.
         S.taken result.0.source
-        ≤ S.taken archive.source + member_asks (T.looks tool.now) bytes header.now)) }
+        ≤ S.taken archive.source + member_asks (T.looks tool.now) bytes header)) }
 {
     let name = FileName::of_member(file, header.name.as_slice());
-    let window = archive.body(header);
+    let window = archive.body(&header);
     let (body, shown) = tool.show_source(alloc, window, &name, outputs);
     (body.into_inner(), shown)
+}
+
+/// Gives the message of the bad header that ends an archive, and returns whether that or something
+/// before it was rejected.
+fn end_members<T: ObjectTool, O: Sink, E: Sink>(
+    tool: &T,
+    file: &[u8],
+    e: ElfError,
+    refused: bool,
+    outputs: &mut Outputs<'_, O, E>,
+) -> Result<bool, Stop>
+    ensures { EndsByRefusal O.Sink E.Sink (T.command tool.now) (file_name file.now) e refused
+        result outputs.old outputs.new }
+{
+    match refuse(tool.command(), &FileName::of(file), e, outputs) {
+        Ok(was_refused) => Ok(refused | was_refused),
+        Err(stop) => Err(stop),
+    }
 }
 
 /// Gives a tool's report on each member that is left of an archive, in their order, and the message
@@ -62,7 +82,7 @@ fn show_members<T: ObjectTool, S: Source, O: Sink, E: Sink>(
     loop {
         match archive.next() {
             Ok(Some(header)) => {
-                let (after, shown) = show_member(alloc, tool, archive, file, &header, outputs);
+                let (after, shown) = show_member(alloc, tool, archive, file, header, outputs);
                 archive = after;
                 match shown {
                     Ok(was_refused) => refused = refused | was_refused,
@@ -70,10 +90,10 @@ fn show_members<T: ObjectTool, S: Source, O: Sink, E: Sink>(
                 }
             }
             Ok(None) => return (archive, Ok(refused)),
-            Err(e) => match refuse(tool.command(), &FileName::of(file), e, outputs) {
-                Ok(was_refused) => return (archive, Ok(refused | was_refused)),
-                Err(stop) => return (archive, Err(stop)),
-            },
+            Err(e) => {
+                let ended = end_members(tool, file, e, refused, outputs);
+                return (archive, ended);
+            }
         }
     }
 }

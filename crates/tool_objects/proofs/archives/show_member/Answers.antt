@@ -11,7 +11,7 @@ returns-clause-reports g c =
     let window = c.body-window.ensures in
     let shown = c.show_source-body.ensures.reports in
     rw c.into_inner.ensures (member_reports g.S.Source g.O.Sink g.E.Sink report
-    c.args.file.now c.args.header.now _ _ _ _ _ _ _ window.range.0 window.range.1
+    c.args.file.now c.args.header _ _ _ _ _ _ _ window.range.0 window.range.1
     (rw window.inner at (window_reports g.S.Source g.O.Sink g.E.Sink _ _ c.body-window.result.inner
     c.show_source-body.result.0.inner shown.source.same_rest _ _ _ _ _
     (rw (c.of_member-name.ensures, c.as_slice.ensures) at shown.reports)
@@ -22,5 +22,5 @@ returns-clause-asks g c =
     let window = c.body-window.ensures in
     let holds = g.S.Source.holds c.body-window.result.inner.source in
     rw c.into_inner.ensures (rw window.inner at (member_within
-    (g.T.ObjectTool.looks c.args.tool.now) c.args.header.now holds holds _ _ _ _ _ refl
+    (g.T.ObjectTool.looks c.args.tool.now) c.args.header holds holds _ _ _ _ _ refl
     window.range.0 window.range.1 c.show_source-body.ensures.asks))

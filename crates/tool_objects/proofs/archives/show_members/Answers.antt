@@ -2,9 +2,9 @@ use Rattle.std.proofs.Common.{refl, arith}
 use Rattle.tool_output.proofs.SourceLemmas.{refuses_after}
 use Rattle.tool_objects.specs.Images.{image_report}
 use Rattle.tool_objects.specs.Archives.{member_report}
-use Rattle.tool_objects.proofs.MemberAsked.{asked_begins, asked_goes_on, asked_ends, asked_breaks}
+use Rattle.tool_objects.proofs.MemberAsked.{asked_begins, asked_goes_on, asked_ends, asked_breaks_by}
 use Rattle.tool_objects.proofs.MemberLemmas.{left_report, member_left, no_member_left, bad_left}
-use Rattle.tool_objects.proofs.SourceSteps.{after_read, way_begins, way_goes_on, way_stops_at, way_last, way_last_stop, way_ends}
+use Rattle.tool_objects.proofs.SourceSteps.{after_read, way_begins, way_goes_on, way_stops_at, way_last_by, way_ends}
 use Rattle.tool_objects.proofs.archives.show_members.Goals as goal
 
 pub loop-header-init : goal.loop-header-init
@@ -73,31 +73,22 @@ returns-in-Ok-None-clause-asks g c =
     c.args.archive.walk c.loop-header.archive.walk _ _ i.asks c.next.new.self.walk _
     c.in-Ok-None.ensures.left
 
-pub returns-in-Ok-refuse-clause-reports : goal.returns-in-Ok-refuse-clause-reports
-returns-in-Ok-refuse-clause-reports g c =
+pub returns-in-Err-clause-reports : goal.returns-in-Err-clause-reports
+returns-in-Err-clause-reports g c =
     let command = g.T.ObjectTool.command c.args.tool.now in
     let report = image_report command (g.T.ObjectTool.report c.args.tool.now) in
-    let refused = c.in-Ok-refuse.ensures in
-    way_last c.loop-header.invariant.way
+    let ends = c.end_members-ended.ensures in
+    way_last_by c.loop-header.invariant.way ends.own _ ends.joined
     (refuses_after g.O.Sink g.E.Sink g.S.Source _ _ _ c.loop-header.archive.source _
     c.loop-header.outputs _ _ _ c.in-Err.ensures.asks
-    (bad_left command report c.args.file.now (g.S.Source.holds c.loop-header.archive.source) c.loop-header.archive.walk c.next.new.self.walk c.in-Err.e c.in-Err.ensures.members)
-    (rw (c.command.ensures, c.of.ensures) at refused.reports) refused.stops refused.leaves)
+    (bad_left command report c.args.file.now (g.S.Source.holds c.loop-header.archive.source)
+    c.loop-header.archive.walk c.next.new.self.walk c.in-Err.e c.in-Err.ensures.members)
+    ends.refuses.reports ends.refuses.stops ends.refuses.leaves)
 
-pub returns-in-Ok-refuse-clause-asks : goal.returns-in-Ok-refuse-clause-asks
-returns-in-Ok-refuse-clause-asks g c =
+pub returns-in-Err-clause-asks : goal.returns-in-Err-clause-asks
+returns-in-Err-clause-asks g c =
     let i = c.loop-header.invariant in
-    asked_breaks (g.T.ObjectTool.looks c.args.tool.now) (g.S.Source.holds c.args.archive.source)
-    (g.S.Source.holds c.loop-header.archive.source) i.way.source.same_bytes
-    c.args.archive.walk c.loop-header.archive.walk _ _ i.asks _ c.in-Err.ensures.due
-
-pub returns-in-Err-refuse-clause-reports : goal.returns-in-Err-refuse-clause-reports
-returns-in-Err-refuse-clause-reports g c =
-    let command = g.T.ObjectTool.command c.args.tool.now in
-    let report = image_report command (g.T.ObjectTool.report c.args.tool.now) in
-    let refused = c.in-Err-refuse.ensures in
-    way_last_stop c.loop-header.invariant.way
-    (refuses_after g.O.Sink g.E.Sink g.S.Source _ _ _ c.loop-header.archive.source _
-    c.loop-header.outputs _ _ _ c.in-Err.ensures.asks
-    (bad_left command report c.args.file.now (g.S.Source.holds c.loop-header.archive.source) c.loop-header.archive.walk c.next.new.self.walk c.in-Err.e c.in-Err.ensures.members)
-    (rw (c.command.ensures, c.of.ensures) at refused.reports) refused.stops refused.leaves)
+    asked_breaks_by (g.T.ObjectTool.looks c.args.tool.now)
+    (g.S.Source.holds c.args.archive.source) (g.S.Source.holds c.loop-header.archive.source)
+    i.way.source.same_bytes c.args.archive.walk c.loop-header.archive.walk _ _ i.asks
+    c.end_members-ended.result _ c.in-Err.ensures.due

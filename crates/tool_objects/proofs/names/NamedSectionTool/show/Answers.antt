@@ -1,4 +1,4 @@
-use Rattle.std.proofs.Common.{Bool, Ok, false, refl}
+use Rattle.std.proofs.Common.{Bool, refl}
 use Rattle.std.proofs.lemmas.Result.{err_from_is_err_and}
 use Rattle.gelf_view.specs.elf_object.Object.{Object}
 use Rattle.gelf_view.specs.elf_object.Strings as strings
