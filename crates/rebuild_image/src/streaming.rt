@@ -1,15 +1,16 @@
 //! What an image is written from, where its headers are listed and the bytes of its sections are
 //! ranges.
 
-ghost use Rattle.std.specs.Prelude.{◌≡◌, ◌⊎◌, ◌≤◌, ℕ, true, false, length, All, IsTrue, IfOk, IfErr};
+ghost use Rattle.std.specs.Prelude.{◌≡◌, ◌⊎◌, ◌≤◌, ◌+◌, ◌-◌, ℕ, true, false, length, All, IsTrue, IfOk, IfErr};
 ghost use Rattle.elf_types.specs.declared.constants.TheConstants.{MAX_SECTIONS};
 ghost use Rattle.elf_types.specs.declared.errors.ElfError.TheVariants.{Memory};
 ghost use Rattle.elf_outside.specs.Asks.{ReadRose};
 ghost use Rattle.elf_xlate.specs.Headers.{ehdr_fits, phdr_fits, shdr_fits};
-ghost use Rattle.rebuild_model.specs.elf_object.Object.{Object};
+ghost use Rattle.rebuild_model.specs.elf_object.Object.{Object, is_dirty};
 ghost use Rattle.rebuild_model.specs.elf_object.Valid.{IsObject};
 ghost use Rattle.elf_update_to.specs.law_object.Writing.Ready.{IsReady};
 ghost use Rattle.elf_update_to.specs.elf_update_plan.Placing.{IsRefused};
+ghost use Rattle.elf_update_to.specs.Updates.{IsPlanned};
 ghost use Rattle.rebuild_image.specs.Listed.Listing.{IsHeaderListing};
 ghost use Rattle.rebuild_image.specs.Planning.{IsLaidOut};
 ghost use Rattle.rebuild_image.specs.Holding.{HoldsFront};
@@ -97,6 +98,66 @@ pub struct Streamed {
     pub front: FrontRanges,
 }
 
+/// The plan of an image of which the headers are listed, with a place for each part. It fails as
+/// `plan_listed` does.
+fn plan_with_places(
+    alloc: Global,
+    x: &HeaderListing,
+    layout: bool,
+    base: u64,
+) -> Result<PlannedParts, ElfError>
+    requires few { length x.now.headers ≤ MAX_SECTIONS }
+    requires sizes { length x.now.sizes ≡ length x.now.headers }
+    ensures ok { IfOk result (λ planned. (o : Object) → IsLaidOut o x.now layout base
+        → IsPlanned o planned) }
+    ensures places { IfOk result (λ planned.
+        length x.now.headers - 1 + 3 ≤ length planned.places.at) }
+    ensures err { IfErr result (λ e. (o : Object) → IsLaidOut o x.now layout base
+        → IsRefused o e) }
+    ensures unread { (a b : ℕ) → ReadRose result a b }
+{
+    match plan_listed(alloc, x, layout, base) {
+        Ok(planned) => {
+            let places = planned.places.at.len();
+            let parts = x.headers.len().saturating_sub(1) + 3;
+            if places < parts {
+                return Err(ElfError::TooMany);
+            }
+            Ok(planned)
+        }
+        Err(e) => Err(e),
+    }
+}
+
+/// Stores the places of a plan in listed headers, and holds the front of its image. It fails with
+/// `Memory`, and with `Unfit` where headers do not fit their class.
+fn hold_placed(
+    alloc: Global,
+    x: HeaderListing,
+    planned: &PlannedParts,
+    pad: [u8; 7],
+    phdrs: &[Phdr],
+    held: &mut SharedBytes,
+) -> Result<FrontRanges, ElfError>
+    requires sizes { length x.sizes ≡ length x.headers }
+    requires places { length x.headers - 1 + 3 ≤ length planned.now.places.at }
+    ensures ok { IfOk result (λ front. (o : Object) → IsHeaderListing o x → is_dirty o ≡ true
+        → IsPlanned o planned.now → pad ≡ o.pad → phdrs.now ≡ o.phdrs
+        → IsStreamed o held.old held.new (record { planned = planned.now; front = front })) }
+    ensures err { IfErr result (λ e. (o : Object) → IsHeaderListing o x → is_dirty o ≡ true
+        → IsPlanned o planned.now → phdrs.now ≡ o.phdrs → IsRefused o e) }
+    ensures unread { (a b : ℕ) → ReadRose result a b }
+{
+    let next = match store_places(alloc, x, &planned.places) {
+        Ok(next) => next,
+        Err(e) => return Err(e),
+    };
+    match hold_stored(held, &next, pad, phdrs) {
+        Ok(front) => Ok(front),
+        Err(e) => Err(e),
+    }
+}
+
 /// Works out where the parts of an image are of which the headers are listed, and holds its front
 /// after what is held. It fails as an update of an object does that has these headers: `Overlap`,
 /// `TooLarge`; and `Memory`. Headers that do not fit their class, which no object has, are `Unfit`.
@@ -120,24 +181,11 @@ pub fn stream_listed(
         → phdrs.now ≡ o.phdrs → IsRefused o e) }
     ensures unread { (a b : ℕ) → ReadRose result a b }
 {
-    let planned = match plan_listed(alloc, &x, layout, base) {
-        Ok(planned) => planned,
-        Err(e) => return Err(e),
-    };
-    let places = planned.places.at.len();
-    let parts = x.headers.len() + 2;
-    if places < parts {
-        return Err(ElfError::TooMany);
-    }
-    if places < 3 {
-        return Err(ElfError::TooMany);
-    }
-    let next = match store_places(alloc, x, &planned.places) {
-        Ok(next) => next,
-        Err(e) => return Err(e),
-    };
-    match hold_stored(held, &next, pad, phdrs) {
-        Ok(front) => Ok(Streamed { planned, front }),
+    match plan_with_places(alloc, &x, layout, base) {
+        Ok(planned) => match hold_placed(alloc, x, &planned, pad, phdrs, held) {
+            Ok(front) => Ok(Streamed { planned, front }),
+            Err(e) => Err(e),
+        },
         Err(e) => Err(e),
     }
 }
