@@ -10,5 +10,5 @@ returns-in-Ok c =
 pub returns-in-Err : goal.returns-in-Err
 returns-in-Err c =
     rejected c.args.class c.args.to c.args.bytes.now c.translate_in_place.new.bytes
-    (decoded c.args.kind c.args.class c.args.from c.args.bytes.now) c.in-Err.e
+    (decoded c.args.kind c.args.class c.args.from c.args.bytes.now) _
     c.code_of.result c.in-Err.ensures c.code_of.ensures
