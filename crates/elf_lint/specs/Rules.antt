@@ -16,6 +16,14 @@ use Rattle.elf_lint_symbols.specs.Relocations.{relocations_by_no_symbol}
 use Rattle.elf_lint_links.specs.Dynamic.{dynamic_without_end}
 use Rattle.elf_lint_links.specs.Chains.Chains.{bad_notes, bad_versions}
 use Rattle.elf_lint_hashes.specs.Hashes.{hashes_not_whole, gnu_hashes_not_whole}
+use Rattle.elf_lint.specs.declared.rules.RuleOnHeaders.{RuleOnHeaders}
+use Rattle.elf_lint.specs.declared.rules.RuleOnHeaders.TheVariants as header_rules
+use Rattle.elf_lint.specs.declared.rules.RuleOnSections.{RuleOnSections}
+use Rattle.elf_lint.specs.declared.rules.RuleOnSections.TheVariants as section_rules
+use Rattle.elf_lint.specs.declared.rules.RuleOnLinks.{RuleOnLinks}
+use Rattle.elf_lint.specs.declared.rules.RuleOnLinks.TheVariants as link_rules
+use Rattle.elf_lint.specs.declared.rules.RuleOnSymbols.{RuleOnSymbols}
+use Rattle.elf_lint.specs.declared.rules.RuleOnSymbols.TheVariants as symbol_rules
 use Rattle.elf_lint.specs.declared.rules.LintRule.{LintRule}
 use Rattle.elf_lint.specs.declared.rules.LintRule.TheVariants as rules
 
@@ -62,40 +70,56 @@ all_rules =
 unfoldable pub lint_passes : ℕ
 lint_passes = length all_rules
 
+-- what a rule on headers finds
+abbrev pub finds_by_header : RuleOnHeaders → Rule
+finds_by_header header_rules.WrongHeaderSize = wrong_header_size
+finds_by_header header_rules.SegmentsOutsideTheFile = segments_outside_the_file
+finds_by_header header_rules.MissingNameTable = missing_name_table
+finds_by_header header_rules.UnreadableSectionNames = unreadable_section_names
+finds_by_header header_rules.OverlappingParts = overlapping_parts
+finds_by_header header_rules.SegmentsLargerThanMemory = segments_larger_than_memory
+
+-- what a rule on sections finds
+abbrev pub finds_by_section : RuleOnSections → Rule
+finds_by_section section_rules.Section0InUse = section_0_in_use
+finds_by_section section_rules.SectionsOutsideTheFile = sections_outside_the_file
+finds_by_section section_rules.RaggedSections = ragged_sections
+finds_by_section section_rules.OddAlignments = odd_alignments
+finds_by_section section_rules.UnalignedAddresses = unaligned_addresses
+finds_by_section section_rules.LinksToNoSection = links_to_no_section
+finds_by_section section_rules.InfosOfNoSection = infos_of_no_section
+finds_by_section section_rules.WrongEntrySizes = wrong_entry_sizes
+finds_by_section section_rules.UnallocatedThreadStorage = unallocated_thread_storage
+
+-- what a rule on links finds
+abbrev pub finds_by_link : RuleOnLinks → Rule
+finds_by_link link_rules.TablesWithoutFirstNul = tables_without_first_nul
+finds_by_link link_rules.TablesWithoutLastNul = tables_without_last_nul
+finds_by_link link_rules.SymbolsWithoutStrings = symbols_without_strings
+finds_by_link link_rules.RelocationsWithoutSymbols = relocations_without_symbols
+finds_by_link link_rules.HashesWithoutSymbols = hashes_without_symbols
+finds_by_link link_rules.DynamicWithoutStrings = dynamic_without_strings
+finds_by_link link_rules.DynamicWithoutEnd = dynamic_without_end
+finds_by_link link_rules.BadNotes = bad_notes
+finds_by_link link_rules.BadVersions = bad_versions
+
+-- what a rule on symbols finds
+abbrev pub finds_by_symbol : RuleOnSymbols → Rule
+finds_by_symbol symbol_rules.Symbol0InUse = symbol_0_in_use
+finds_by_symbol symbol_rules.UnreadableSymbolNames = unreadable_symbol_names
+finds_by_symbol symbol_rules.LocalSymbolsAmongTheOthers = local_symbols_among_the_others
+finds_by_symbol symbol_rules.OtherSymbolsAmongTheLocal = other_symbols_among_the_local
+finds_by_symbol symbol_rules.SymbolsOfNoSection = symbols_of_no_section
+finds_by_symbol symbol_rules.RelocationsByNoSymbol = relocations_by_no_symbol
+finds_by_symbol symbol_rules.HashesNotWhole = hashes_not_whole
+finds_by_symbol symbol_rules.GnuHashesNotWhole = gnu_hashes_not_whole
+
 -- what a rule finds
 abbrev pub finds : LintRule → Rule
-finds rules.WrongHeaderSize = wrong_header_size
-finds rules.SegmentsOutsideTheFile = segments_outside_the_file
-finds rules.MissingNameTable = missing_name_table
-finds rules.Section0InUse = section_0_in_use
-finds rules.UnreadableSectionNames = unreadable_section_names
-finds rules.SectionsOutsideTheFile = sections_outside_the_file
-finds rules.RaggedSections = ragged_sections
-finds rules.OddAlignments = odd_alignments
-finds rules.UnalignedAddresses = unaligned_addresses
-finds rules.LinksToNoSection = links_to_no_section
-finds rules.InfosOfNoSection = infos_of_no_section
-finds rules.WrongEntrySizes = wrong_entry_sizes
-finds rules.TablesWithoutFirstNul = tables_without_first_nul
-finds rules.TablesWithoutLastNul = tables_without_last_nul
-finds rules.SymbolsWithoutStrings = symbols_without_strings
-finds rules.RelocationsWithoutSymbols = relocations_without_symbols
-finds rules.HashesWithoutSymbols = hashes_without_symbols
-finds rules.DynamicWithoutStrings = dynamic_without_strings
-finds rules.UnallocatedThreadStorage = unallocated_thread_storage
-finds rules.OverlappingParts = overlapping_parts
-finds rules.Symbol0InUse = symbol_0_in_use
-finds rules.UnreadableSymbolNames = unreadable_symbol_names
-finds rules.LocalSymbolsAmongTheOthers = local_symbols_among_the_others
-finds rules.OtherSymbolsAmongTheLocal = other_symbols_among_the_local
-finds rules.SymbolsOfNoSection = symbols_of_no_section
-finds rules.SegmentsLargerThanMemory = segments_larger_than_memory
-finds rules.RelocationsByNoSymbol = relocations_by_no_symbol
-finds rules.DynamicWithoutEnd = dynamic_without_end
-finds rules.BadNotes = bad_notes
-finds rules.BadVersions = bad_versions
-finds rules.HashesNotWhole = hashes_not_whole
-finds rules.GnuHashesNotWhole = gnu_hashes_not_whole
+finds (rules.Header rule) = finds_by_header rule
+finds (rules.Section rule) = finds_by_section rule
+finds (rules.Link rule) = finds_by_link rule
+finds (rules.Symbol rule) = finds_by_symbol rule
 
 -- ---- Findings
 

@@ -2,7 +2,7 @@
 
 ghost use Rattle.std.specs.Prelude.{length};
 ghost use Rattle.std.specs.List.{flat_map};
-ghost use Rattle.elf_lint.specs.Rules.{finds, findings, lint_passes};
+ghost use Rattle.elf_lint.specs.Rules.{finds, finds_by_header, finds_by_section, finds_by_link, finds_by_symbol, findings, lint_passes};
 ghost use Rattle.elf_lint_findings.specs.Steps.{FindsOver};
 
 use elf_lint_hashes::{gnu_hashes_not_whole, hashes_not_whole};
@@ -26,19 +26,28 @@ use elf_outside::{Sink, Source};
 use symbol_lookup::prelude::Elf;
 use tool_output::{FileName, Outputs, Stop};
 
-/// A rule.
+/// A rule on the headers and on the parts of the file.
 #[derive(Clone, Copy)]
-pub enum LintRule {
+pub enum RuleOnHeaders {
     /// 1: the size of the ELF header.
     WrongHeaderSize,
     /// 2: segments that pass the end of the file.
     SegmentsOutsideTheFile,
     /// 3: the table of the names of sections.
     MissingNameTable,
-    /// 4: the fields of section 0.
-    Section0InUse,
     /// 5: the names of sections.
     UnreadableSectionNames,
+    /// 20: parts of the file that overlap.
+    OverlappingParts,
+    /// 26: segments with more bytes in the file than in memory.
+    SegmentsLargerThanMemory,
+}
+
+/// A rule on the headers of sections.
+#[derive(Clone, Copy)]
+pub enum RuleOnSections {
+    /// 4: the fields of section 0.
+    Section0InUse,
     /// 6: sections that pass the end of the file.
     SectionsOutsideTheFile,
     /// 7: sizes that are no whole items.
@@ -53,6 +62,13 @@ pub enum LintRule {
     InfosOfNoSection,
     /// 12: entry sizes that are not those of the items.
     WrongEntrySizes,
+    /// 19: thread-local storage that is not allocated.
+    UnallocatedThreadStorage,
+}
+
+/// A rule on tables and on what they link to.
+#[derive(Clone, Copy)]
+pub enum RuleOnLinks {
     /// 13: the first bytes of string tables.
     TablesWithoutFirstNul,
     /// 14: the last bytes of string tables.
@@ -65,10 +81,17 @@ pub enum LintRule {
     HashesWithoutSymbols,
     /// 18: links of dynamic sections.
     DynamicWithoutStrings,
-    /// 19: thread-local storage that is not allocated.
-    UnallocatedThreadStorage,
-    /// 20: parts of the file that overlap.
-    OverlappingParts,
+    /// 28: dynamic sections without an end.
+    DynamicWithoutEnd,
+    /// 29: chains of notes.
+    BadNotes,
+    /// 30: chains of version definitions and needs.
+    BadVersions,
+}
+
+/// A rule on symbols, and on what names or finds them.
+#[derive(Clone, Copy)]
+pub enum RuleOnSymbols {
     /// 21: the fields of symbol 0.
     Symbol0InUse,
     /// 22: the names of symbols.
@@ -79,57 +102,154 @@ pub enum LintRule {
     OtherSymbolsAmongTheLocal,
     /// 25: sections of symbols that are not there.
     SymbolsOfNoSection,
-    /// 26: segments with more bytes in the file than in memory.
-    SegmentsLargerThanMemory,
     /// 27: symbols of relocations that are not there.
     RelocationsByNoSymbol,
-    /// 28: dynamic sections without an end.
-    DynamicWithoutEnd,
-    /// 29: chains of notes.
-    BadNotes,
-    /// 30: chains of version definitions and needs.
-    BadVersions,
     /// 31: hash sections.
     HashesNotWhole,
     /// 32: GNU's hash sections.
     GnuHashesNotWhole,
 }
 
+/// A rule.
+#[derive(Clone, Copy)]
+pub enum LintRule {
+    /// One on headers.
+    Header(RuleOnHeaders),
+    /// One on sections.
+    Section(RuleOnSections),
+    /// One on links.
+    Link(RuleOnLinks),
+    /// One on symbols.
+    Symbol(RuleOnSymbols),
+}
+
 /// All rules, in their order.
 const RULES: [LintRule; 32] = [
-    LintRule::WrongHeaderSize,
-    LintRule::SegmentsOutsideTheFile,
-    LintRule::MissingNameTable,
-    LintRule::Section0InUse,
-    LintRule::UnreadableSectionNames,
-    LintRule::SectionsOutsideTheFile,
-    LintRule::RaggedSections,
-    LintRule::OddAlignments,
-    LintRule::UnalignedAddresses,
-    LintRule::LinksToNoSection,
-    LintRule::InfosOfNoSection,
-    LintRule::WrongEntrySizes,
-    LintRule::TablesWithoutFirstNul,
-    LintRule::TablesWithoutLastNul,
-    LintRule::SymbolsWithoutStrings,
-    LintRule::RelocationsWithoutSymbols,
-    LintRule::HashesWithoutSymbols,
-    LintRule::DynamicWithoutStrings,
-    LintRule::UnallocatedThreadStorage,
-    LintRule::OverlappingParts,
-    LintRule::Symbol0InUse,
-    LintRule::UnreadableSymbolNames,
-    LintRule::LocalSymbolsAmongTheOthers,
-    LintRule::OtherSymbolsAmongTheLocal,
-    LintRule::SymbolsOfNoSection,
-    LintRule::SegmentsLargerThanMemory,
-    LintRule::RelocationsByNoSymbol,
-    LintRule::DynamicWithoutEnd,
-    LintRule::BadNotes,
-    LintRule::BadVersions,
-    LintRule::HashesNotWhole,
-    LintRule::GnuHashesNotWhole,
+    LintRule::Header(RuleOnHeaders::WrongHeaderSize),
+    LintRule::Header(RuleOnHeaders::SegmentsOutsideTheFile),
+    LintRule::Header(RuleOnHeaders::MissingNameTable),
+    LintRule::Section(RuleOnSections::Section0InUse),
+    LintRule::Header(RuleOnHeaders::UnreadableSectionNames),
+    LintRule::Section(RuleOnSections::SectionsOutsideTheFile),
+    LintRule::Section(RuleOnSections::RaggedSections),
+    LintRule::Section(RuleOnSections::OddAlignments),
+    LintRule::Section(RuleOnSections::UnalignedAddresses),
+    LintRule::Section(RuleOnSections::LinksToNoSection),
+    LintRule::Section(RuleOnSections::InfosOfNoSection),
+    LintRule::Section(RuleOnSections::WrongEntrySizes),
+    LintRule::Link(RuleOnLinks::TablesWithoutFirstNul),
+    LintRule::Link(RuleOnLinks::TablesWithoutLastNul),
+    LintRule::Link(RuleOnLinks::SymbolsWithoutStrings),
+    LintRule::Link(RuleOnLinks::RelocationsWithoutSymbols),
+    LintRule::Link(RuleOnLinks::HashesWithoutSymbols),
+    LintRule::Link(RuleOnLinks::DynamicWithoutStrings),
+    LintRule::Section(RuleOnSections::UnallocatedThreadStorage),
+    LintRule::Header(RuleOnHeaders::OverlappingParts),
+    LintRule::Symbol(RuleOnSymbols::Symbol0InUse),
+    LintRule::Symbol(RuleOnSymbols::UnreadableSymbolNames),
+    LintRule::Symbol(RuleOnSymbols::LocalSymbolsAmongTheOthers),
+    LintRule::Symbol(RuleOnSymbols::OtherSymbolsAmongTheLocal),
+    LintRule::Symbol(RuleOnSymbols::SymbolsOfNoSection),
+    LintRule::Header(RuleOnHeaders::SegmentsLargerThanMemory),
+    LintRule::Symbol(RuleOnSymbols::RelocationsByNoSymbol),
+    LintRule::Link(RuleOnLinks::DynamicWithoutEnd),
+    LintRule::Link(RuleOnLinks::BadNotes),
+    LintRule::Link(RuleOnLinks::BadVersions),
+    LintRule::Symbol(RuleOnSymbols::HashesNotWhole),
+    LintRule::Symbol(RuleOnSymbols::GnuHashesNotWhole),
 ];
+
+/// Says what a rule on headers finds. It goes over the sections at most once.
+fn look_by_header_rule<S: Source, O: Sink, E: Sink>(
+    rule: RuleOnHeaders,
+    name: &FileName<'_>,
+    elf: &mut Elf<S>,
+    outputs: &mut Outputs<'_, O, E>,
+) -> Result<bool, Stop>
+    ensures { FindsOver S.Source O.Sink E.Sink 1 (finds_by_header rule) name.now
+        result elf.old elf.new outputs.old outputs.new }
+{
+    match rule {
+        RuleOnHeaders::WrongHeaderSize => wrong_header_size(name, elf, outputs),
+        RuleOnHeaders::SegmentsOutsideTheFile => segments_outside_the_file(name, elf, outputs),
+        RuleOnHeaders::MissingNameTable => missing_name_table(name, elf, outputs),
+        RuleOnHeaders::UnreadableSectionNames => unreadable_section_names(name, elf, outputs),
+        RuleOnHeaders::OverlappingParts => overlapping_parts(name, elf, outputs),
+        RuleOnHeaders::SegmentsLargerThanMemory => segments_larger_than_memory(name, elf, outputs),
+    }
+}
+
+/// Says what a rule on sections finds. It goes over them at most once.
+fn look_by_section_rule<S: Source, O: Sink, E: Sink>(
+    rule: RuleOnSections,
+    name: &FileName<'_>,
+    elf: &mut Elf<S>,
+    outputs: &mut Outputs<'_, O, E>,
+) -> Result<bool, Stop>
+    ensures { FindsOver S.Source O.Sink E.Sink 1 (finds_by_section rule) name.now
+        result elf.old elf.new outputs.old outputs.new }
+{
+    match rule {
+        RuleOnSections::Section0InUse => section_0_in_use(name, elf, outputs),
+        RuleOnSections::SectionsOutsideTheFile => sections_outside_the_file(name, elf, outputs),
+        RuleOnSections::RaggedSections => ragged_sections(name, elf, outputs),
+        RuleOnSections::OddAlignments => odd_alignments(name, elf, outputs),
+        RuleOnSections::UnalignedAddresses => unaligned_addresses(name, elf, outputs),
+        RuleOnSections::LinksToNoSection => links_to_no_section(name, elf, outputs),
+        RuleOnSections::InfosOfNoSection => infos_of_no_section(name, elf, outputs),
+        RuleOnSections::WrongEntrySizes => wrong_entry_sizes(name, elf, outputs),
+        RuleOnSections::UnallocatedThreadStorage => unallocated_thread_storage(name, elf, outputs),
+    }
+}
+
+/// Says what a rule on links finds. It goes over the sections at most once.
+fn look_by_link_rule<S: Source, O: Sink, E: Sink>(
+    rule: RuleOnLinks,
+    name: &FileName<'_>,
+    elf: &mut Elf<S>,
+    outputs: &mut Outputs<'_, O, E>,
+) -> Result<bool, Stop>
+    ensures { FindsOver S.Source O.Sink E.Sink 1 (finds_by_link rule) name.now
+        result elf.old elf.new outputs.old outputs.new }
+{
+    match rule {
+        RuleOnLinks::TablesWithoutFirstNul => tables_without_first_nul(name, elf, outputs),
+        RuleOnLinks::TablesWithoutLastNul => tables_without_last_nul(name, elf, outputs),
+        RuleOnLinks::SymbolsWithoutStrings => symbols_without_strings(name, elf, outputs),
+        RuleOnLinks::RelocationsWithoutSymbols => relocations_without_symbols(name, elf, outputs),
+        RuleOnLinks::HashesWithoutSymbols => hashes_without_symbols(name, elf, outputs),
+        RuleOnLinks::DynamicWithoutStrings => dynamic_without_strings(name, elf, outputs),
+        RuleOnLinks::DynamicWithoutEnd => dynamic_without_end(name, elf, outputs),
+        RuleOnLinks::BadNotes => bad_notes(name, elf, outputs),
+        RuleOnLinks::BadVersions => bad_versions(name, elf, outputs),
+    }
+}
+
+/// Says what a rule on symbols finds. It goes over the sections at most once.
+fn look_by_symbol_rule<S: Source, O: Sink, E: Sink>(
+    rule: RuleOnSymbols,
+    name: &FileName<'_>,
+    elf: &mut Elf<S>,
+    outputs: &mut Outputs<'_, O, E>,
+) -> Result<bool, Stop>
+    ensures { FindsOver S.Source O.Sink E.Sink 1 (finds_by_symbol rule) name.now
+        result elf.old elf.new outputs.old outputs.new }
+{
+    match rule {
+        RuleOnSymbols::Symbol0InUse => symbol_0_in_use(name, elf, outputs),
+        RuleOnSymbols::UnreadableSymbolNames => unreadable_symbol_names(name, elf, outputs),
+        RuleOnSymbols::LocalSymbolsAmongTheOthers => {
+            local_symbols_among_the_others(name, elf, outputs)
+        }
+        RuleOnSymbols::OtherSymbolsAmongTheLocal => {
+            other_symbols_among_the_local(name, elf, outputs)
+        }
+        RuleOnSymbols::SymbolsOfNoSection => symbols_of_no_section(name, elf, outputs),
+        RuleOnSymbols::RelocationsByNoSymbol => relocations_by_no_symbol(name, elf, outputs),
+        RuleOnSymbols::HashesNotWhole => hashes_not_whole(name, elf, outputs),
+        RuleOnSymbols::GnuHashesNotWhole => gnu_hashes_not_whole(name, elf, outputs),
+    }
+}
 
 /// Says what a rule finds. It goes over the sections at most once.
 fn look_by<S: Source, O: Sink, E: Sink>(
@@ -142,38 +262,10 @@ fn look_by<S: Source, O: Sink, E: Sink>(
         result elf.old elf.new outputs.old outputs.new }
 {
     match rule {
-        LintRule::WrongHeaderSize => wrong_header_size(name, elf, outputs),
-        LintRule::SegmentsOutsideTheFile => segments_outside_the_file(name, elf, outputs),
-        LintRule::MissingNameTable => missing_name_table(name, elf, outputs),
-        LintRule::Section0InUse => section_0_in_use(name, elf, outputs),
-        LintRule::UnreadableSectionNames => unreadable_section_names(name, elf, outputs),
-        LintRule::SectionsOutsideTheFile => sections_outside_the_file(name, elf, outputs),
-        LintRule::RaggedSections => ragged_sections(name, elf, outputs),
-        LintRule::OddAlignments => odd_alignments(name, elf, outputs),
-        LintRule::UnalignedAddresses => unaligned_addresses(name, elf, outputs),
-        LintRule::LinksToNoSection => links_to_no_section(name, elf, outputs),
-        LintRule::InfosOfNoSection => infos_of_no_section(name, elf, outputs),
-        LintRule::WrongEntrySizes => wrong_entry_sizes(name, elf, outputs),
-        LintRule::TablesWithoutFirstNul => tables_without_first_nul(name, elf, outputs),
-        LintRule::TablesWithoutLastNul => tables_without_last_nul(name, elf, outputs),
-        LintRule::SymbolsWithoutStrings => symbols_without_strings(name, elf, outputs),
-        LintRule::RelocationsWithoutSymbols => relocations_without_symbols(name, elf, outputs),
-        LintRule::HashesWithoutSymbols => hashes_without_symbols(name, elf, outputs),
-        LintRule::DynamicWithoutStrings => dynamic_without_strings(name, elf, outputs),
-        LintRule::UnallocatedThreadStorage => unallocated_thread_storage(name, elf, outputs),
-        LintRule::OverlappingParts => overlapping_parts(name, elf, outputs),
-        LintRule::Symbol0InUse => symbol_0_in_use(name, elf, outputs),
-        LintRule::UnreadableSymbolNames => unreadable_symbol_names(name, elf, outputs),
-        LintRule::LocalSymbolsAmongTheOthers => local_symbols_among_the_others(name, elf, outputs),
-        LintRule::OtherSymbolsAmongTheLocal => other_symbols_among_the_local(name, elf, outputs),
-        LintRule::SymbolsOfNoSection => symbols_of_no_section(name, elf, outputs),
-        LintRule::SegmentsLargerThanMemory => segments_larger_than_memory(name, elf, outputs),
-        LintRule::RelocationsByNoSymbol => relocations_by_no_symbol(name, elf, outputs),
-        LintRule::DynamicWithoutEnd => dynamic_without_end(name, elf, outputs),
-        LintRule::BadNotes => bad_notes(name, elf, outputs),
-        LintRule::BadVersions => bad_versions(name, elf, outputs),
-        LintRule::HashesNotWhole => hashes_not_whole(name, elf, outputs),
-        LintRule::GnuHashesNotWhole => gnu_hashes_not_whole(name, elf, outputs),
+        LintRule::Header(rule) => look_by_header_rule(rule, name, elf, outputs),
+        LintRule::Section(rule) => look_by_section_rule(rule, name, elf, outputs),
+        LintRule::Link(rule) => look_by_link_rule(rule, name, elf, outputs),
+        LintRule::Symbol(rule) => look_by_symbol_rule(rule, name, elf, outputs),
     }
 }
 

@@ -1,6 +1,6 @@
 use Rattle.std.proofs.Common.{arith}
 use Rattle.elf_lint_findings.proofs.tool_objects.ElfSteps.{elf_over}
-use Rattle.elf_lint.proofs.rules.look_by.Goals as goal
+use Rattle.elf_lint.proofs.rules.look_by_header_rule.Goals as goal
 
 -- the rules that do not go over the sections
 
