@@ -1,6 +1,7 @@
 //! The command: a file is made of the image, and then told of.
 
 ghost use Rattle.std.specs.Prelude.{◌≡◌, ◌≤◌, [], ◌∷◌, IsTrue};
+ghost use Rattle.elf_calls_generate.specs.Stages.{StandsFor};
 ghost use Rattle.elf_object.specs.Image.{image};
 ghost use Rattle.rebuild_model.specs.Generated.{generated_and_shifted};
 ghost use Rattle.tool_output.specs.Files.{LeavesFiles, LeavesFilesBy};
@@ -12,12 +13,34 @@ ghost use Rattle.elfkit_outcomes.specs.Selftest.{selftest_outcome};
 
 use crate::making::make;
 use crate::telling::Told;
-use elf_outside::{Files, Sink};
+use elf_calls_generate::prelude::Elf;
+use elf_outside::{Files, NoSource, Sink};
 use law_files::commands::laws::selftest_law;
 use std::alloc::Global;
 use tool_files::{edit_file, write_image};
 use tool_output::{Outputs, Stop};
 use tool_text::Text;
+
+/// Writes the self test's object, which was made, to a file. It reads nothing.
+fn write_shifted<F: Files, O: Sink, E: Sink>(
+    alloc: Global,
+    mut elf: Elf<NoSource>,
+    out: &str,
+    n: u32,
+    files: &mut F,
+    outputs: &mut Outputs<'_, O, E>,
+) -> Result<bool, Stop>
+    requires bounded { (1 ≤ n) × (n ≤ 60000) }
+    requires made { StandsFor (generated_and_shifted n) elf }
+    ensures does { IsTrue (F.tells files.old) → Does F.Files O.Sink E.Sink refused_status
+        (outcome_with no_report (made_file out.now (image (generated_and_shifted n)) ∷ []))
+        result files.old files.new outputs.old outputs.new }
+    ensures leaves { LeavesFilesBy F.Files O.Sink E.Sink ⊥
+        result files.old files.new outputs.old outputs.new }
+{
+    selftest_law();
+    write_image(alloc, &mut elf, out, files, outputs)
+}
 
 /// Makes the file of the self test's object. It reads nothing.
 fn write_made<F: Files, O: Sink, E: Sink>(
@@ -34,9 +57,8 @@ fn write_made<F: Files, O: Sink, E: Sink>(
     ensures leaves { LeavesFilesBy F.Files O.Sink E.Sink ⊥
         result files.old files.new outputs.old outputs.new }
 {
-    selftest_law();
     match make(alloc, n) {
-        Ok(mut elf) => write_image(alloc, &mut elf, out, files, outputs),
+        Ok(elf) => write_shifted(alloc, elf, out, n, files, outputs),
         Err(e) => Err(Stop::want_of(e)),
     }
 }
