@@ -52,17 +52,37 @@ lent_passed : (w : Wants) (refusal : Option ElfError) → Answers true w (Ok (tt
 lent_passed w None came = refl
 lent_passed w (Some e) came = cc
 
-refused_answers : {A : Type 0} (f : A → Answer) (w : Wants) (e : ElfError) (refusal : Option ElfError) (v : A) → Answers {A = Unit {0}} true w (Err e) (answered refusal (tt {0}))
-    → AnswersRead true at_any_step (all_early (result_map f (answered refusal v))) (Err e) (result_map f (answered refusal v))
-refused_answers f w Memory refusal v came = (refl, refl)
-refused_answers f w Read refusal v came = (refl, refl)
-refused_answers f w e (Some c) v came = let same : c ≡ e = cc in inl (ap Some same, ap Err same)
-refused_answers f w e None v came = no_value e came
-  where
-    no_value : (e : ElfError) → Answers {A = Unit {0}} true w (Err e) (Ok (tt {0})) → AnswersRead true at_any_step (all_early (Ok (f v))) (Err e) (Ok (f v))
-    no_value Memory came = (refl, refl)
-    no_value Read came = (refl, refl)
-    no_value e came = cc
+-- an error where none is stated is want of memory or a read that failed
+module _ {A : Type 0} (w : Wants) (v : A) where
+  no_error : (e : ElfError) → ◌≡◌ {A = Result (Unit {0}) ElfError} (Ok (tt {0})) (Err e) → ⊥
+  no_error e is = cc
+
+  none_answers : (e : ElfError) → Answers {A = Unit {0}} true w (Err e) (Ok (tt {0}))
+      → AnswersRead true at_any_step (all_early (Ok v)) (Err e) (Ok v)
+  none_answers Memory came = (refl, refl)
+  none_answers Read came = (refl, refl)
+  none_answers e came = absurd (no_error e came)
+
+-- and else the stated one
+module _ (A : Type 0) (w : Wants) (c : ElfError) where
+  same_error : (e : ElfError) → ◌≡◌ {A = Result (Unit {0}) ElfError} (Err c) (Err e)
+      → (◌≡◌ {A = Option ElfError} (Some c) (Some e))
+      × (◌≡◌ {A = Result A ElfError} (Err c) (Err e))
+  same_error e is = let same : c ≡ e = cc in (ap Some same, ap Err same)
+
+  error_answers : (e : ElfError) → Answers {A = Unit {0}} true w (Err e) (Err c)
+      → AnswersRead {A = A} true at_any_step (all_early {A = A} (Err c)) (Err e) (Err c)
+  error_answers Memory came = (refl, refl)
+  error_answers Read came = (refl, refl)
+  error_answers e came = inl (same_error e came)
+
+refused_answers : {A : Type 0} (f : A → Answer) (w : Wants) (e : ElfError)
+    (refusal : Option ElfError) (v : A)
+    → Answers {A = Unit {0}} true w (Err e) (answered refusal (tt {0}))
+    → AnswersRead true at_any_step (all_early (result_map f (answered refusal v))) (Err e)
+    (result_map f (answered refusal v))
+refused_answers f w e None v came = none_answers w (f v) e came
+refused_answers f w e (Some c) v came = error_answers Answer w c e came
 
 -- a call that adds, to a piece of a kind that is known
 abbrev pub Adds : {S : Type 0} → Ghosts S → Option DataId → DataId → ℕ → Result Answer ElfError → State S → State S → Type 0
