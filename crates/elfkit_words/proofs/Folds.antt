@@ -1,10 +1,10 @@
 -- What the folds over options say, step by step.
-use Rattle.std.proofs.Common.{◌-◌, slice_get, ◌≡◌, ◌++◌, ◌+◌, ◌<◌, List, [], ◌∷◌, ℕ, length, take, get_or, Option, Some, None, option_to_list, MatchOption, refl, sym, ap, ◌∙◌, arith}
+use Rattle.std.proofs.Common.{◌-◌, slice_get, ◌≡◌, ◌++◌, ◌+◌, ◌<◌, List, [], ◌∷◌, ℕ, length, take, get_or, Option, Some, None, option_to_list, refl, sym, ap, ◌∙◌, arith}
 use Rattle.std.specs.List.{last_or, filter_map, cons_option}
-use Rattle.std.proofs.lemmas.List.{nil_from_length, take_more}
+use Rattle.std.proofs.lemmas.List.{take_more}
 use Rattle.std.proofs.lemmas.List.Elements.{filter_map-append}
 use Rattle.elfkit_words.specs.declared.splitting.CommandOption.{CommandOption}
-use Rattle.tool_text.specs.Arguments.{last, only_one}
+use Rattle.tool_text.specs.Arguments.{last}
 use Rattle.elfkit_words.specs.Reading.{option_arguments, option_argument_of}
 
 one_option_argument : (a : Option (List ℕ)) → cons_option a [] ≡ option_to_list a

@@ -6,3 +6,4 @@ mod Numerals
 mod OneSplit
 mod OptionRules
 mod Splits
+mod ValuesRead

@@ -2,6 +2,8 @@
 -- definitions, chapter 12), where options come first and may be grouped behind one dash. The one
 -- long option is `--help` of the GNU Coding Standards (section 4.8).
 use Rattle.std.specs.Prelude.{◌≡◌, ◌++◌, ◌&&◌, ◌==◌, List, [], ◌∷◌, ℕ, Bool, true, false, length, drop, nat_le, slice_index, bytes_eq, Option, Some, None, option_map, option_and_then, Result, Ok, Err, codes, if◌then◌else◌}
+use Rattle.std.specs.Borrow.{Bor}
+use Rattle.std.specs.Option.{option_copied}
 use Rattle.std.specs.Str.{byte}
 use Rattle.elfkit_words.specs.declared.faults.Fault.{Fault}
 use Rattle.elfkit_words.specs.declared.faults.Fault.TheVariants.{Memory, Words}
@@ -15,6 +17,12 @@ abbrev pub FollowsWords : {X : Type 0} → Result X Fault → Option X → Type 
 FollowsWords (Ok x) stated = stated ≡ Some x
 FollowsWords (Err Words) stated = stated ≡ None
 FollowsWords (Err Memory) stated = Unit {0}
+
+-- new is old with the value of a word at its end, unless the word has none
+abbrev pub AddsValue : {X Y : Type 0} → Option X → List X → List X → Result Y Fault → Type 0
+AddsValue value old new (Ok y) = option_map (λ x. old ++ x ∷ []) value ≡ Some new
+AddsValue value old new (Err Words) = value ≡ None
+AddsValue value old new (Err Memory) = Unit {0}
 
 -- An option word has at least two characters and begins with a dash.
 abbrev pub is_option_word : List ℕ → Bool
@@ -92,3 +100,30 @@ AddsGroup usage letters old new (Ok waiting) =
     group_after old (group_of usage letters) ≡ Some (record { options = new; waiting = waiting })
 AddsGroup usage letters old new (Err Words) = group_of usage letters ≡ None
 AddsGroup usage letters old new (Err Memory) = Unit {0}
+
+-- what an option word says before words, by its group of letters
+abbrev pub split_by_group : Usage → Option Group → List (List ℕ) → Option Split
+split_by_group usage group words =
+    option_and_then
+    (λ (g : Group). split_after g.options (split_of usage g.waiting words))
+    group
+
+-- An option word was read: behind the options that there are now, the words that are left say the
+-- same.
+abbrev pub GoesOn : Usage → Option Split → List CommandOption → Result (Bor (List (List ℕ))) Fault
+    → Type 0
+GoesOn usage whole options (Ok rest) = split_after options (split_of usage None rest.now) ≡ whole
+GoesOn usage whole options (Err Words) = whole ≡ None
+GoesOn usage whole options (Err Memory) = Unit {0}
+
+-- the split into options and operands, or into options and `--help`
+abbrev pub split_into : List CommandOption → Option (List (List ℕ)) → Split
+split_into options (Some words) = record { options = options; operands = words; asks_help = false }
+split_into options None = record { options = options; operands = []; asks_help = true }
+
+-- All options were read: the operands are left, or help is asked for.
+abbrev pub EndsOptions : Option Split → List CommandOption
+    → Result (Option (Bor (List (List ℕ)))) Fault → Type 0
+EndsOptions whole options (Ok rest) = whole ≡ Some (split_into options (option_copied rest))
+EndsOptions whole options (Err Words) = whole ≡ None
+EndsOptions whole options (Err Memory) = Unit {0}

@@ -1,7 +1,7 @@
 //! What the options say, one by one.
 
 ghost use Rattle.std.specs.Prelude.{◌≡◌, IfOk, IfErr, option_map};
-ghost use Rattle.elfkit_words.specs.Splitting.{FollowsWords};
+ghost use Rattle.elfkit_words.specs.Splitting.{FollowsWords, AddsValue};
 ghost use Rattle.elfkit_words.specs.Reading.{has_option, option_arguments, all_values};
 ghost use Rattle.tool_text.specs.Arguments.{last};
 ghost use Rattle.elfkit_words.specs.declared.faults.Fault.TheVariants.{Memory};
@@ -56,9 +56,32 @@ pub(crate) fn last_option_argument(
     Ok(words.into_last())
 }
 
+/// Appends the value of a word, which must have one.
+fn add_value<T: OptionArgument>(
+    alloc: Global,
+    values: &mut List<T>,
+    word: &str,
+) -> Result<(), Fault>
+    ensures { AddsValue (T.of_word word.now) values.old values.new result }
+{
+    let value = T::from_word(alloc, word)?;
+    values.push(value)?;
+    Ok(())
+}
+
+/// The values of words, in their order. Each must have one.
+fn values_of<T: OptionArgument>(alloc: Global, words: &[Text]) -> Result<List<T>, Fault>
+    ensures { FollowsWords result (all_values T.of_word words.now) }
+{
+    let mut values = List::new(alloc);
+    for word in words {
+        add_value(alloc, &mut values, word.as_str())?;
+    }
+    Ok(values)
+}
+
 /// The values of the option-arguments of an option, in the order of the arguments. Each must have
 /// one.
-#[tactic(auto, unfolding(crate::specs::Reading::all_values))]
 pub(crate) fn all_values<T: OptionArgument>(
     alloc: Global,
     options: &[CommandOption],
@@ -67,11 +90,7 @@ pub(crate) fn all_values<T: OptionArgument>(
     ensures { FollowsWords result (all_values T.of_word (option_arguments letter options.now)) }
 {
     let words = option_arguments(alloc, options, letter)?;
-    let mut values = List::new(alloc);
-    for word in words.as_slice() {
-        values.push(T::from_word(alloc, word.as_str())?)?;
-    }
-    Ok(values)
+    values_of(alloc, words.as_slice())
 }
 
 /// The value of the last option-argument of an option. Each of them must have one.

@@ -1,7 +1,9 @@
 //! The arguments after a command, as options and operands.
 
-ghost use Rattle.std.specs.Prelude.{◌≡◌, ◌≤◌, ◌<◌, None, length, drop};
-ghost use Rattle.elfkit_words.specs.Splitting.{FollowsWords, is_option_word, split_of, AddsGroup};
+ghost use Rattle.std.specs.Prelude.{◌≡◌, ◌≤◌, ◌<◌, ◌++◌, [], None, length, drop, unwrap_or, OnOk, IfOk, IfErr};
+ghost use Rattle.std.specs.Option.{option_copied};
+ghost use Rattle.elfkit_words.specs.Splitting.{FollowsWords, is_option_word, option_with, group_of, split_of, split_after, split_by_group, AddsGroup, GoesOn, EndsOptions};
+ghost use Rattle.elfkit_words.specs.declared.faults.Fault.TheVariants.{Memory};
 
 use crate::faults::Fault;
 use crate::usages::Usage;
@@ -34,40 +36,92 @@ pub(crate) fn split_words(alloc: Global, usage: Usage, words: &[Text]) -> Result
     ensures { FollowsWords result (split_of usage None words.now) }
 {
     let mut options = List::new(alloc);
-    let mut rest = words;
-    while let Some((word, after)) = rest.split_first() {
-        if !is_option_word(word.as_bytes()) {
-            break;
-        }
-        rest = after;
-        if word.as_str() == "--" {
-            break;
-        }
-        if word.as_str() == "--help" {
-            return Ok(Split {
-                options,
-                operands: Args::new(alloc),
-                asks_help: true,
-            });
-        }
-        if let Some(letter) = read_group(alloc, &mut options, usage, word.as_str())? {
-            let Some((option_argument, after)) = rest.split_first() else {
-                return Err(Fault::Words);
-            };
-            let option_argument = Some(Text::copy_of(alloc, option_argument.as_str())?);
-            options.push(CommandOption {
-                letter,
-                option_argument,
-            })?;
-            rest = after;
-        }
-    }
-    let operands = Args::copy_of(alloc, rest)?;
+    let rest = read_options(alloc, &mut options, usage, words)?;
+    let operands = copy_operands(alloc, rest)?;
     Ok(Split {
         options,
         operands,
-        asks_help: false,
+        asks_help: rest.is_none(),
     })
+}
+
+/// The operands, of which there are none where help is asked for.
+fn copy_operands(alloc: Global, rest: Option<&[Text]>) -> Result<Args, Fault>
+    ensures ok { IfOk result (λ a. a ≡ unwrap_or (option_copied rest.entry) []) }
+    ensures err { IfErr result (λ e. e ≡ Memory) }
+{
+    match rest {
+        Some(words) => Ok(Args::copy_of(alloc, words)?),
+        None => Ok(Args::new(alloc)),
+    }
+}
+
+/// Appends the options at the start of words. It gives the operands after them, or None where
+/// `--help` is where an option word is looked for.
+fn read_options<'a>(
+    alloc: Global,
+    options: &mut List<CommandOption>,
+    usage: Usage,
+    words: &'a [Text],
+) -> Result<Option<&'a [Text]>, Fault>
+    ensures { EndsOptions (split_after options.old (split_of usage None words.now))
+        options.new result }
+{
+    let mut rest = words;
+    while let Some((word, after)) = rest.split_first() {
+        if !is_option_word(word.as_bytes()) {
+            return Ok(Some(rest));
+        }
+        if word.as_str() == "--" {
+            return Ok(Some(after));
+        }
+        if word.as_str() == "--help" {
+            return Ok(None);
+        }
+        rest = read_option_word(alloc, options, usage, word.as_str(), after)?;
+    }
+    Ok(Some(rest))
+}
+
+/// Appends the options of an option word, which words follow. It gives those that are left.
+fn read_option_word<'a>(
+    alloc: Global,
+    options: &mut List<CommandOption>,
+    usage: Usage,
+    word: &str,
+    words: &'a [Text],
+) -> Result<&'a [Text], Fault>
+    ensures value { GoesOn usage (split_after options.old
+        (split_by_group usage (group_of usage (drop 1 word.now)) words.now)) options.new result }
+    ensures no_longer { IfOk result (λ rest. length rest.now ≤ length words.now) }
+{
+    let Some(letter) = read_group(alloc, options, usage, word)? else {
+        return Ok(words);
+    };
+    let Some((option_argument, rest)) = words.split_first() else {
+        return Err(Fault::Words);
+    };
+    push_option(alloc, options, letter, option_argument.as_str())?;
+    Ok(rest)
+}
+
+/// Appends an option with its option-argument.
+fn push_option(
+    alloc: Global,
+    options: &mut List<CommandOption>,
+    letter: u8,
+    option_argument: &str,
+) -> Result<(), Fault>
+    ensures ok { OnOk result
+        (options.new ≡ options.old ++ option_with letter option_argument.now) }
+    ensures err { IfErr result (λ e. e ≡ Memory) }
+{
+    let option_argument = Some(Text::copy_of(alloc, option_argument)?);
+    options.push(CommandOption {
+        letter,
+        option_argument,
+    })?;
+    Ok(())
 }
 
 /// Whether a word is an option word, where one may be.
@@ -94,11 +148,7 @@ fn read_group(
             if i + 1 == letters.len() {
                 return Ok(Some(letter));
             }
-            let option_argument = Some(Text::copy_of(alloc, &word[i + 1..])?);
-            options.push(CommandOption {
-                letter,
-                option_argument,
-            })?;
+            push_option(alloc, options, letter, &word[i + 1..])?;
             return Ok(None);
         }
         if !usage.stands_alone(letter) {

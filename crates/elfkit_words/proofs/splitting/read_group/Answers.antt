@@ -15,7 +15,7 @@ range_from-requires c =
 
 pub returns-then-takes_option_argument : goal.returns-then-takes_option_argument
 returns-then-takes_option_argument c =
-    option_argument_joined c.args.usage c.args.word.now c.loop-i.options c.loop-i.i _ _ (omega arith) (ap (λ w. get_or w c.loop-i.i 0) c.as_bytes-letters.ensures.value) c.loop-i.invariant c.in_ok-copy_of.field-0 _ (search rules) (omega arith) (search rules) c.in_ok-push.ensures.ok
+    option_argument_joined c.args.usage c.args.word.now c.loop-i.options c.loop-i.i _ _ (omega arith) (ap (λ w. get_or w c.loop-i.i 0) c.as_bytes-letters.ensures.value) c.loop-i.invariant _ _ (search rules) (omega arith) (search rules) c.in_ok-push_option.ensures.ok
 
 pub returns-then-not-stands_alone : goal.returns-then-not-stands_alone
 returns-then-not-stands_alone c =
@@ -23,7 +23,7 @@ returns-then-not-stands_alone c =
 
 pub loop-i-preserved : goal.loop-i-preserved
 loop-i-preserved c =
-    alone_taken c.args.usage c.args.word.now c.loop-i.options c.loop-i.i _ _ (omega arith) (ap (λ w. get_or w c.loop-i.i 0) c.as_bytes-letters.ensures.value) c.loop-i.invariant _ (search rules) (search rules) c.in_ok-push-2.ensures.ok
+    alone_taken c.args.usage c.args.word.now c.loop-i.options c.loop-i.i _ _ (omega arith) (ap (λ w. get_or w c.loop-i.i 0) c.as_bytes-letters.ensures.value) c.loop-i.invariant _ (search rules) (search rules) c.in_ok-push.ensures.ok
 
 pub returns : goal.returns
 returns c = group_ended c.args.usage c.args.word.now c.loop-i.options c.loop-i.i _ (omega arith) c.loop-i.invariant

@@ -1,8 +1,0 @@
-use Rattle.std.proofs.Common.{◌≡◌, ◌++◌, drop, option_map}
-use Rattle.elfkit_words.specs.Reading.{all_values, option_arguments}
-use Rattle.elfkit_words.proofs.option_arguments.all_values.Given as goal
-
--- the arguments that are left complete the values so far
-abbrev pub invariant-loop-word : goal.invariant-loop-word
-invariant-loop-word g l =
-    option_map (λ xs. l.values ++ xs) (all_values g.T.OptionArgument.of_word (drop l.word-index l.word-items)) ≡ all_values g.T.OptionArgument.of_word (option_arguments l.letter l.options)
