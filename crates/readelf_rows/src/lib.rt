@@ -5,6 +5,7 @@
 
 pub mod data;
 pub mod fields;
+pub mod fronts;
 pub mod links;
 
 pub use data::{SectionPart, each_plain, is_of_type, put_data_title};

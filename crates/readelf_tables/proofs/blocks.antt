@@ -1,2 +1,3 @@
 mod AtHandLemmas
 pub mod BlockLemmas
+mod LineLemmas

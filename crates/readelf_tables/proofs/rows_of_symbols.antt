@@ -1,4 +1,3 @@
 mod RowLemmas
-mod FrontLemmas
 mod LineLemmas
 mod NameLemmas

@@ -1,7 +1,6 @@
 //! The line of a symbol, and the rows of a table of symbols whose bytes are loaded: they are told
 //! from bytes alone.
 
-pub mod fronts;
 pub mod symbol_bytes;
 pub mod symbol_lines;
 pub mod usual_names;

@@ -47,6 +47,17 @@ unfoldable pub relocation_line : ℕ → Rel → Option ℤ → Option (List ℕ
 relocation_line i x addend name =
     relocation_start i x name ++ addend_text addend ++ codes "\n"
 
+-- what stands before the name of a symbol, and then the text with which that is opened
+unfoldable pub relocation_front : ℕ → Rel → List ℕ → List ℕ
+relocation_front i x opening =
+    row_start i ++ (hex_column (codes "offset") x.offset
+    ++ (decimal_column (codes "type") x.rtype
+    ++ (decimal_column (codes "sym") x.sym ++ opening)))
+
+-- what stands behind it, and before that the text with which it is closed
+unfoldable pub relocation_end : List ℕ → Option ℤ → List ℕ
+relocation_end closing addend = closing ++ (addend_text addend ++ codes "\n")
+
 -- a relocation without its addend
 abbrev pub without_addend : Rela → Rel
 without_addend x = record { offset = x.offset; sym = x.sym; rtype = x.rtype }

@@ -1,15 +1,8 @@
--- Texts that are written from their end into a buffer, and the text before the name of a symbol.
-use Rattle.std.specs.Prelude.{◌≡◌, ◌+◌, ◌++◌, ℕ, List, length, drop, Option, codes}
+-- The text before the name of a symbol.
+use Rattle.std.specs.Prelude.{◌++◌, ℕ, List, Option, codes}
 use Rattle.elf_types.specs.declared.records.Sym.{Sym}
 use Rattle.tool_objects.specs.gelf_view.declared.symbols.SymPlace.{SymPlace}
 use Rattle.readelf_tables.specs.RowsOfSymbols.SymbolLines.{symbol_start, symbol_names, place_text}
-
--- A text was written before the place `end`: it begins at `at`, and what stood from `end` on still
--- stands behind it.
-pub record Precedes (old new : List ℕ) (end at : ℕ) (text : List ℕ) : Type 0 where
-  pub place : at + length text ≡ end
-  pub long : length new ≡ length old
-  pub stands : drop at new ≡ text ++ drop end old
 
 -- what stands before the name of a symbol, and then the text with which that is opened
 unfoldable pub symbol_front : ℕ → Sym → Option SymPlace → List ℕ → List ℕ

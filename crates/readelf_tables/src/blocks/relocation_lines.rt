@@ -1,43 +1,131 @@
-//! The line of a relocation.
+//! The line of a relocation. What is before the name of its symbol is written into a buffer, from its
+//! end, and then put at once; so is what is after the name.
 
-ghost use Rattle.std.specs.Prelude.{◌≡◌, ◌++◌, OnOk, IfErr};
+ghost use Rattle.std.specs.Prelude.{◌≡◌, ◌++◌, ◌+◌, ◌≤◌, length, OnOk, IfErr};
 ghost use Rattle.std.specs.Option.{option_copied};
 ghost use Rattle.elf_types.specs.Writers.{WantsMemory};
-ghost use Rattle.readelf_tables.specs.Blocks.RelocationLines.{relocation_start, addend_text, relocation_line};
+ghost use Rattle.readelf_rows.specs.Fronts.{Precedes};
+ghost use Rattle.readelf_tables.specs.Blocks.RelocationLines.{relocation_front, relocation_end, addend_text, relocation_line};
 
-use elf_types::{ElfError, Octets, Rel, put_signed, put_text};
-use readelf_rows::{put_decimal_column, put_hex_column, put_row_start};
-use tool_objects::Bracketed;
+use elf_types::{ElfError, Octets, Rel, put_bytes};
+use readelf_rows::fronts::{
+    write_decimal_column, write_hex_column, write_row_start, write_signed, write_text,
+};
 use tool_output::Line;
 
-/// Appends `  I offset 0xO type T sym Y NAME`.
-#[tactic(auto, using(elf_types::proofs::Writers::kept), unfolding(crate::specs::Blocks::RelocationLines::relocation_start))]
-fn put_start(page: &mut Octets, i: u64, x: &Rel, name: Option<&[u8]>) -> Result<(), ElfError>
-    ensures ok { OnOk result
-        (page.new ≡ page.old ++ relocation_start i x.now (option_copied name.entry)) }
-    ensures err { IfErr result (WantsMemory page.old page.new) }
+/// What is before the name of a symbol takes at most so many bytes.
+const FRONT: usize = 112;
+
+/// What is after it takes at most so many.
+const END: usize = 48;
+
+/// Writes `  I offset 0xO type T sym Y` and the text with which the name is opened, so that they end
+/// with the buffer, and tells where they begin.
+#[tactic(auto, unfolding(crate::specs::Blocks::RelocationLines::relocation_front))]
+#[inline(always)]
+fn write_front(buffer: &mut [u8], i: u64, x: &Rel, opening: &str) -> usize
+    requires len { length buffer.old ≡ 112 }
+    requires short { length opening.now ≤ 8 }
+    ensures { Precedes buffer.old buffer.new 112 result (relocation_front i x.now opening.now) }
 {
-    put_row_start(page, i)?;
-    put_hex_column(page, "offset", x.offset)?;
-    put_decimal_column(page, "type", u64::from(x.rtype))?;
-    put_decimal_column(page, "sym", u64::from(x.sym))?;
-    put_text(page, " ")?;
-    Bracketed { name }.put(page)
+    let opened = write_text(buffer, FRONT, opening);
+    let symbol = write_decimal_column(buffer, opened, "sym", u64::from(x.sym));
+    let kind = write_decimal_column(buffer, symbol, "type", u64::from(x.rtype));
+    let offset = write_hex_column(buffer, kind, "offset", x.offset);
+    write_row_start(buffer, offset, i)
 }
 
-/// Appends ` addend A`, where there is one.
-#[tactic(auto, using(elf_types::proofs::Writers::kept), unfolding(crate::specs::Blocks::RelocationLines::addend_text))]
-fn put_addend(page: &mut Octets, addend: Option<i64>) -> Result<(), ElfError>
-    ensures ok { OnOk result (page.new ≡ page.old ++ addend_text addend) }
+/// Appends the same, by a buffer for it.
+#[tactic(auto, using(elf_types::proofs::Writers::kept))]
+#[inline(always)]
+fn put_front_by(
+    page: &mut Octets,
+    i: u64,
+    x: &Rel,
+    opening: &str,
+    buffer: &mut [u8],
+) -> Result<(), ElfError>
+    requires len { length buffer.old ≡ 112 }
+    requires short { length opening.now ≤ 8 }
+    ensures ok { OnOk result (page.new ≡ page.old ++ relocation_front i x.now opening.now) }
     ensures err { IfErr result (WantsMemory page.old page.new) }
 {
+    let at = write_front(buffer, i, x, opening);
+    put_bytes(page, &buffer[at..])
+}
+
+/// Appends what is before the name of a symbol, and the text with which that is opened.
+#[tactic(auto, using(elf_types::proofs::Writers::kept))]
+#[inline(always)]
+fn put_front(page: &mut Octets, i: u64, x: &Rel, opening: &str) -> Result<(), ElfError>
+    requires { length opening.now ≤ 8 }
+    ensures ok { OnOk result (page.new ≡ page.old ++ relocation_front i x.now opening.now) }
+    ensures err { IfErr result (WantsMemory page.old page.new) }
+{
+    let mut buffer = [0u8; FRONT];
+    put_front_by(page, i, x, opening, &mut buffer)
+}
+
+/// Writes ` addend A` before a place, where there is one.
+#[tactic(auto, unfolding(crate::specs::Blocks::RelocationLines::addend_text))]
+#[inline(always)]
+fn write_addend(buffer: &mut [u8], end: usize, addend: Option<i64>) -> usize
+    requires room { 29 ≤ end }
+    requires inside { end ≤ length buffer.old }
+    ensures wrote { Precedes buffer.old buffer.new end result (addend_text addend) }
+    ensures room { end ≤ result + 29 }
+{
     match addend {
-        None => Ok(()),
+        None => write_text(buffer, end, ""),
         Some(addend) => {
-            put_text(page, " addend ")?;
-            put_signed(page, addend)
+            let digits = write_signed(buffer, end, addend);
+            write_text(buffer, digits, " addend ")
         }
     }
+}
+
+/// Writes what is after the name of a symbol, after the text with which that is closed, so that it
+/// ends with the buffer, and tells where it begins.
+#[tactic(auto, unfolding(crate::specs::Blocks::RelocationLines::relocation_end))]
+#[inline(always)]
+fn write_end(buffer: &mut [u8], closing: &str, addend: Option<i64>) -> usize
+    requires len { length buffer.old ≡ 48 }
+    requires short { length closing.now ≤ 8 }
+    ensures { Precedes buffer.old buffer.new 48 result (relocation_end closing.now addend) }
+{
+    let newline = write_text(buffer, END, "\n");
+    let addend = write_addend(buffer, newline, addend);
+    write_text(buffer, addend, closing)
+}
+
+/// Appends the same, by a buffer for it.
+#[tactic(auto, using(elf_types::proofs::Writers::kept))]
+#[inline(always)]
+fn put_end_by(
+    page: &mut Octets,
+    closing: &str,
+    addend: Option<i64>,
+    buffer: &mut [u8],
+) -> Result<(), ElfError>
+    requires len { length buffer.old ≡ 48 }
+    requires short { length closing.now ≤ 8 }
+    ensures ok { OnOk result (page.new ≡ page.old ++ relocation_end closing.now addend) }
+    ensures err { IfErr result (WantsMemory page.old page.new) }
+{
+    let at = write_end(buffer, closing, addend);
+    put_bytes(page, &buffer[at..])
+}
+
+/// Appends what is after the name of a symbol, after the text with which that is closed.
+#[tactic(auto, using(elf_types::proofs::Writers::kept))]
+#[inline(always)]
+fn put_end(page: &mut Octets, closing: &str, addend: Option<i64>) -> Result<(), ElfError>
+    requires { length closing.now ≤ 8 }
+    ensures ok { OnOk result (page.new ≡ page.old ++ relocation_end closing.now addend) }
+    ensures err { IfErr result (WantsMemory page.old page.new) }
+{
+    let mut buffer = [0u8; END];
+    put_end_by(page, closing, addend, &mut buffer)
 }
 
 /// A relocation of a table, with its addend where it has one.
@@ -64,10 +152,18 @@ impl Line for RelocationLine<'_> {
     ghost text = { λ l. relocation_line l.entry.index l.entry.rel l.entry.addend
         (option_copied l.name) };
 
-    #[tactic(auto, using(elf_types::proofs::Writers::kept), unfolding(crate::specs::Blocks::RelocationLines::relocation_line))]
+    #[tactic(auto, using(elf_types::proofs::Writers::kept))]
     fn put(&self, page: &mut Octets) -> Result<(), ElfError> {
-        put_start(page, self.entry.index, &self.entry.rel, self.name)?;
-        put_addend(page, self.entry.addend)?;
-        put_text(page, "\n")
+        match self.name {
+            Some(name) => {
+                put_front(page, self.entry.index, &self.entry.rel, " [")?;
+                put_bytes(page, name)?;
+                put_end(page, "]", self.entry.addend)
+            }
+            None => {
+                put_front(page, self.entry.index, &self.entry.rel, " <none>")?;
+                put_end(page, "", self.entry.addend)
+            }
+        }
     }
 }

@@ -4,18 +4,19 @@
 ghost use Rattle.std.specs.Prelude.{◌≡◌, ◌+◌, ◌≤◌, ◌++◌, length, OnOk, IfErr};
 ghost use Rattle.std.specs.Option.{option_copied};
 ghost use Rattle.elf_types.specs.Writers.{WantsMemory};
-ghost use Rattle.readelf_tables.specs.RowsOfSymbols.Fronts.{Precedes, symbol_front};
+ghost use Rattle.readelf_rows.specs.Fronts.{Precedes};
+ghost use Rattle.readelf_tables.specs.RowsOfSymbols.Fronts.{symbol_front};
 ghost use Rattle.readelf_tables.specs.RowsOfSymbols.SymbolLines.{special_text, place_text, symbol_start, symbol_names, symbol_line};
 
-use crate::rows_of_symbols::fronts::{
-    write_decimal, write_decimal_column, write_hex, write_hex_column, write_name_column,
-    write_row_start, write_text,
-};
 use crate::rows_of_symbols::usual_names::usual_names;
 use elf_types::constants::{SHN_ABS, SHN_COMMON, SHN_UNDEF};
 use elf_types::{
     ElfError, Octets, Sym, bind, binding_name, put_bytes, put_text, stt, symbol_type_name, vis,
     visibility_name,
+};
+use readelf_rows::fronts::{
+    write_decimal, write_decimal_column, write_hex, write_hex_column, write_name_column,
+    write_row_start, write_text,
 };
 use tool_objects::prelude::SymPlace;
 use tool_output::Line;

@@ -3,8 +3,9 @@ use Rattle.std.specs.Prelude.{◌/◌, ◌%◌, codes}
 use Rattle.elf_types.specs.Names.{symbol_type_name_of, binding_name_of, visibility_name_of}
 use Rattle.readelf_rows.specs.Fields.{name_column}
 use Rattle.readelf_tables.specs.RowsOfSymbols.SymbolLines.{symbol_names}
-use Rattle.readelf_tables.proofs.rows_of_symbols.FrontLemmas.{precedes_then, precedes_as, three_texts}
-use Rattle.readelf_tables.proofs.rows_of_symbols.NameLemmas.{IsShort, type_short, binding_short, visibility_short, column_is}
+use Rattle.readelf_rows.proofs.FrontLemmas.{precedes_then, precedes_as, three_texts}
+use Rattle.readelf_rows.proofs.ShortNames.{IsShort}
+use Rattle.readelf_tables.proofs.rows_of_symbols.NameLemmas.{type_short, binding_short, visibility_short, column_is}
 use Rattle.readelf_tables.proofs.rows_of_symbols.symbol_lines.write_each_name.Goals as goal
 
 pub write_name_column-vis_at-requires-clause-named : goal.write_name_column-vis_at-requires-clause-named

@@ -1,5 +1,5 @@
 use Rattle.readelf_tables.specs.RowsOfSymbols.Fronts.{symbol_front}
-use Rattle.readelf_tables.proofs.rows_of_symbols.FrontLemmas.{precedes_then}
+use Rattle.readelf_rows.proofs.FrontLemmas.{precedes_then}
 use Rattle.readelf_tables.proofs.rows_of_symbols.symbol_lines.write_front.Goals as goal
 
 pub returns : goal.returns

@@ -1,7 +1,7 @@
 use Rattle.std.specs.Prelude.{codes}
 use Rattle.readelf_rows.specs.Fields.{hex_column, decimal_column, row_start}
 use Rattle.readelf_tables.specs.RowsOfSymbols.SymbolLines.{symbol_start}
-use Rattle.readelf_tables.proofs.rows_of_symbols.FrontLemmas.{precedes_then, precedes_as, three_texts}
+use Rattle.readelf_rows.proofs.FrontLemmas.{precedes_then, precedes_as, three_texts}
 use Rattle.readelf_tables.proofs.rows_of_symbols.symbol_lines.write_start.Goals as goal
 
 pub returns-clause-wrote : goal.returns-clause-wrote

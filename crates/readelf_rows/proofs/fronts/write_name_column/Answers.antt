@@ -1,7 +1,7 @@
 use Rattle.std.specs.Prelude.{codes}
 use Rattle.readelf_rows.specs.Fields.{name_column}
-use Rattle.readelf_tables.proofs.rows_of_symbols.FrontLemmas.{precedes_then, precedes_as, four_texts}
-use Rattle.readelf_tables.proofs.rows_of_symbols.fronts.write_name_column.Goals as goal
+use Rattle.readelf_rows.proofs.FrontLemmas.{precedes_then, precedes_as, four_texts}
+use Rattle.readelf_rows.proofs.fronts.write_name_column.Goals as goal
 
 pub returns-clause-wrote : goal.returns-clause-wrote
 unfolding name_column

@@ -1,6 +1,6 @@
 use Rattle.std.proofs.Common.{arith}
 use Rattle.std.proofs.lemmas.Fmt.{length-decimal-le}
-use Rattle.readelf_tables.proofs.rows_of_symbols.fronts.write_decimal.Goals as goal
+use Rattle.readelf_rows.proofs.fronts.write_decimal.Goals as goal
 
 pub write_digits-requires : goal.write_digits-requires
 write_digits-requires c =

@@ -1,6 +1,6 @@
 use Rattle.std.proofs.Common.{arith}
-use Rattle.readelf_tables.proofs.rows_of_symbols.FrontLemmas.{text_precedes}
-use Rattle.readelf_tables.proofs.rows_of_symbols.fronts.write_text.Goals as goal
+use Rattle.readelf_rows.proofs.FrontLemmas.{text_precedes}
+use Rattle.readelf_rows.proofs.fronts.write_text.Goals as goal
 
 pub returns : goal.returns
 returns c =

@@ -1,5 +1,5 @@
 use Rattle.elf_types.proofs.Hex.{Filling}
-use Rattle.readelf_tables.proofs.rows_of_symbols.fronts.fill_hex.Given as goal
+use Rattle.readelf_rows.proofs.fronts.fill_hex.Given as goal
 
 abbrev pub invariant-loop-left : goal.invariant-loop-left
 invariant-loop-left l = Filling l.fn.n l.left l.at l.window

@@ -2,7 +2,7 @@
 use Rattle.std.proofs.Common.{◌≡◌, ◌+◌, ◌-◌, ◌≤◌, ◌++◌, ℕ, List, length, take, drop, sym, ap, ◌∙◌, subst, arith, append_assoc, length-append, length-drop}
 use borrow.Rule.Slice.PartMut.{put_mid}
 use Rattle.std.proofs.lemmas.List.{drop_at, drop-drop, drop-append-le, length-take-le}
-use Rattle.readelf_tables.specs.RowsOfSymbols.Fronts.{Precedes}
+use Rattle.readelf_rows.specs.Fronts.{Precedes}
 
 -- ---- One text
 

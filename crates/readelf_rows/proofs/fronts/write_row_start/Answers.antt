@@ -1,6 +1,6 @@
 use Rattle.readelf_rows.specs.Fields.{row_start}
-use Rattle.readelf_tables.proofs.rows_of_symbols.FrontLemmas.{precedes_then}
-use Rattle.readelf_tables.proofs.rows_of_symbols.fronts.write_row_start.Goals as goal
+use Rattle.readelf_rows.proofs.FrontLemmas.{precedes_then}
+use Rattle.readelf_rows.proofs.fronts.write_row_start.Goals as goal
 
 pub returns-clause-wrote : goal.returns-clause-wrote
 unfolding row_start

@@ -1,5 +1,5 @@
 use Rattle.elf_types.proofs.Hex.{Filling-begin, Filling-next, Filling-end}
-use Rattle.readelf_tables.proofs.rows_of_symbols.fronts.fill_hex.Goals as goal
+use Rattle.readelf_rows.proofs.fronts.fill_hex.Goals as goal
 
 pub loop-left-init : goal.loop-left-init
 loop-left-init c = Filling-begin _ _ _ c.ranges.n.fits c.requires c.glyph.ensures

@@ -6,11 +6,11 @@
 //! where it begins; what is from `end` on stays. None takes memory.
 
 ghost use Rattle.std.specs.Prelude.{◌≡◌, ◌+◌, ◌≤◌, ◌<◌, ◌++◌, false, length, take, drop, decimal, IfSome};
-ghost use Rattle.std.specs.Fmt.{digits, digit_glyph};
+ghost use Rattle.std.specs.Fmt.{digits, digit_glyph, signed_decimal};
 ghost use Rattle.std.specs.Option.{option_copied};
 ghost use Rattle.elf_types.specs.Text.{hex};
 ghost use Rattle.readelf_rows.specs.Fields.{name_or_hex, hex_column, decimal_column, name_column, row_start};
-ghost use Rattle.readelf_tables.specs.RowsOfSymbols.Fronts.{Precedes};
+ghost use Rattle.readelf_rows.specs.Fronts.{Precedes};
 
 use itoa::write_digits;
 
@@ -48,6 +48,21 @@ pub fn write_decimal(buffer: &mut [u8], end: usize, n: u64) -> usize
     ensures room { end ≤ result + 20 }
 {
     write_digits(n, buffer, end)
+}
+
+/// Writes the decimal digits of a signed number, after a `-` where it is below 0.
+#[inline(always)]
+pub fn write_signed(buffer: &mut [u8], end: usize, n: i64) -> usize
+    requires room { 21 ≤ end }
+    requires inside { end ≤ length buffer.old }
+    ensures wrote { Precedes buffer.old buffer.new end result (signed_decimal n) }
+    ensures room { end ≤ result + 21 }
+{
+    let digits = write_decimal(buffer, end, n.unsigned_abs());
+    if n >= 0 {
+        return digits;
+    }
+    write_text(buffer, digits, "-")
 }
 
 /// The hexadecimal digit of a number below 16, in small letters.
@@ -95,9 +110,9 @@ pub fn write_hex(buffer: &mut [u8], end: usize, n: u64) -> usize
 }
 
 /// Writes a name, or in hexadecimal a number that has none.
-#[tactic(auto, unfolding(readelf_rows::specs::Fields::name_or_hex))]
+#[tactic(auto, unfolding(crate::specs::Fields::name_or_hex))]
 #[inline(always)]
-fn write_name_or_hex(buffer: &mut [u8], end: usize, name: Option<&'static str>, n: u64) -> usize
+pub fn write_name_or_hex(buffer: &mut [u8], end: usize, name: Option<&'static str>, n: u64) -> usize
     requires short { IfSome (option_copied name) (λ t. length t ≤ 18) }
     requires room { 18 ≤ end }
     requires inside { end ≤ length buffer.old }
@@ -115,7 +130,7 @@ fn write_name_or_hex(buffer: &mut [u8], end: usize, name: Option<&'static str>, 
 }
 
 /// Writes ` NAME 0xN`, of a name of at most six bytes.
-#[tactic(auto, unfolding(readelf_rows::specs::Fields::hex_column))]
+#[tactic(auto, unfolding(crate::specs::Fields::hex_column))]
 #[inline(always)]
 pub fn write_hex_column(buffer: &mut [u8], end: usize, name: &str, n: u64) -> usize
     requires short { length name.now ≤ 6 }
@@ -131,7 +146,7 @@ pub fn write_hex_column(buffer: &mut [u8], end: usize, name: &str, n: u64) -> us
 }
 
 /// Writes ` NAME N`, of a name of at most six bytes.
-#[tactic(auto, unfolding(readelf_rows::specs::Fields::decimal_column))]
+#[tactic(auto, unfolding(crate::specs::Fields::decimal_column))]
 #[inline(always)]
 pub fn write_decimal_column(buffer: &mut [u8], end: usize, name: &str, n: u64) -> usize
     requires short { length name.now ≤ 6 }
@@ -148,7 +163,7 @@ pub fn write_decimal_column(buffer: &mut [u8], end: usize, name: &str, n: u64) -
 
 /// Writes ` TITLE NAME`, the name of a number or the number in hexadecimal, of a title of at most
 /// six bytes and a name of at most eighteen.
-#[tactic(auto, unfolding(readelf_rows::specs::Fields::name_column))]
+#[tactic(auto, unfolding(crate::specs::Fields::name_column))]
 #[inline(always)]
 pub fn write_name_column(
     buffer: &mut [u8],
@@ -172,7 +187,7 @@ pub fn write_name_column(
 }
 
 /// Writes `  I`, with which a row begins.
-#[tactic(auto, unfolding(readelf_rows::specs::Fields::row_start))]
+#[tactic(auto, unfolding(crate::specs::Fields::row_start))]
 #[inline(always)]
 pub fn write_row_start(buffer: &mut [u8], end: usize, i: u64) -> usize
     requires room { 22 ≤ end }

@@ -1,6 +1,6 @@
 use Rattle.readelf_rows.specs.Fields.{name_or_hex}
-use Rattle.readelf_tables.proofs.rows_of_symbols.FrontLemmas.{precedes_then}
-use Rattle.readelf_tables.proofs.rows_of_symbols.fronts.write_name_or_hex.Goals as goal
+use Rattle.readelf_rows.proofs.FrontLemmas.{precedes_then}
+use Rattle.readelf_rows.proofs.fronts.write_name_or_hex.Goals as goal
 
 pub returns-in-None-clause-wrote : goal.returns-in-None-clause-wrote
 unfolding name_or_hex

@@ -1,7 +1,7 @@
 use Rattle.std.proofs.Common.{◌-◌, drop, arith, length-take, length-drop}
 use Rattle.elf_types.specs.Text.{hex}
-use Rattle.readelf_tables.proofs.rows_of_symbols.FrontLemmas.{window_precedes}
-use Rattle.readelf_tables.proofs.rows_of_symbols.fronts.write_hex.Goals as goal
+use Rattle.readelf_rows.proofs.FrontLemmas.{window_precedes}
+use Rattle.readelf_rows.proofs.fronts.write_hex.Goals as goal
 
 pub returns-clause-wrote : goal.returns-clause-wrote
 unfolding hex
