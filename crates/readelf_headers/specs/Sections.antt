@@ -34,6 +34,16 @@ unfoldable pub section_line : ℕ → Option (List ℕ) → Shdr → List ℕ
 section_line i name h =
     section_start i name h.stype ++ section_places h ++ section_number_columns h ++ codes "\n"
 
+-- what stands before the name of a section, and the text with which that is opened
+unfoldable pub section_front : ℕ → List ℕ → List ℕ
+section_front i opening = row_start i ++ opening
+
+-- what stands behind it, and before that the text with which it is closed
+unfoldable pub section_end : List ℕ → Shdr → List ℕ
+section_end closing h =
+    closing ++ (name_or_hex (section_type_name_of h.stype) h.stype
+    ++ (section_places h ++ (section_number_columns h ++ codes "\n")))
+
 unfoldable pub sections_title : ℕ → List ℕ
 sections_title count = counted_line (codes "Section headers: ") count
 

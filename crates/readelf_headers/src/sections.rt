@@ -1,56 +1,163 @@
-//! The lines of the section headers.
+//! The lines of the section headers. What is before the name of a section is written into a buffer,
+//! from its end, and then put at once; so is what is after the name.
 
-ghost use Rattle.std.specs.Prelude.{◌≡◌, ◌++◌, OnOk, IfErr};
+ghost use Rattle.std.specs.Prelude.{◌≡◌, ◌++◌, ◌+◌, ◌≤◌, codes, length, OnOk, IfErr};
 ghost use Rattle.std.specs.Option.{option_copied};
+ghost use Rattle.elf_types.specs.Names.{section_type_name_of};
 ghost use Rattle.elf_types.specs.Writers.{WantsMemory};
 ghost use Rattle.tool_objects.specs.Steps.{ReportsOver};
-ghost use Rattle.readelf_headers.specs.Sections.{section_start, section_places, section_number_columns, section_line, sections_title, shown_section_line, sections_report};
+ghost use Rattle.readelf_rows.specs.Fields.{name_or_hex, decimal_column};
+ghost use Rattle.readelf_rows.specs.Fronts.{Precedes};
+ghost use Rattle.readelf_headers.specs.Sections.{section_places, section_number_columns, section_front, section_end, section_line, sections_title, shown_section_line, sections_report};
 
 use elf_outside::{Sink, Source};
-use elf_types::{ElfError, Octets, ScnId, Shdr, put_text, section_type_name};
-use readelf_rows::{
-    put_counted_line, put_decimal_column, put_hex_column, put_name_or_hex, put_row_start,
+use elf_types::{ElfError, Octets, ScnId, Shdr, put_bytes, section_type_name};
+use readelf_rows::fronts::{
+    write_decimal, write_decimal_column, write_hex_column, write_name_or_hex, write_row_start,
+    write_text,
 };
+use readelf_rows::put_counted_line;
 use tool_objects::prelude::Elf;
-use tool_objects::{Bracketed, SectionTool, each_section, section_header, section_name_or_stop};
+use tool_objects::{SectionTool, each_section, section_header, section_name_or_stop};
 use tool_output::{Line, Outputs, Stop};
 
-/// Appends `  I NAME TYPE`.
-#[tactic(auto, using(elf_types::proofs::Writers::kept), unfolding(crate::specs::Sections::section_start))]
-fn put_start(page: &mut Octets, i: u32, name: Option<&[u8]>, stype: u32) -> Result<(), ElfError>
-    ensures ok { OnOk result
-        (page.new ≡ page.old ++ section_start i (option_copied name.entry) stype) }
-    ensures err { IfErr result (WantsMemory page.old page.new) }
+/// What is before the name of a section takes at most so many bytes.
+const FRONT: usize = 32;
+
+/// What is after it takes at most so many.
+const END: usize = 256;
+
+/// Writes the name of a type, or the type in hexadecimal, before a place.
+#[inline(always)]
+fn write_type(buffer: &mut [u8], end: usize, stype: u32) -> usize
+    requires room { 18 ≤ end }
+    requires inside { end ≤ length buffer.old }
+    ensures wrote { Precedes buffer.old buffer.new end result
+        (name_or_hex (section_type_name_of stype) stype) }
+    ensures room { end ≤ result + 18 }
 {
-    put_row_start(page, u64::from(i))?;
-    put_text(page, " ")?;
-    Bracketed { name }.put(page)?;
-    put_text(page, " ")?;
-    put_name_or_hex(page, section_type_name(stype), u64::from(stype))
+    write_name_or_hex(buffer, end, section_type_name(stype), u64::from(stype))
 }
 
-/// Appends the flags, the address and the extent.
-#[tactic(auto, using(elf_types::proofs::Writers::kept), unfolding(crate::specs::Sections::section_places))]
-fn put_places(page: &mut Octets, h: &Shdr) -> Result<(), ElfError>
-    ensures ok { OnOk result (page.new ≡ page.old ++ section_places h.now) }
-    ensures err { IfErr result (WantsMemory page.old page.new) }
+/// Writes the flags, the address and the extent before a place.
+#[tactic(auto, unfolding(crate::specs::Sections::section_places))]
+#[inline(always)]
+fn write_places(buffer: &mut [u8], end: usize, h: &Shdr) -> usize
+    requires room { 104 ≤ end }
+    requires inside { end ≤ length buffer.old }
+    ensures wrote { Precedes buffer.old buffer.new end result (section_places h.now) }
+    ensures room { end ≤ result + 104 }
 {
-    put_hex_column(page, "flags", h.flags)?;
-    put_hex_column(page, "addr", h.addr)?;
-    put_hex_column(page, "offset", h.offset)?;
-    put_hex_column(page, "size", h.size)
+    let size = write_hex_column(buffer, end, "size", h.size);
+    let offset = write_hex_column(buffer, size, "offset", h.offset);
+    let addr = write_hex_column(buffer, offset, "addr", h.addr);
+    write_hex_column(buffer, addr, "flags", h.flags)
 }
 
-/// Appends the links, the alignment and the size of an entry.
-#[tactic(auto, using(elf_types::proofs::Writers::kept), unfolding(crate::specs::Sections::section_number_columns))]
-fn put_numbers(page: &mut Octets, h: &Shdr) -> Result<(), ElfError>
-    ensures ok { OnOk result (page.new ≡ page.old ++ section_number_columns h.now) }
+/// Writes ` entsize N` before a place.
+#[tactic(auto, unfolding(readelf_rows::specs::Fields::decimal_column))]
+#[inline(always)]
+fn write_entry_size(buffer: &mut [u8], end: usize, n: u64) -> usize
+    requires room { 29 ≤ end }
+    requires inside { end ≤ length buffer.old }
+    ensures wrote { Precedes buffer.old buffer.new end result (decimal_column (codes "entsize") n) }
+    ensures room { end ≤ result + 29 }
+{
+    let digits = write_decimal(buffer, end, n);
+    let space = write_text(buffer, digits, " ");
+    let title = write_text(buffer, space, "entsize");
+    write_text(buffer, title, " ")
+}
+
+/// Writes the links, the alignment and the size of an entry before a place.
+#[tactic(auto, unfolding(crate::specs::Sections::section_number_columns))]
+#[inline(always)]
+fn write_numbers(buffer: &mut [u8], end: usize, h: &Shdr) -> usize
+    requires room { 113 ≤ end }
+    requires inside { end ≤ length buffer.old }
+    ensures wrote { Precedes buffer.old buffer.new end result (section_number_columns h.now) }
+    ensures room { end ≤ result + 113 }
+{
+    let entsize = write_entry_size(buffer, end, h.entsize);
+    let align = write_decimal_column(buffer, entsize, "align", h.addralign);
+    let info = write_decimal_column(buffer, align, "info", u64::from(h.info));
+    write_decimal_column(buffer, info, "link", u64::from(h.link))
+}
+
+/// Writes what is after the name of a section, after the text with which that is closed, so that it
+/// ends with the buffer, and tells where it begins.
+#[tactic(auto, unfolding(crate::specs::Sections::section_end))]
+#[inline(always)]
+fn write_end(buffer: &mut [u8], closing: &str, h: &Shdr) -> usize
+    requires len { length buffer.old ≡ 256 }
+    requires short { length closing.now ≤ 8 }
+    ensures { Precedes buffer.old buffer.new 256 result (section_end closing.now h.now) }
+{
+    let newline = write_text(buffer, END, "\n");
+    let numbers = write_numbers(buffer, newline, h);
+    let places = write_places(buffer, numbers, h);
+    let stype = write_type(buffer, places, h.stype);
+    write_text(buffer, stype, closing)
+}
+
+/// Appends the same, by a buffer for it.
+#[tactic(auto, using(elf_types::proofs::Writers::kept))]
+#[inline(always)]
+fn put_end_by(page: &mut Octets, closing: &str, h: &Shdr, buffer: &mut [u8]) -> Result<(), ElfError>
+    requires len { length buffer.old ≡ 256 }
+    requires short { length closing.now ≤ 8 }
+    ensures ok { OnOk result (page.new ≡ page.old ++ section_end closing.now h.now) }
     ensures err { IfErr result (WantsMemory page.old page.new) }
 {
-    put_decimal_column(page, "link", u64::from(h.link))?;
-    put_decimal_column(page, "info", u64::from(h.info))?;
-    put_decimal_column(page, "align", h.addralign)?;
-    put_decimal_column(page, "entsize", h.entsize)
+    let at = write_end(buffer, closing, h);
+    put_bytes(page, &buffer[at..])
+}
+
+/// Appends what is after the name of a section, after the text with which that is closed.
+#[tactic(auto, using(elf_types::proofs::Writers::kept))]
+fn put_end(page: &mut Octets, closing: &str, h: &Shdr) -> Result<(), ElfError>
+    requires { length closing.now ≤ 8 }
+    ensures ok { OnOk result (page.new ≡ page.old ++ section_end closing.now h.now) }
+    ensures err { IfErr result (WantsMemory page.old page.new) }
+{
+    let mut buffer = [0u8; END];
+    put_end_by(page, closing, h, &mut buffer)
+}
+
+/// Writes `  I` and the text with which the name is opened, so that they end with the buffer, and
+/// tells where they begin.
+#[inline(always)]
+fn write_front(buffer: &mut [u8], i: u64, opening: &str) -> usize
+    requires len { length buffer.old ≡ 32 }
+    requires short { length opening.now ≤ 8 }
+    ensures { Precedes buffer.old buffer.new 32 result (section_front i opening.now) }
+{
+    let opened = write_text(buffer, FRONT, opening);
+    write_row_start(buffer, opened, i)
+}
+
+/// Appends the same, by a buffer for it.
+#[tactic(auto, using(elf_types::proofs::Writers::kept))]
+#[inline(always)]
+fn put_front_by(page: &mut Octets, i: u64, opening: &str, buffer: &mut [u8]) -> Result<(), ElfError>
+    requires len { length buffer.old ≡ 32 }
+    requires short { length opening.now ≤ 8 }
+    ensures ok { OnOk result (page.new ≡ page.old ++ section_front i opening.now) }
+    ensures err { IfErr result (WantsMemory page.old page.new) }
+{
+    let at = write_front(buffer, i, opening);
+    put_bytes(page, &buffer[at..])
+}
+
+/// Appends `  I` and the text with which the name is opened.
+#[tactic(auto, using(elf_types::proofs::Writers::kept))]
+fn put_front(page: &mut Octets, i: u32, opening: &str) -> Result<(), ElfError>
+    requires { length opening.now ≤ 8 }
+    ensures ok { OnOk result (page.new ≡ page.old ++ section_front i opening.now) }
+    ensures err { IfErr result (WantsMemory page.old page.new) }
+{
+    let mut buffer = [0u8; FRONT];
+    put_front_by(page, u64::from(i), opening, &mut buffer)
 }
 
 /// The line of a section.
@@ -67,13 +174,19 @@ struct SectionLine<'a> {
 impl Line for SectionLine<'_> {
     ghost text = { λ l. section_line l.index (option_copied l.name) l.header };
 
-    #[tactic(auto, using(elf_types::proofs::Writers::kept), unfolding(crate::specs::Sections::section_line))]
+    #[tactic(auto, using(elf_types::proofs::Writers::kept))]
     fn put(&self, page: &mut Octets) -> Result<(), ElfError> {
-        let h = &self.header;
-        put_start(page, self.index, self.name, h.stype)?;
-        put_places(page, h)?;
-        put_numbers(page, h)?;
-        put_text(page, "\n")
+        match self.name {
+            Some(name) => {
+                put_front(page, self.index, " [")?;
+                put_bytes(page, name)?;
+                put_end(page, "] ", &self.header)
+            }
+            None => {
+                put_front(page, self.index, " <none>")?;
+                put_end(page, " ", &self.header)
+            }
+        }
     }
 }
 
