@@ -272,13 +272,13 @@ struct WrongEntrySizes;
 impl HeaderRule for WrongEntrySizes {
     ghost finds = { λ _. rule.has_wrong_entry_size };
 
-    #[tactic(auto, unfolding(crate::specs::Sections::has_wrong_entry_size))]
+    #[tactic(auto, using(elf_lint_findings::proofs::WholeLemmas::either_first), unfolding(crate::specs::Sections::has_wrong_entry_size))]
     fn finds<S: Source>(&self, elf: &Elf<S>, s: ScnId) -> bool {
         let h = section_header(elf, s);
         let class = object_class(elf);
         let kind = kind_of(class, &h);
         let wrong = has_entries(kind) && h.entsize != item_size(kind, class);
-        is_looked_at(elf, s) && wrong
+        wrong && is_looked_at(elf, s)
     }
 }
 
@@ -305,11 +305,11 @@ struct UnallocatedStorage;
 impl HeaderRule for UnallocatedStorage {
     ghost finds = { λ _. rule.is_unallocated_storage };
 
-    #[tactic(auto, unfolding(crate::specs::Sections::is_unallocated_storage))]
+    #[tactic(auto, using(elf_lint_findings::proofs::WholeLemmas::either_first), unfolding(crate::specs::Sections::is_unallocated_storage))]
     fn finds<S: Source>(&self, elf: &Elf<S>, s: ScnId) -> bool {
         let h = section_header(elf, s);
-        let is_local = h.flags / SHF_TLS % 2 == 1;
-        is_intact(elf, s) && is_local && !is_allocated_section(&h)
+        let lacks = h.flags / SHF_TLS % 2 == 1 && !is_allocated_section(&h);
+        lacks && is_intact(elf, s)
     }
 }
 

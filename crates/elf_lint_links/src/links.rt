@@ -1,4 +1,5 @@
-//! The rules 15 to 18: what sections of some types link to. Nothing is read.
+//! The rules 15 to 18: what sections of some types link to. Nothing is read. The type, which most
+//! sections are not of, is looked at first.
 
 ghost use Rattle.std.specs.Prelude.{◌≡◌};
 ghost use Rattle.elf_lint_links.specs.Links as rule;
@@ -28,12 +29,12 @@ struct SymbolLinks;
 impl HeaderRule for SymbolLinks {
     ghost finds = { λ _. rule.symbols_lack_strings };
 
-    #[tactic(auto, unfolding(crate::specs::Links::symbols_lack_strings))]
+    #[tactic(auto, using(elf_lint_findings::proofs::WholeLemmas::either_first), unfolding(crate::specs::Links::symbols_lack_strings))]
     fn finds<S: Source>(&self, elf: &Elf<S>, s: ScnId) -> bool {
         let h = section_header(elf, s);
-        let linked = linked_header(elf, s);
-        let lacks = is_symbol_table_header(object_class(elf), &h) && !is_string_table(&linked);
-        is_looked_at(elf, s) && lacks
+        let lacks = is_symbol_table_header(object_class(elf), &h)
+            && !is_string_table(&linked_header(elf, s));
+        lacks && is_looked_at(elf, s)
     }
 }
 
@@ -66,12 +67,13 @@ struct RelocationLinks;
 impl HeaderRule for RelocationLinks {
     ghost finds = { λ _. rule.relocations_lack_symbols };
 
-    #[tactic(auto, unfolding(crate::specs::Links::relocations_lack_symbols))]
+    #[tactic(auto, using(elf_lint_findings::proofs::WholeLemmas::either_first), unfolding(crate::specs::Links::relocations_lack_symbols))]
     fn finds<S: Source>(&self, elf: &Elf<S>, s: ScnId) -> bool {
         let h = section_header(elf, s);
-        let linked = linked_header(elf, s);
-        let lacks = h.link != SHN_UNDEF && !is_symbol_table_header(object_class(elf), &linked);
-        is_looked_at(elf, s) && is_relocation_section(&h) && lacks
+        let lacks = is_relocation_section(&h)
+            && (h.link != SHN_UNDEF
+                && !is_symbol_table_header(object_class(elf), &linked_header(elf, s)));
+        lacks && is_looked_at(elf, s)
     }
 }
 
@@ -104,12 +106,12 @@ struct HashLinks;
 impl HeaderRule for HashLinks {
     ghost finds = { λ _. rule.hashes_lack_symbols };
 
-    #[tactic(auto, unfolding(crate::specs::Links::hashes_lack_symbols))]
+    #[tactic(auto, using(elf_lint_findings::proofs::WholeLemmas::either_first), unfolding(crate::specs::Links::hashes_lack_symbols))]
     fn finds<S: Source>(&self, elf: &Elf<S>, s: ScnId) -> bool {
         let h = section_header(elf, s);
-        let linked = linked_header(elf, s);
-        let lacks = goes_by_symbols(&h) && !is_symbol_table_header(object_class(elf), &linked);
-        is_looked_at(elf, s) && lacks
+        let lacks = goes_by_symbols(&h)
+            && !is_symbol_table_header(object_class(elf), &linked_header(elf, s));
+        lacks && is_looked_at(elf, s)
     }
 }
 
@@ -142,12 +144,11 @@ struct DynamicLinks;
 impl HeaderRule for DynamicLinks {
     ghost finds = { λ _. rule.dynamic_lacks_strings };
 
-    #[tactic(auto, unfolding(crate::specs::Links::dynamic_lacks_strings))]
+    #[tactic(auto, using(elf_lint_findings::proofs::WholeLemmas::either_first), unfolding(crate::specs::Links::dynamic_lacks_strings))]
     fn finds<S: Source>(&self, elf: &Elf<S>, s: ScnId) -> bool {
         let h = section_header(elf, s);
-        let linked = linked_header(elf, s);
-        let lacks = h.stype == SHT_DYNAMIC && !is_string_table(&linked);
-        is_looked_at(elf, s) && lacks
+        let lacks = h.stype == SHT_DYNAMIC && !is_string_table(&linked_header(elf, s));
+        lacks && is_looked_at(elf, s)
     }
 }
 
