@@ -9,6 +9,6 @@ mod forms;
 #[cfg(test)]
 mod listing;
 #[cfg(test)]
-mod sharing;
+pub mod sharing;
 #[cfg(test)]
 mod streaming;

@@ -84,15 +84,21 @@ fn arranged<S: Source>(elf: &mut Elf<S>, tail: u64) -> Result<(), ElfError> {
     arrange(elf, Some(tail))
 }
 
-/// Whether sections are added and get their places, and not above the limit of the class.
+/// Whether sections are added to an object and get their places, and not above the limit of the
+/// class.
+fn are_placed_in<S: Source>(rt: &HostRuntime, elf: &mut Elf<S>) -> bool {
+    let mut placed = are_added(rt, elf);
+    placed &= same(rt, &arranged(elf, 100), &Ok(()));
+    placed &= stand(rt, elf);
+    let too_large = arranged(elf, u32::MAX as u64);
+    placed &= same(rt, &too_large, &Err(ElfError::TooLarge));
+    placed && stand(rt, elf)
+}
+
+/// Whether they do in an object of class 32.
 fn are_placed(rt: &HostRuntime) -> bool {
     let mut elf = Elf::create(rt.alloc(), Class::C32, Order::Greatest);
-    let mut placed = are_added(rt, &mut elf);
-    placed &= same(rt, &arranged(&mut elf, 100), &Ok(()));
-    placed &= stand(rt, &elf);
-    let too_large = arranged(&mut elf, u32::MAX as u64);
-    placed &= same(rt, &too_large, &Err(ElfError::TooLarge));
-    placed && stand(rt, &elf)
+    are_placed_in(rt, &mut elf)
 }
 
 #[test]
@@ -100,21 +106,34 @@ fn sections_stand_behind_a_tail(rt: HostRuntime) {
     assert!(rt; are_placed(&rt));
 }
 
-/// Whether an object gets the program headers and the header of another one.
-fn is_followed(rt: &HostRuntime) -> bool {
-    let mut elf = Elf::create(rt.alloc(), Class::C64, Order::Least);
-    let mut made = Elf::create(rt.alloc(), Class::C64, Order::Least);
-    let mut followed = same(rt, &elf.newphdr(2), &Ok(())) && are_added(rt, &mut made);
-    followed &= same(rt, &copy_segments(&elf, &mut made), &Ok(()));
-    followed &= same(rt, &finish_header(&elf, &mut made, 4), &Ok(()));
+/// Whether the program headers and the header of an object follow in another one.
+fn follow_in<S: Source, T: Source>(rt: &HostRuntime, elf: &Elf<S>, made: &mut Elf<T>) -> bool {
+    let mut followed = same(rt, &copy_segments(elf, made), &Ok(()));
+    followed &= same(rt, &finish_header(elf, made, 4), &Ok(()));
     followed &= same(rt, &(made.phnum(), made.shstrndx()), &(2, 4));
-    let refused = finish_header(&elf, &mut made, 5);
+    let refused = finish_header(elf, made, 5);
     followed
         && same(
             rt,
             &refused,
             &Err(ElfError::NoSection { index: 5, count: 5 }),
         )
+}
+
+/// Whether they do where the one has two program headers and the other one has the sections.
+fn are_followed<S: Source, T: Source>(
+    rt: &HostRuntime,
+    elf: &mut Elf<S>,
+    made: &mut Elf<T>,
+) -> bool {
+    same(rt, &elf.newphdr(2), &Ok(())) && are_added(rt, made) && follow_in(rt, elf, made)
+}
+
+/// Whether an object gets the program headers and the header of another one.
+fn is_followed(rt: &HostRuntime) -> bool {
+    let mut elf = Elf::create(rt.alloc(), Class::C64, Order::Least);
+    let mut made = Elf::create(rt.alloc(), Class::C64, Order::Least);
+    are_followed(rt, &mut elf, &mut made)
 }
 
 #[test]
@@ -133,17 +152,22 @@ fn is_created_over<S: Source>(rt: &HostRuntime, elf: &mut Elf<S>, n: u64) -> boo
     }
 }
 
+/// Whether one is created over the header of the image of a source.
+fn is_created_over_source<S: Source + Drop>(rt: &HostRuntime, src: S) -> bool {
+    match Elf::begin(rt.alloc(), src) {
+        Ok(mut elf) => {
+            let created = is_created_over(rt, &mut elf, 64);
+            let _src = elf.end();
+            created
+        }
+        Err((_src, e)) => failed(rt, e),
+    }
+}
+
 /// Whether one is created over the header of an image.
 fn is_created_over_header(rt: &HostRuntime, bytes: Octets) -> bool {
     match source(rt.alloc(), bytes, 0) {
-        Ok(src) => match Elf::begin(rt.alloc(), src) {
-            Ok(mut elf) => {
-                let created = is_created_over(rt, &mut elf, 64);
-                let _src = elf.end();
-                created
-            }
-            Err((_src, e)) => failed(rt, e),
-        },
+        Ok(src) => is_created_over_source(rt, src),
         Err(e) => failed(rt, e),
     }
 }

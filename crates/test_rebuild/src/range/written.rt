@@ -95,20 +95,18 @@ fn held(at: u64, len: u64) -> ByteRange {
 
 /// The plan: the header, section 1, and two tables.
 fn plan_of(alloc: Global, setting: &Setting) -> Result<Parts, ElfError> {
-    let mut plan = Parts::new(alloc);
-    plan.push(part_at(Part::Header, 0, 4))?;
-    plan.push(part_at(Part::Section(1), setting.at, 6))?;
-    plan.push(part_at(Part::Segments, 20, 3))?;
-    plan.push(part_at(Part::Table, 30, 5))?;
-    Ok(plan)
+    let parts = [
+        part_at(Part::Header, 0, 4),
+        part_at(Part::Section(1), setting.at, 6),
+        part_at(Part::Segments, 20, 3),
+        part_at(Part::Table, 30, 5),
+    ];
+    Parts::from_slice(alloc, &parts)
 }
 
-/// The ranges of the planned parts.
-fn ranges_of(alloc: Global, setting: &Setting) -> Result<PartRanges, ElfError> {
-    let mut sections = List::new(alloc);
-    sections.push(held(0, 0))?;
-    sections.push(setting.section)?;
-    Ok(PartRanges {
+/// The ranges of the planned parts, of which these are the sections'.
+fn ranges_with(sections: List<ByteRange>) -> PartRanges {
+    PartRanges {
         header: held(0, 4),
         segments: held(5, 3),
         table: ByteRange {
@@ -117,41 +115,83 @@ fn ranges_of(alloc: Global, setting: &Setting) -> Result<PartRanges, ElfError> {
             len: 5,
         },
         sections,
-    })
+    }
+}
+
+/// The ranges of the planned parts.
+fn ranges_of(alloc: Global, setting: &Setting) -> Result<PartRanges, ElfError> {
+    match List::from_slice(alloc, &[held(0, 0), setting.section]) {
+        Ok(sections) => Ok(ranges_with(sections)),
+        Err(e) => Err(e),
+    }
+}
+
+/// Puts the bytes that are held, as two ranges of a text.
+fn put_held(held: &mut SharedBytes) -> Result<(), ElfError> {
+    held.hold(HELD)?;
+    held.extend_near(&HELD[..6], 0)?;
+    held.extend_near(&HELD[6..], 6)
+}
+
+/// The bytes that are held.
+fn held_bytes(alloc: Global) -> Result<SharedBytes, ElfError> {
+    let mut held = SharedBytes::new(alloc);
+    match put_held(&mut held) {
+        Ok(()) => Ok(held),
+        Err(e) => Err(e),
+    }
+}
+
+/// The bytes of the base.
+fn base(alloc: Global) -> Result<Octets, ElfError> {
+    match image_in(alloc, FIVE.form, &FIVE) {
+        Ok(image) => Ok(image.bytes),
+        Err(e) => Err(e),
+    }
+}
+
+/// The source of the base.
+fn source_of(alloc: Global, setting: &Setting) -> Result<MemSource, ElfError> {
+    match base(alloc) {
+        Ok(bytes) => source(alloc, bytes, setting.bad_read),
+        Err(e) => Err(e),
+    }
+}
+
+/// The parts of the image of a setting.
+fn parts_of(alloc: Global, setting: &Setting) -> Result<RangedParts<MemSource>, ElfError> {
+    let held = held_bytes(alloc)?;
+    let ranges = ranges_of(alloc, setting)?;
+    match source_of(alloc, setting) {
+        Ok(source) => Ok(RangedParts {
+            source,
+            held,
+            ranges,
+            kept: setting.kept,
+        }),
+        Err(e) => Err(e),
+    }
 }
 
 /// The image of a setting.
 fn image_of(alloc: Global, setting: &Setting) -> Result<RangedImage<MemSource>, ElfError> {
-    let bytes = image_in(alloc, FIVE.form, &FIVE)?.bytes;
-    let src = source(alloc, bytes, setting.bad_read)?;
-    let ranges = ranges_of(alloc, setting)?;
     let plan = plan_of(alloc, setting)?;
-    // As two ranges of a text, which is held after others that are not wanted.
-    let mut held = SharedBytes::new(alloc);
-    held.hold(HELD)?;
-    held.extend_near(&HELD[..6], 0)?;
-    held.extend_near(&HELD[6..], 6)?;
-    Ok(RangedImage {
-        parts: RangedParts {
-            source: src,
-            held,
-            ranges,
-            kept: setting.kept,
-        },
-        plan,
-        end: 40,
-        alloc,
-    })
+    match parts_of(alloc, setting) {
+        Ok(parts) => Ok(RangedImage {
+            parts,
+            plan,
+            end: 40,
+            alloc,
+        }),
+        Err(e) => Err(e),
+    }
 }
 
-/// The bytes that the whole image has.
-fn expected(alloc: Global) -> Result<Octets, ElfError> {
-    let base = image_in(alloc, FIVE.form, &FIVE)?.bytes;
-    let mut bytes = Octets::new(alloc);
+/// Puts the bytes that the whole image has over a base; none, where the base is too short.
+fn put_expected(bytes: &mut Octets, base: &[u8]) -> Result<(), ElfError> {
     if base.len() < 64 {
-        return Ok(bytes);
+        return Ok(());
     }
-    let base = base.as_slice();
     bytes.extend(b"head")?;
     bytes.extend(&base[4..10])?;
     bytes.extend(&base[20..26])?;
@@ -160,8 +200,24 @@ fn expected(alloc: Global) -> Result<Octets, ElfError> {
     bytes.extend(b"new")?;
     bytes.extend(&[0; 7])?;
     bytes.extend(&base[0..5])?;
-    bytes.extend(&[0; 5])?;
-    Ok(bytes)
+    bytes.extend(&[0; 5])
+}
+
+/// The bytes that the whole image has over a base.
+fn expected_over(alloc: Global, base: &[u8]) -> Result<Octets, ElfError> {
+    let mut bytes = Octets::new(alloc);
+    match put_expected(&mut bytes, base) {
+        Ok(()) => Ok(bytes),
+        Err(e) => Err(e),
+    }
+}
+
+/// The bytes that the whole image has.
+fn expected(alloc: Global) -> Result<Octets, ElfError> {
+    match base(alloc) {
+        Ok(base) => expected_over(alloc, base.as_slice()),
+        Err(e) => Err(e),
+    }
 }
 
 /// What came of the writing of an image.
@@ -177,6 +233,17 @@ enum Outcome {
     Other,
 }
 
+/// How an image is written, by what a call returned, what it put, and the bytes of the image.
+fn outcome_from(answer: Result<(), ElfError>, put: &[u8], bytes: &[u8]) -> Outcome {
+    if answer == Ok(()) && put == bytes {
+        return Outcome::Written;
+    }
+    if answer == Err(ElfError::Read) && bytes.starts_with(put) {
+        return Outcome::Stopped;
+    }
+    Outcome::Other
+}
+
 /// How an image is written.
 fn outcome_by(
     alloc: Global,
@@ -189,13 +256,7 @@ fn outcome_by(
     let mut sink = MemSink::new(alloc, 64, Addrs::new(alloc))?;
     let answer = image.put_to(&mut sink);
     let put = sink.into_bytes();
-    if answer == Ok(()) && put.as_slice() == bytes {
-        return Ok(Outcome::Written);
-    }
-    if answer == Err(ElfError::Read) && bytes.starts_with(put.as_slice()) {
-        return Ok(Outcome::Stopped);
-    }
-    Ok(Outcome::Other)
+    Ok(outcome_from(answer, put.as_slice(), bytes))
 }
 
 /// How the image of a setting is.

@@ -102,13 +102,16 @@ fn holds<S: Source>(rt: &HostRuntime, elf: &mut Elf<S>, s: u32, bytes: &[u8]) ->
     }
 }
 
+/// Whether an object is the program's debug half.
+fn is_half_of<S: Source>(rt: &HostRuntime, elf: &mut Elf<S>) -> bool {
+    have(rt, elf) && holds(rt, elf, 1, b"") && holds(rt, elf, 4, b"dbg\n")
+}
+
 /// Whether a source is that of the program's debug half.
 fn is_half_in<S: Source + Drop>(rt: &HostRuntime, src: S) -> bool {
     match Elf::begin(rt.alloc(), src) {
         Ok(mut elf) => {
-            let half = have(rt, &elf)
-                && holds(rt, &mut elf, 1, b"")
-                && holds(rt, &mut elf, 4, b"dbg\n");
+            let half = is_half_of(rt, &mut elf);
             let _src = elf.end();
             half
         }

@@ -1,6 +1,6 @@
 //! Headers that are listed, and the parts of their image.
 
-use elf_layout::place;
+use elf_layout::{Places, place};
 use elf_types::constants::{SHF_ALLOC, SHT_NOBITS, SHT_PROGBITS};
 use elf_types::{Addrs, Class, Ehdr, ElfError, Order, Shdr, Shdrs};
 use rebuild_image::listed::{HeaderListing, list_parts, store_places};
@@ -55,15 +55,18 @@ const WORDS: Shdr = Shdr {
 /// The five sections, and how many bytes each has.
 const ROWS: [(Shdr, u64); 5] = [(FIRST, 0), (LOADED, 20), (PLAIN, 3), (BARE, 0), (WORDS, 10)];
 
-/// The five sections as listed headers of class 64.
-pub fn listed(alloc: Global) -> Result<HeaderListing, ElfError> {
-    let mut headers = Shdrs::new(alloc);
-    let mut sizes = Addrs::new(alloc);
+/// Puts the five sections and their sizes into lists.
+fn fill(headers: &mut Shdrs, sizes: &mut Addrs) -> Result<(), ElfError> {
     for row in ROWS.iter() {
         headers.push(row.0)?;
         sizes.push(row.1)?;
     }
-    Ok(HeaderListing {
+    Ok(())
+}
+
+/// These headers of class 64, with these sizes.
+fn listing_of(headers: Shdrs, sizes: Addrs) -> HeaderListing {
+    HeaderListing {
         header: Ehdr {
             shoff: 7,
             shnum: 5,
@@ -71,7 +74,17 @@ pub fn listed(alloc: Global) -> Result<HeaderListing, ElfError> {
         },
         headers,
         sizes,
-    })
+    }
+}
+
+/// The five sections as listed headers of class 64.
+pub fn listed(alloc: Global) -> Result<HeaderListing, ElfError> {
+    let mut headers = Shdrs::new(alloc);
+    let mut sizes = Addrs::new(alloc);
+    match fill(&mut headers, &mut sizes) {
+        Ok(()) => Ok(listing_of(headers, sizes)),
+        Err(e) => Err(e),
+    }
 }
 
 /// Whether sections have these places and these sizes, and the section header table has that one.
@@ -89,18 +102,33 @@ pub fn is_listed_at(rt: &HostRuntime, x: &HeaderListing, rows: &[(u64, u64)], ta
     true
 }
 
-/// The headers with the places of an image whose parts are one after the other.
-fn stored(alloc: Global) -> Result<HeaderListing, ElfError> {
-    let x = listed(alloc)?;
+/// The places of an image whose parts are one after the other.
+fn places_of(alloc: Global, x: &HeaderListing) -> Result<Places, ElfError> {
     if x.headers.len() > 1 << 20 || x.headers.len() != x.sizes.len() {
         return Err(ElfError::TooMany);
     }
-    let parts = list_parts(alloc, &x)?;
-    let places = place(alloc, &parts, false, 0, Class::C64)?;
+    let parts = list_parts(alloc, x)?;
+    place(alloc, &parts, false, 0, Class::C64)
+}
+
+/// The headers with these places.
+fn stored_at(alloc: Global, x: HeaderListing, places: &Places) -> Result<HeaderListing, ElfError> {
+    if x.headers.len() > 1 << 20 || x.headers.len() != x.sizes.len() {
+        return Err(ElfError::TooMany);
+    }
     if x.headers.is_empty() || places.at.len() < x.headers.len() + 2 {
         return Err(ElfError::TooMany);
     }
-    store_places(alloc, x, &places)
+    store_places(alloc, x, places)
+}
+
+/// The headers with the places of an image whose parts are one after the other.
+fn stored(alloc: Global) -> Result<HeaderListing, ElfError> {
+    let x = listed(alloc)?;
+    match places_of(alloc, &x) {
+        Ok(places) => stored_at(alloc, x, &places),
+        Err(e) => Err(e),
+    }
 }
 
 /// Whether the parts are one after the other, at these places.

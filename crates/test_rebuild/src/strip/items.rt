@@ -2,6 +2,7 @@
 
 use crate::strip::removed::{COUNT, bytes_in};
 use elf_descriptor::Elf;
+use elf_outside::Source;
 use elf_types::constants::{SHF_INFO_LINK, SHT_PROGBITS, SHT_RELA};
 use elf_types::{ElfError, NULL_SECTION, Octets, Shdr, Sym, Syms, Words};
 use rebuild_numbers::{Numbering, followed_group, followed_header, followed_syms, followed_words};
@@ -107,14 +108,28 @@ fn are_told(rt: &HostRuntime, syms: &[Sym], words: &[u32]) -> bool {
     true
 }
 
+/// What symbols and their words become.
+fn followed(
+    alloc: Global,
+    numbering: &Numbering,
+    syms: &[Sym],
+    words: &[u32],
+) -> Result<(Syms, Words), ElfError> {
+    let new_syms = followed_syms(alloc, numbering, words, syms)?;
+    match followed_words(alloc, numbering, syms, words) {
+        Ok(new_words) => Ok((new_syms, new_words)),
+        Err(e) => Err(e),
+    }
+}
+
 /// What the symbols and their words become.
 fn indexed(alloc: Global, numbering: &Numbering) -> Result<(Syms, Words), ElfError> {
     let mut syms = Syms::new(alloc);
     let mut words = Words::new(alloc);
-    fill(&mut syms, &mut words)?;
-    let new_syms = followed_syms(alloc, numbering, words.as_slice(), syms.as_slice())?;
-    let new_words = followed_words(alloc, numbering, syms.as_slice(), words.as_slice())?;
-    Ok((new_syms, new_words))
+    match fill(&mut syms, &mut words) {
+        Ok(()) => followed(alloc, numbering, syms.as_slice(), words.as_slice()),
+        Err(e) => Err(e),
+    }
 }
 
 /// Whether symbols and words become what they should.
@@ -138,21 +153,30 @@ fn all_follows(rt: &HostRuntime, gone: &SectionSet) -> bool {
     }
 }
 
-/// Whether all follows where strip removes sections of an image.
-fn follows_in(rt: &HostRuntime, bytes: Octets) -> bool {
-    let alloc = rt.alloc();
-    match source(alloc, bytes, 0) {
-        Ok(src) => match Elf::begin(alloc, src) {
-            Ok(mut elf) => {
-                let follows = match removed(alloc, &mut elf, false, &Args::new(alloc)) {
-                    Ok(gone) => all_follows(rt, &gone),
-                    Err(e) => failed(rt, e),
-                };
-                let _src = elf.end();
-                follows
-            }
-            Err((_src, e)) => failed(rt, e),
-        },
+/// Whether all follows where strip removes sections of an object.
+fn follows_in<S: Source>(rt: &HostRuntime, elf: &mut Elf<S>) -> bool {
+    match removed(rt.alloc(), elf, false, &Args::new(rt.alloc())) {
+        Ok(gone) => all_follows(rt, &gone),
+        Err(e) => failed(rt, e),
+    }
+}
+
+/// Whether it does over a source.
+fn follows_over<S: Source + Drop>(rt: &HostRuntime, src: S) -> bool {
+    match Elf::begin(rt.alloc(), src) {
+        Ok(mut elf) => {
+            let follows = follows_in(rt, &mut elf);
+            let _src = elf.end();
+            follows
+        }
+        Err((_src, e)) => failed(rt, e),
+    }
+}
+
+/// Whether it does in an image of these bytes.
+fn follows_of(rt: &HostRuntime, bytes: Octets) -> bool {
+    match source(rt.alloc(), bytes, 0) {
+        Ok(src) => follows_over(rt, src),
         Err(e) => failed(rt, e),
     }
 }
@@ -160,7 +184,7 @@ fn follows_in(rt: &HostRuntime, bytes: Octets) -> bool {
 #[test]
 fn what_stays_follows_the_new_numbers(rt: HostRuntime) {
     let follows = match bytes_in(rt.alloc(), WIDE) {
-        Ok(bytes) => follows_in(&rt, bytes),
+        Ok(bytes) => follows_of(&rt, bytes),
         Err(e) => failed(&rt, e),
     };
     assert!(rt; follows);

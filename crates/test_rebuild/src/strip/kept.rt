@@ -1,5 +1,6 @@
 //! The extended indexes and the names of the sections that are kept.
 
+use crate::stream::sharing::is_shared;
 use crate::strip::removed::{bytes_in, bytes_linked};
 use elf_descriptor::Elf;
 use elf_outside::Source;
@@ -8,9 +9,8 @@ use rebuild_names::build_names;
 use rebuild_numbers::kept::{extended_tables, renews_names};
 use rebuild_select::{SectionSet, removed, removed_by_name};
 use std::alloc::Global;
-use strtab_shared::bytes::SharedBytes;
 use test_kit_images::{ClassAndOrder, NARROW, WIDE};
-use test_kit_rows::{failed, same, same_bytes, same_items};
+use test_kit_rows::{failed, same, same_items};
 use test_kit_sources::source;
 use tool_text::Args;
 
@@ -38,14 +38,6 @@ const ALL_NAMES: &[u8] = b"\0.text\0.debug_line_str\0mine\0.line\0";
 
 /// The place of each section's name in that table.
 const ALL_PLACES: [u32; 16] = [0, 1, 7, 0, 0, 0, 0, 0, 0, 0, 0, 23, 28, 7, 28, 0];
-
-/// Whether shared bytes are those of a table.
-fn is_shared(rt: &HostRuntime, bytes: &SharedBytes, table: &[u8]) -> bool {
-    match bytes.to_octets(rt.alloc()) {
-        Ok(bytes) => same_bytes(rt, bytes.as_slice(), table),
-        Err(e) => failed(rt, e),
-    }
-}
 
 /// Whether the table of the names is rebuilt as this one, and the names have these places.
 fn has_names<S: Source>(
@@ -100,17 +92,22 @@ fn answer_on<S: Source>(rt: &HostRuntime, elf: &mut Elf<S>, asked: Asked) -> boo
     }
 }
 
+/// Whether it is so of the image of a source.
+fn answer_over<S: Source + Drop>(rt: &HostRuntime, src: S, asked: Asked) -> bool {
+    match Elf::begin(rt.alloc(), src) {
+        Ok(mut elf) => {
+            let answer = answer_on(rt, &mut elf, asked);
+            let _src = elf.end();
+            answer
+        }
+        Err((_src, e)) => failed(rt, e),
+    }
+}
+
 /// Whether it is so of an image of these bytes.
 fn answer_of(rt: &HostRuntime, bytes: Octets, asked: Asked) -> bool {
     match source(rt.alloc(), bytes, 0) {
-        Ok(src) => match Elf::begin(rt.alloc(), src) {
-            Ok(mut elf) => {
-                let answer = answer_on(rt, &mut elf, asked);
-                let _src = elf.end();
-                answer
-            }
-            Err((_src, e)) => failed(rt, e),
-        },
+        Ok(src) => answer_over(rt, src, asked),
         Err(e) => failed(rt, e),
     }
 }

@@ -1,14 +1,16 @@
 //! Which sections strip and copy remove.
 
 use elf_descriptor::Elf;
-use elf_outside::Source;
+use elf_outside::{MemSource, Source};
 use elf_types::constants::{
     SHF_ALLOC, SHT_PROGBITS, SHT_RELA, SHT_STRTAB, SHT_SYMTAB, SHT_SYMTAB_SHNDX,
 };
 use elf_types::{ElfError, NULL_SECTION, Octets, Shdr};
 use rebuild_select::{SectionSet, removed, removed_by_name};
 use std::alloc::Global;
-use test_kit_images::{ClassAndOrder, Content, ImageStart, NARROW, Put, Recipe, WIDE, image_in};
+use test_kit_images::{
+    BuiltImage, ClassAndOrder, Content, ImageStart, NARROW, Put, Recipe, WIDE, image_in,
+};
 use test_kit_rows::{failed, in_row, other, same, within};
 use test_kit_sources::source;
 use tool_text::Args;
@@ -68,15 +70,22 @@ fn section(row: &(u32, u32, u64, u32, u32)) -> Shdr {
     }
 }
 
+/// Puts the names and the section headers, of which that of section 15 links to another one.
+fn put_parts(image: &mut BuiltImage, link: u32) -> Result<(), ElfError> {
+    for (i, row) in SECTIONS.iter().enumerate() {
+        image.put_section(i as u64 + 1, &section(row))?;
+    }
+    image.put_section(15, &section(&(SHT_STRTAB, 0, 0, link, 0)))?;
+    image.put(&Put::Home(12, Content::Bytes(NAMES)))
+}
+
 /// The bytes of the image in a form, where section 15 links to another one.
 pub fn bytes_linked(alloc: Global, form: ClassAndOrder, link: u32) -> Result<Octets, ElfError> {
     let mut image = image_in(alloc, form, &EMPTY)?;
-    for (i, row) in SECTIONS.iter().enumerate() {
-        image.put(&Put::Section(i as u64 + 1, section(row)))?;
+    match put_parts(&mut image, link) {
+        Ok(()) => Ok(image.bytes),
+        Err(e) => Err(e),
     }
-    image.put(&Put::Section(15, section(&(SHT_STRTAB, 0, 0, link, 0))))?;
-    image.put(&Put::Home(12, Content::Bytes(NAMES)))?;
-    Ok(image.bytes)
 }
 
 /// The bytes of the image in a form.
@@ -137,14 +146,19 @@ fn removed_by<S: Source>(
     }
 }
 
+/// Whether a row removes what it should, by the names that are given.
+fn removes<S: Source>(rt: &HostRuntime, elf: &mut Elf<S>, row: &Row, names: &Args) -> bool {
+    match removed_by(rt.alloc(), elf, row, names) {
+        Ok(set) => has_just(rt, &set, row.2),
+        Err(e) => failed(rt, e),
+    }
+}
+
 /// Whether a row removes what it should.
 fn is_removed<S: Source>(rt: &HostRuntime, elf: &mut Elf<S>, row: &Row) -> bool {
     let mut names = Args::new(rt.alloc());
-    if let Err(e) = names.add(row.1) {
-        return failed(rt, e);
-    }
-    match removed_by(rt.alloc(), elf, row, &names) {
-        Ok(set) => has_just(rt, &set, row.2),
+    match names.add(row.1) {
+        Ok(()) => removes(rt, elf, row, &names),
         Err(e) => failed(rt, e),
     }
 }
@@ -159,21 +173,30 @@ fn are_removed<S: Source>(rt: &HostRuntime, elf: &mut Elf<S>) -> bool {
     true
 }
 
+/// Whether the sections of all rows are removed over a source.
+fn are_removed_over<S: Source + Drop>(rt: &HostRuntime, src: S) -> bool {
+    match Elf::begin(rt.alloc(), src) {
+        Ok(mut elf) => {
+            let removed = are_removed(rt, &mut elf);
+            let _src = elf.end();
+            removed
+        }
+        Err((_src, e)) => failed(rt, e),
+    }
+}
+
+/// A source of the image in a form, of which the read of a number fails, or none where that is 0.
+fn source_in(alloc: Global, form: ClassAndOrder, bad_read: u64) -> Result<MemSource, ElfError> {
+    match bytes_in(alloc, form) {
+        Ok(bytes) => source(alloc, bytes, bad_read),
+        Err(e) => Err(e),
+    }
+}
+
 /// Whether the sections of all rows are removed over the image in a form.
 fn are_removed_in(rt: &HostRuntime, form: ClassAndOrder) -> bool {
-    let src = match bytes_in(rt.alloc(), form) {
-        Ok(bytes) => source(rt.alloc(), bytes, 0),
-        Err(e) => Err(e),
-    };
-    match src {
-        Ok(src) => match Elf::begin(rt.alloc(), src) {
-            Ok(mut elf) => {
-                let removed = are_removed(rt, &mut elf);
-                let _src = elf.end();
-                removed
-            }
-            Err((_src, e)) => failed(rt, e),
-        },
+    match source_in(rt.alloc(), form, 0) {
+        Ok(src) => are_removed_over(rt, src),
         Err(e) => failed(rt, e),
     }
 }
@@ -184,29 +207,35 @@ fn sections_go_with_those_that_they_serve(rt: HostRuntime) {
     assert!(rt; are_removed_in(&rt, NARROW));
 }
 
+/// Whether a failed read is told.
+fn is_told<S: Source>(rt: &HostRuntime, elf: &mut Elf<S>) -> bool {
+    match removed_by_name(rt.alloc(), elf, &Args::new(rt.alloc())) {
+        Ok(_) => other(rt, &"a set of sections", "a failed read"),
+        Err(e) => same(rt, &e, &ElfError::Read),
+    }
+}
+
+/// Whether it is told over a source.
+fn is_told_over<S: Source + Drop>(rt: &HostRuntime, src: S) -> bool {
+    match Elf::begin(rt.alloc(), src) {
+        Ok(mut elf) => {
+            let told = is_told(rt, &mut elf);
+            let _src = elf.end();
+            told
+        }
+        Err((_src, e)) => failed(rt, e),
+    }
+}
+
 /// Whether a read that fails is told: the tables are read, and then the names.
-fn is_told(rt: &HostRuntime, bytes: Octets) -> bool {
-    match source(rt.alloc(), bytes, 4) {
-        Ok(src) => match Elf::begin(rt.alloc(), src) {
-            Ok(mut elf) => {
-                let told = match removed_by_name(rt.alloc(), &mut elf, &Args::new(rt.alloc())) {
-                    Ok(_) => other(rt, &"a set of sections", "a failed read"),
-                    Err(e) => same(rt, &e, &ElfError::Read),
-                };
-                let _src = elf.end();
-                told
-            }
-            Err((_src, e)) => failed(rt, e),
-        },
+fn is_fault_told(rt: &HostRuntime) -> bool {
+    match source_in(rt.alloc(), WIDE, 4) {
+        Ok(src) => is_told_over(rt, src),
         Err(e) => failed(rt, e),
     }
 }
 
 #[test]
 fn names_that_cannot_be_read_stop_it(rt: HostRuntime) {
-    let told = match bytes_in(rt.alloc(), WIDE) {
-        Ok(bytes) => is_told(&rt, bytes),
-        Err(e) => failed(&rt, e),
-    };
-    assert!(rt; told);
+    assert!(rt; is_fault_told(&rt));
 }
