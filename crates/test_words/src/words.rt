@@ -68,11 +68,16 @@ fn is_as_told<C: Comparison>(rt: &HostRuntime, read: &Reading, line: &str, wante
     C::holds(read, wanted) || within(rt, &line, other(rt, &outcome_of(read), wanted))
 }
 
+/// Whether the words of a line are read as the text tells. It says what they are read as where not.
+fn are_told<C: Comparison>(rt: &HostRuntime, words: &Args, line: &str, wanted: &str) -> bool {
+    is_as_told::<C>(rt, &reading_of(rt.alloc(), words), line, wanted)
+}
+
 /// Whether a line is read as the text tells. It says what it is read as where not.
 fn is_read_as<C: Comparison>(rt: &HostRuntime, line: &str, wanted: &str) -> bool {
     let mut words = Args::new(rt.alloc());
     match put_words(&mut words, line) {
-        Ok(()) => is_as_told::<C>(rt, &reading_of(rt.alloc(), &words), line, wanted),
+        Ok(()) => are_told::<C>(rt, &words, line, wanted),
         Err(e) => failed(rt, e),
     }
 }

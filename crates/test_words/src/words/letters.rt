@@ -54,15 +54,16 @@ fn put_line(line: &mut String, before: &str, letter: char, after: &str) -> Resul
     Ok(())
 }
 
+/// Whether words are read as a command.
+fn is_command(rt: &HostRuntime, words: &Args) -> bool {
+    reading_of(rt.alloc(), words).is_ok()
+}
+
 /// Whether a line is read as a command, or else rejected.
 fn is_read(rt: &HostRuntime, line: &str, wanted: bool) -> bool {
     let mut words = Args::new(rt.alloc());
     match put_words(&mut words, line) {
-        Ok(()) => within(
-            rt,
-            &line,
-            same(rt, &reading_of(rt.alloc(), &words).is_ok(), &wanted),
-        ),
+        Ok(()) => within(rt, &line, same(rt, &is_command(rt, &words), &wanted)),
         Err(e) => failed(rt, e),
     }
 }
