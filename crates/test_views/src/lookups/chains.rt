@@ -41,7 +41,7 @@ const WHOLE: Hashes = Hashes {
 /// The words of a section of type `SHT_HASH`, a name, and what it finds.
 type WordsRow = (&'static [u32], &'static [u8], Found);
 
-const WORDS_ROWS: [WordsRow; 13] = [
+static WORDS_ROWS: [WordsRow; 13] = [
     (CHAIN, b"printf", Found::At(5)),
     (CHAIN, b"hidden", Found::Nowhere),
     (CHAIN, b"", Found::Nowhere),
@@ -87,7 +87,7 @@ const WORDS_ROWS: [WordsRow; 13] = [
 /// 24, and its chain words from 28 on.
 type BytesRow = (Hashes, Found);
 
-const BYTES_ROWS: [BytesRow; 19] = [
+static BYTES_ROWS: [BytesRow; 19] = [
     (WHOLE, Found::At(5)),
     // one of the two bits is clear
     (
@@ -217,8 +217,8 @@ impl Question for ByBytes<'_> {
 }
 
 /// Whether each row of words is answered in a form.
-fn words_are_answered(rt: &HostRuntime, form: ClassAndOrder) -> bool {
-    for (n, row) in WORDS_ROWS.iter().enumerate() {
+fn words_are_answered(rt: &HostRuntime, rows: &[WordsRow], form: ClassAndOrder) -> bool {
+    for (n, row) in rows.iter().enumerate() {
         if !in_row(rt, n, is_answered(rt, &ByWords(row), form)) {
             return false;
         }
@@ -227,8 +227,8 @@ fn words_are_answered(rt: &HostRuntime, form: ClassAndOrder) -> bool {
 }
 
 /// Whether each row of bytes is answered in class 64.
-fn bytes_are_answered(rt: &HostRuntime) -> bool {
-    for (n, row) in BYTES_ROWS.iter().enumerate() {
+fn bytes_are_answered(rt: &HostRuntime, rows: &[BytesRow]) -> bool {
+    for (n, row) in rows.iter().enumerate() {
         if !in_row(rt, n, is_answered(rt, &ByBytes(row), WIDE)) {
             return false;
         }
@@ -238,13 +238,13 @@ fn bytes_are_answered(rt: &HostRuntime) -> bool {
 
 #[test]
 fn a_chain_of_words_is_walked_to_its_end(rt: HostRuntime) {
-    assert!(rt; words_are_answered(&rt, WIDE));
-    assert!(rt; words_are_answered(&rt, NARROW));
+    assert!(rt; words_are_answered(&rt, &WORDS_ROWS, WIDE));
+    assert!(rt; words_are_answered(&rt, &WORDS_ROWS, NARROW));
 }
 
 #[test]
 fn a_chain_of_bytes_is_walked_to_its_end(rt: HostRuntime) {
-    assert!(rt; bytes_are_answered(&rt));
+    assert!(rt; bytes_are_answered(&rt, &BYTES_ROWS));
 }
 
 /// Whether `printf` is found by bytes in class 32, the greatest byte first, whose bloom words have

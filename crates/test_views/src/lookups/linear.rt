@@ -13,7 +13,7 @@ type Row = (u32, &'static [u8], Result<Option<u64>, ElfError>);
 
 /// Of two symbols with a name the first is found. A local one, an undefined one, the empty name, a
 /// part of a name and names that have no end or are in no string are not.
-const ROWS: [Row; 10] = [
+static ROWS: [Row; 10] = [
     (2, b"printf", Ok(Some(5))),
     (2, b"hidden", Ok(None)),
     (2, b"missing", Ok(None)),
@@ -44,6 +44,16 @@ fn is_found<S: Source>(rt: &HostRuntime, elf: &mut Elf<S>, row: &Row) -> bool {
     same(rt, &find_linear(elf, ScnId(row.0), row.1), &row.2)
 }
 
+/// Whether all rows are as they are found.
+fn are_found<S: Source>(rt: &HostRuntime, elf: &mut Elf<S>, rows: &[Row]) -> bool {
+    for (n, row) in rows.iter().enumerate() {
+        if !in_row(rt, n, is_found(rt, elf, row)) {
+            return false;
+        }
+    }
+    true
+}
+
 /// All rows are as they are found.
 struct AllFound;
 
@@ -53,12 +63,7 @@ impl Question for AllFound {
     }
 
     fn is_answered<S: Source>(&self, rt: &HostRuntime, elf: &mut Elf<S>) -> bool {
-        for (n, row) in ROWS.iter().enumerate() {
-            if !in_row(rt, n, is_found(rt, elf, row)) {
-                return false;
-            }
-        }
-        true
+        are_found(rt, elf, &ROWS)
     }
 }
 

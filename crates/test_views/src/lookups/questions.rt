@@ -2,7 +2,7 @@
 //! over sources that tell their bytes and over those that do not.
 
 use elf_descriptor::Elf;
-use elf_outside::Source;
+use elf_outside::{MemSource, Source};
 use elf_types::constants::{
     SHN_ABS, SHT_GNU_HASH, SHT_HASH, SHT_STRTAB, SHT_SYMTAB, STB_GLOBAL, STB_LOCAL, STB_WEAK,
 };
@@ -102,8 +102,11 @@ fn put_words(
     at: u64,
     words: &[u32],
 ) -> Result<u64, ElfError> {
-    image.put_items(at, &Items::Word(Words::from_slice(alloc, words)?))?;
-    Ok(at.saturating_add((words.len() as u64).saturating_mul(4)))
+    let items = Items::Word(Words::from_slice(alloc, words)?);
+    match image.put_items(at, &items) {
+        Ok(()) => Ok(at.saturating_add((words.len() as u64).saturating_mul(4))),
+        Err(e) => Err(e),
+    }
 }
 
 /// Puts a bloom word at a place, and returns the place after it.
@@ -116,8 +119,11 @@ fn put_bloom(alloc: Global, image: &mut BuiltImage, at: u64, bloom: u64) -> Resu
         Class::C32 => bloom % 0x1_0000_0000,
         Class::C64 => bloom,
     };
-    image.put_items(at, &Items::Addr(Addrs::from_slice(alloc, &[word])?))?;
-    Ok(at.saturating_add(size))
+    let items = Items::Addr(Addrs::from_slice(alloc, &[word])?);
+    match image.put_items(at, &items) {
+        Ok(()) => Ok(at.saturating_add(size)),
+        Err(e) => Err(e),
+    }
 }
 
 /// Puts a hash section that links to the symbols into the table of section headers.
@@ -153,6 +159,14 @@ fn put_hashes(alloc: Global, image: &mut BuiltImage, h: &Hashes) -> Result<(), E
     put_hash(image, GNU, SHT_GNU_HASH, (gnu_at, h.size))
 }
 
+/// Puts the symbols at their place.
+fn put_symbol_items(alloc: Global, image: &mut BuiltImage) -> Result<(), ElfError> {
+    match symbols(alloc) {
+        Ok(items) => image.put_items(SYMBOLS_AT, &items),
+        Err(e) => Err(e),
+    }
+}
+
 /// Puts the symbols and their strings.
 fn put_tables(alloc: Global, image: &mut BuiltImage) -> Result<(), ElfError> {
     let strings = Shdr {
@@ -169,10 +183,16 @@ fn put_tables(alloc: Global, image: &mut BuiltImage) -> Result<(), ElfError> {
         ..NULL_SECTION
     };
     image.put_bytes(STRINGS_AT, STRINGS)?;
-    image.put_items(SYMBOLS_AT, &symbols(alloc)?)?;
+    put_symbol_items(alloc, image)?;
     image.put_section(0, &NULL_SECTION)?;
     image.put_section(1, &strings)?;
     image.put_section(2, &symbols_are)
+}
+
+/// Puts all parts of the image after its header.
+fn put_parts(alloc: Global, image: &mut BuiltImage, h: &Hashes) -> Result<(), ElfError> {
+    put_tables(alloc, image)?;
+    put_hashes(alloc, image, h)
 }
 
 /// The image.
@@ -184,9 +204,10 @@ fn image_with(alloc: Global, form: ClassAndOrder, h: &Hashes) -> Result<BuiltIma
         ..header_of(form.0, form.1)
     };
     let mut image = BuiltImage::new(alloc, header, [0; 7])?;
-    put_tables(alloc, &mut image)?;
-    put_hashes(alloc, &mut image, h)?;
-    Ok(image)
+    match put_parts(alloc, &mut image, h) {
+        Ok(()) => Ok(image),
+        Err(e) => Err(e),
+    }
 }
 
 /// A question on the image, with its result.
@@ -211,14 +232,23 @@ fn is_answered_over<Q: Question, S: Source>(rt: &HostRuntime, q: &Q, src: S) -> 
 
 /// How many bytes of a source in memory were asked for once a question was answered; none where it
 /// was not.
+fn asked_of<Q: Question>(rt: &HostRuntime, q: &Q, src: MemSource) -> Option<u64> {
+    let (src, answered) = is_answered_over(rt, q, src);
+    if answered { Some(src.asked()) } else { None }
+}
+
+/// How many bytes of an image in memory were asked for once a question was answered; none where it
+/// was not.
 pub fn bytes_requested<Q: Question>(
     rt: &HostRuntime,
     q: &Q,
     form: ClassAndOrder,
 ) -> Result<Option<u64>, ElfError> {
     let image = image_with(rt.alloc(), form, &q.hashes())?;
-    let (src, answered) = is_answered_over(rt, q, source(rt.alloc(), image.bytes, 0)?);
-    Ok(if answered { Some(src.asked()) } else { None })
+    match source(rt.alloc(), image.bytes, 0) {
+        Ok(src) => Ok(asked_of(rt, q, src)),
+        Err(e) => Err(e),
+    }
 }
 
 /// Whether a question is answered over a source that does not tell its bytes.
