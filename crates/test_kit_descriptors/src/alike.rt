@@ -1,10 +1,10 @@
 //! Descriptors that behave alike.
 
+use crate::beginning::opened_on;
 use elf_descriptor::{Elf, Held};
 use elf_outside::Source;
-use elf_types::{DataId, ElfError, Kind, LAYOUT, Octets, Part, ScnId};
+use elf_types::{DataId, ElfError, Kind, LAYOUT, Part, ScnId};
 use test_kit_rows::{failed, holds, other, same, same_bytes, within};
-use test_kit_sources::source;
 
 /// Whether two descriptors have the same headers.
 fn headers_agree<S: Source, F: Source>(rt: &HostRuntime, a: &Elf<S>, b: &Elf<F>) -> bool {
@@ -145,25 +145,23 @@ fn set_alike<S: Source, F: Source>(rt: &HostRuntime, elf: &mut Elf<F>, other: &E
     same(rt, &bits, &0)
 }
 
+/// Whether a descriptor behaves as another one that was opened on the bytes that it has.
+fn behaves_as<S: Source, F: Source>(
+    rt: &HostRuntime,
+    elf: &mut Elf<S>,
+    opened: &mut Elf<F>,
+) -> bool {
+    set_alike(rt, opened, elf)
+        && is_unread(rt, elf)
+        && all_agree(rt, elf, opened)
+        && all_data_agree(rt, elf, opened)
+}
+
 /// Whether a descriptor behaves as one that was opened on these bytes, but for the fill byte and
 /// the layout: nothing is marked, nothing is held, and then each section has its bytes and items.
 pub fn is_as_opened<S: Source>(rt: &HostRuntime, elf: &mut Elf<S>, bytes: &[u8]) -> bool {
-    let alloc = elf.alloc();
-    let bytes = match Octets::from_slice(alloc, bytes) {
-        Ok(bytes) => bytes,
-        Err(e) => return failed(rt, e),
-    };
-    let src = match source(alloc, bytes, 0) {
-        Ok(src) => src,
-        Err(e) => return failed(rt, e),
-    };
-    match Elf::begin(alloc, src) {
-        Ok(mut opened) => {
-            set_alike(rt, &mut opened, elf)
-                && is_unread(rt, elf)
-                && all_agree(rt, elf, &opened)
-                && all_data_agree(rt, elf, &mut opened)
-        }
-        Err((_src, e)) => failed(rt, e),
+    match opened_on(elf.alloc(), bytes) {
+        Ok(mut opened) => behaves_as(rt, elf, &mut opened),
+        Err(e) => failed(rt, e),
     }
 }

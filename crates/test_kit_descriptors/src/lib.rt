@@ -3,6 +3,7 @@
 #![tactic(auto)]
 
 mod alike;
+mod beginning;
 mod works;
 
 pub use alike::{

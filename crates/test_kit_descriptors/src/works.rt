@@ -2,14 +2,15 @@
 
 ghost use Rattle.std.specs.Prelude.{◌≡◌, length};
 
+use crate::beginning::opened_on;
 use elf_descriptor::Elf;
-use elf_outside::{Device, MemDevice, MemSource, Source};
+use elf_outside::{Device, MemDevice, Source};
 use elf_types::{Addrs, Class, Ehdr, ElfError, Octets};
 use elf_xlate::{ehdr_size, phdr_size, shdr_size};
 use std::alloc::Global;
 use test_kit_images::{BuiltImage, ClassAndOrder, FORMS, Recipe, image_in};
 use test_kit_rows::{failed, in_row, same, same_bytes, within};
-use test_kit_sources::{Hidden, source};
+use test_kit_sources::Hidden;
 
 /// The calls of a device that fail, by their numbers from 1; none where there is a 0.
 #[derive(Clone, Copy)]
@@ -116,14 +117,6 @@ fn done_beside<W: DescriptorWork, D: Device, F: Source>(
     }
 }
 
-/// A source of the bytes of an image.
-fn source_of(alloc: Global, image: &BuiltImage) -> Result<MemSource, ElfError> {
-    match Octets::from_slice(alloc, image.bytes.as_slice()) {
-        Ok(bytes) => source(alloc, bytes, 0),
-        Err(e) => Err(e),
-    }
-}
-
 /// Whether work is done over a device that has the bytes of an image, beside a descriptor over a
 /// source of them; the device comes back.
 pub fn done_over<W: DescriptorWork, D: Device>(
@@ -132,13 +125,9 @@ pub fn done_over<W: DescriptorWork, D: Device>(
     device: D,
     image: &mut BuiltImage,
 ) -> (D, bool) {
-    let other = match source_of(rt.alloc(), image) {
-        Ok(other) => other,
-        Err(e) => return (device, failed(rt, e)),
-    };
-    match Elf::begin(rt.alloc(), other) {
+    match opened_on(rt.alloc(), image.bytes.as_slice()) {
         Ok(mut fresh) => done_beside(rt, work, device, &mut fresh, image),
-        Err((_other, e)) => (device, failed(rt, e)),
+        Err(e) => (device, failed(rt, e)),
     }
 }
 
