@@ -12,6 +12,8 @@ mod elflint;
 #[cfg(test)]
 mod faults;
 #[cfg(test)]
+mod letters;
+#[cfg(test)]
 mod lines;
 #[cfg(test)]
 mod nm;
