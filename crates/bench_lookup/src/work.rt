@@ -34,20 +34,27 @@ pub struct LookupTask {
 /// What the words after the program's name ask for, or None where they are not of the form of
 /// `LOOKUP_USAGE`.
 pub fn read_lookup_task(mut words: Args) -> Option<LookupTask> {
-    let _program = words.next()?;
-    let what = read_what(words.next()?.as_str())?;
-    let rounds = words.next()?.as_str().parse().ok()?;
-    let file = words.next()?;
-    let name = words.next()?;
-    if words.next().is_some() {
-        return None;
+    let task = read_words(&mut words)?;
+    match words.next() {
+        Some(_) => None,
+        None => Some(task),
     }
+}
+
+/// What the words up to the name of the symbol ask for.
+fn read_words(words: &mut Args) -> Option<LookupTask> {
+    let _program = words.next()?;
     Some(LookupTask {
-        what,
-        rounds,
-        file,
-        name,
+        what: read_what(words.next()?.as_str())?,
+        rounds: read_number(words)?,
+        file: words.next()?,
+        name: words.next()?,
     })
+}
+
+/// The number that the next word names.
+fn read_number(words: &mut Args) -> Option<u32> {
+    words.next()?.as_str().parse().ok()
 }
 
 /// What a word names.
