@@ -43,14 +43,18 @@ fn put_words(words: &mut Args, line: &str) -> Result<(), ElfError> {
     Ok(())
 }
 
-/// What words are read as.
+/// What words are read as. Whoever gets it ends by `drop`: one call is cheaper to prove than what it
+/// takes to release each of the commands.
 fn reading_of(alloc: Global, words: &Args) -> Reading {
     read_words(alloc, words)
 }
 
 /// Whether words are read as the text tells. It says nothing.
 fn are_read_as<C: Comparison>(alloc: Global, words: &Args, wanted: &str) -> bool {
-    C::holds(&reading_of(alloc, words), wanted)
+    let read = reading_of(alloc, words);
+    let holds = C::holds(&read, wanted);
+    drop(read);
+    holds
 }
 
 /// What a reading is, in a few words; where the arguments are rejected, the usage line that says so.
@@ -70,7 +74,10 @@ fn is_as_told<C: Comparison>(rt: &HostRuntime, read: &Reading, line: &str, wante
 
 /// Whether the words of a line are read as the text tells. It says what they are read as where not.
 fn are_told<C: Comparison>(rt: &HostRuntime, words: &Args, line: &str, wanted: &str) -> bool {
-    is_as_told::<C>(rt, &reading_of(rt.alloc(), words), line, wanted)
+    let read = reading_of(rt.alloc(), words);
+    let told = is_as_told::<C>(rt, &read, line, wanted);
+    drop(read);
+    told
 }
 
 /// Whether a line is read as the text tells. It says what it is read as where not.

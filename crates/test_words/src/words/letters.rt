@@ -56,7 +56,10 @@ fn put_line(line: &mut String, before: &str, letter: char, after: &str) -> Resul
 
 /// Whether words are read as a command.
 fn is_command(rt: &HostRuntime, words: &Args) -> bool {
-    reading_of(rt.alloc(), words).is_ok()
+    let read = reading_of(rt.alloc(), words);
+    let is_command = read.is_ok();
+    drop(read);
+    is_command
 }
 
 /// Whether a line is read as a command, or else rejected.
