@@ -5,7 +5,7 @@ ghost use Rattle.rebuild_changes.specs.Stated.{HasPlainNames};
 use crate::copy::asked::{CopyQuestion, copy_answers};
 use crate::copy::changes::{bytes_and_flags, of_each_kind};
 use crate::copy::images::{EXECUTABLE, LINKED};
-use elf_copy::{ChangeLists, CopyFault, copy_of};
+use elf_copy::{ChangeLists, CopyFault, Rebuilt, copy_of};
 use elf_descriptor::Elf;
 use elf_outside::Source;
 use elf_types::ElfError;
@@ -66,6 +66,19 @@ static ROWS: [Row; 5] = [
     (b".data", b"x", b".text", 0, Fault::Fixed, b".text"),
 ];
 
+/// Whether there is no copy, for that fault.
+fn is_no_copy(
+    rt: &HostRuntime,
+    copy: &Result<Rebuilt, CopyFault>,
+    wanted: Fault,
+    name: &[u8],
+) -> bool {
+    match copy {
+        Ok(_) => other(rt, &"a copy", "a fault"),
+        Err(fault) => is_fault(rt, fault, wanted, name),
+    }
+}
+
 /// Whether changes end in a fault.
 fn is_refused<S: Source>(
     rt: &HostRuntime,
@@ -79,10 +92,8 @@ fn is_refused<S: Source>(
     if elf.dirty() {
         return other(rt, &"a dirty object", "one that is as it was opened");
     }
-    match copy_of(rt.alloc(), elf, changes) {
-        Ok(_) => other(rt, &"a copy", "a fault"),
-        Err(fault) => is_fault(rt, &fault, wanted, name),
-    }
+    let copy = copy_of(rt.alloc(), elf, changes);
+    is_no_copy(rt, &copy, wanted, name)
 }
 
 /// Whether the changes of a row are rejected by its fault.

@@ -129,16 +129,26 @@ fn are_followed<S: Source, T: Source>(
     same(rt, &elf.newphdr(2), &Ok(())) && are_added(rt, made) && follow_in(rt, elf, made)
 }
 
-/// Whether an object gets the program headers and the header of another one.
+/// Whether a new object gets the program headers and the header of another one.
+fn is_followed_by_new<S: Source>(rt: &HostRuntime, elf: &mut Elf<S>) -> bool {
+    let mut made = Elf::create(rt.alloc(), Class::C64, Order::Least);
+    are_followed(rt, elf, &mut made)
+}
+
+/// Whether it gets those of an object that is new too.
 fn is_followed(rt: &HostRuntime) -> bool {
     let mut elf = Elf::create(rt.alloc(), Class::C64, Order::Least);
-    let mut made = Elf::create(rt.alloc(), Class::C64, Order::Least);
-    are_followed(rt, &mut elf, &mut made)
+    is_followed_by_new(rt, &mut elf)
 }
 
 #[test]
 fn program_headers_and_the_header_follow(rt: HostRuntime) {
     assert!(rt; is_followed(&rt));
+}
+
+/// Whether an object has so many base bytes and no section.
+fn has_base_alone<S: Source>(rt: &HostRuntime, made: &Elf<S>, n: u64) -> bool {
+    same(rt, &(made.base_len(), made.shnum()), &(n, 0))
 }
 
 /// Whether an object is created over the first bytes of another one.
@@ -147,7 +157,7 @@ fn is_created_over<S: Source>(rt: &HostRuntime, elf: &mut Elf<S>, n: u64) -> boo
         return other(rt, &elf.base_len(), "a longer base");
     }
     match create_over_base(rt.alloc(), elf, Some(n)) {
-        Ok(made) => same(rt, &(made.base_len(), made.shnum()), &(n, 0)),
+        Ok(made) => has_base_alone(rt, &made, n),
         Err(e) => failed(rt, e),
     }
 }
