@@ -29,6 +29,12 @@ mask_is f p v z short fits lanes all =
 
 -- ---- Bits in a row
 
+pub begin_one : (m : ℕ) → BeginRuns m 1 m
+begin_one m i = (
+  λ set j early. subst (λ x. bit_at m x ≡ 1) (let e : i ≡ i + j = omega (arith, early) in e) set,
+  λ all. subst (λ x. bit_at m x ≡ 1) (let e : i + 0 ≡ i = omega arith in e) (all 0 (omega arith)),
+)
+
 pub begin_more : (m n k s : ℕ) → BeginRuns m n s → k ≤ n → BeginRuns m (n + k) (bit_and s (s / 2 ^ k))
 begin_more m n k s runs le i =
     let both = bit_at_and s (s / 2 ^ k) i in

@@ -34,14 +34,26 @@ fn printable_mask(bytes: &[u8]) -> u64
     shown.to_bitmask()
 }
 
+/// The places at which four set bits begin, one after another.
+#[inline(always)]
+fn four_starts(mask: u64) -> u64
+    ensures { BeginRuns mask 4 result }
+{
+    let pairs = mask & (mask >> 1);
+    pairs & (pairs >> 2)
+}
+
 /// The places at which so many set bits begin, one after another. What is known of some bits is
 /// joined with what is known of as many after them, so the number of steps is that of the digits of
-/// `count`.
+/// `count`. Four are usual, and have no loop.
 #[inline(always)]
 fn run_starts(mask: u64, count: usize) -> u64
     requires { (0 < count) × (count ≤ LANES) }
     ensures { BeginRuns mask count result }
 {
+    if count == 4 {
+        return four_starts(mask);
+    }
     let mut starts = mask;
     let mut known = 1;
     while known < count {
