@@ -69,7 +69,11 @@ fn run_words<F: Files, O: Sink, E: Sink>(
         result files.old files.new outputs.old outputs.new }
 {
     match read_words(alloc, words) {
-        Ok(request) => run_request(alloc, &request, files, outputs),
+        Ok(request) => {
+            let ended = run_request(alloc, &request, files, outputs);
+            drop(request);
+            ended
+        }
         Err(WordsFault::Usage(usage)) => {
             say(outputs, usage.line())?;
             Ok(Status::BadWords)
