@@ -93,7 +93,10 @@ fn is_refused<S: Source>(
         return other(rt, &"a dirty object", "one that is as it was opened");
     }
     let copy = copy_of(rt.alloc(), elf, changes);
-    is_no_copy(rt, &copy, wanted, name)
+    let refused = is_no_copy(rt, &copy, wanted, name);
+    // one call, which is cheaper to prove than what it takes to release a copy or a fault
+    drop(copy);
+    refused
 }
 
 /// Whether the changes of a row are rejected by its fault.

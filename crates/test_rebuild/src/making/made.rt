@@ -157,7 +157,11 @@ fn is_created_over<S: Source>(rt: &HostRuntime, elf: &mut Elf<S>, n: u64) -> boo
         return other(rt, &elf.base_len(), "a longer base");
     }
     match create_over_base(rt.alloc(), elf, Some(n)) {
-        Ok(made) => has_base_alone(rt, &made, n),
+        Ok(made) => {
+            let so = has_base_alone(rt, &made, n);
+            drop(made);
+            so
+        }
         Err(e) => failed(rt, e),
     }
 }
