@@ -1,5 +1,5 @@
-//! What nm shows: the names before its rows, their order, and what has none. `letters` has the forms
-//! of the rows and their letters.
+//! What nm shows: the names before its rows, their order, and what has none. `letters` has the
+//! forms of the rows and their letters.
 
 use crate::archives::{BACK, CUT_ARCHIVE, FRONT, LIBRARY};
 use elf_types::constants::{SHT_STRTAB, SHT_SYMTAB, SHT_SYMTAB_SHNDX};
