@@ -43,8 +43,8 @@ fn put_words(words: &mut Args, line: &str) -> Result<(), ElfError> {
     Ok(())
 }
 
-/// What words are read as. Whoever gets it ends by `drop`: one call is cheaper to prove than what it
-/// takes to release each of the commands.
+/// What words are read as. Whoever gets it ends by `drop`: one call is cheaper to prove than what
+/// it takes to release each of the commands.
 fn reading_of(alloc: Global, words: &Args) -> Reading {
     read_words(alloc, words)
 }
