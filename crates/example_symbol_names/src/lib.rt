@@ -25,7 +25,7 @@ fn put_name<K: Sink>(out: &mut K, name: &[u8]) -> Result<(), ElfError> {
 }
 
 /// Puts the name of a symbol, and leaves the object. A name that has no end in its string table, or
-/// lies outside it, is passed over; every other error comes back.
+/// lies outside it, is passed over; every other refusal comes back.
 fn list_symbol<S: Source, K: Sink>(
     elf: &mut Elf<S>,
     names: ScnId,
@@ -43,8 +43,8 @@ fn list_symbol<S: Source, K: Sink>(
     }
 }
 
-/// Puts the name of each symbol of a symbol table but the first, and leaves the object. It
-/// ends at the first error of `list_symbol`.
+/// Puts the name of each symbol of a symbol table but the first, and leaves the object. What
+/// `list_symbol` does not pass over ends it.
 fn list_table<S: Source, K: Sink>(
     elf: &mut Elf<S>,
     table: ScnId,
@@ -63,28 +63,24 @@ fn list_table<S: Source, K: Sink>(
     Ok(())
 }
 
-/// Puts the names of the symbols of each symbol table, and ends at the first error.
-fn list_tables<S: Source, K: Sink>(elf: &mut Elf<S>, out: &mut K) -> Result<(), ElfError> {
-    for s in 0..elf.shnum() {
-        if elf.shdr(ScnId(s))?.stype == SHT_SYMTAB {
-            list_table(elf, ScnId(s), out)?;
-        }
-    }
-    Ok(())
-}
-
 /// Puts the names of an image's symbols on a sink, a line each, and gives the source back.
 pub fn list_names<S: Source, K: Sink>(
     alloc: Global,
     src: S,
     out: &mut K,
 ) -> (S, Result<(), ElfError>) {
-    match Elf::begin(alloc, src) {
-        Ok(mut elf) => {
-            let listed = list_tables(&mut elf, out);
-            (elf.end(), listed)
-        }
+    let mut elf = match Elf::begin(alloc, src) {
+        Ok(elf) => elf,
         // no image, or no memory, or a failed read: nothing was changed, and the source comes back
-        Err((src, e)) => (src, Err(e)),
+        Err((src, e)) => return (src, Err(e)),
+    };
+    let mut listed = Ok(());
+    for s in 0..elf.shnum() {
+        if let Ok(header) = elf.shdr(ScnId(s)) {
+            if header.stype == SHT_SYMTAB && listed.is_ok() {
+                listed = list_table(&mut elf, ScnId(s), out);
+            }
+        }
     }
+    (elf.end(), listed)
 }
