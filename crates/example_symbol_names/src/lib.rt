@@ -24,27 +24,8 @@ fn put_name<K: Sink>(out: &mut K, name: &[u8]) -> Result<(), ElfError> {
     Ok(())
 }
 
-/// Puts the name of a symbol, and leaves the object. A name that has no end in its string table, or
-/// lies outside it, is passed over; every other refusal comes back.
-fn list_symbol<S: Source, K: Sink>(
-    elf: &mut Elf<S>,
-    names: ScnId,
-    symbols: DataId,
-    i: u64,
-    out: &mut K,
-) -> Result<(), ElfError>
-    ensures { elf.new.o ≡ elf.old.o }
-{
-    let symbol = sym(elf, symbols, i)?;
-    match strptr(elf, names, u64::from(symbol.name)) {
-        Ok(name) => put_name(out, name),
-        Err(ElfError::NoString { .. } | ElfError::Unended { .. }) => Ok(()),
-        Err(e) => Err(e),
-    }
-}
-
-/// Puts the name of each symbol of a symbol table but the first, and leaves the object. What
-/// `list_symbol` does not pass over ends it.
+/// Puts the name of each symbol of a symbol table but the first, and leaves the object. A name that
+/// has no end in its string table, or lies outside it, is passed over; every other refusal ends it.
 fn list_table<S: Source, K: Sink>(
     elf: &mut Elf<S>,
     table: ScnId,
@@ -58,7 +39,12 @@ fn list_table<S: Source, K: Sink>(
         piece: 0,
     };
     for i in 1..item_count::<S, Sym>(elf, symbols)? {
-        list_symbol(elf, names, symbols, i, out)?;
+        let symbol = sym(elf, symbols, i)?;
+        match strptr(elf, names, u64::from(symbol.name)) {
+            Ok(name) => put_name(out, name)?,
+            Err(ElfError::NoString { .. } | ElfError::Unended { .. }) => {}
+            Err(e) => return Err(e),
+        }
     }
     Ok(())
 }
