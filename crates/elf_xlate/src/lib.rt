@@ -4,8 +4,8 @@
 //! Nothing here reads a source; the bytes and the form (class and order) are parameters.
 //!
 //! - `to_memory`: the items that bytes hold, as `Items` of a kind.
-//! - `to_file`: appends the bytes of items to a list.
-//! - `translate_in_place`: puts items from one byte order into the other.
+//! - `to_file`: appends the bytes of items to a list; `translate_in_place` puts items into the other
+//!   byte order where they are.
 //! - `fsize`: how many bytes so many items take, or None from 2^64 on.
 //! - `get_ehdr`: an ELF header of its bytes, `put_ehdr` its bytes; so `get_phdr`, `get_shdr` and
 //!   `put_phdr`, `put_shdr`.

@@ -97,8 +97,8 @@ fn arrange_held<S: Source>(
     }
 }
 
-/// Looks before that whether an object can be made of it. What can be made of none, which no image
-/// has, counts as out of memory.
+/// Looks before that whether an object can be made of it. What can be made of none counts as out of
+/// memory.
 fn arrange_ready<S: Source>(
     alloc: Global,
     elf: &mut Elf<S>,
