@@ -7,18 +7,18 @@ use Rattle.elfkit_run.proofs.program.run_words.Goals as goal
 
 pub returns-in-Ok-clause-does : goal.returns-in-Ok-clause-does
 unfolding program outcome_by opens_files
-returns-in-Ok-clause-does g c = rw c.in-Ok.ensures.value c.run_request.ensures.does
+returns-in-Ok-clause-does g c = rw c.in-Ok.ensures.value c.run_request-ended.ensures.does
 
 pub returns-in-Ok-clause-status : goal.returns-in-Ok-clause-status
-returns-in-Ok-clause-status g c = rw c.in-Ok.ensures.value c.run_request.ensures.status
+returns-in-Ok-clause-status g c = rw c.in-Ok.ensures.value c.run_request-ended.ensures.status
 
 pub returns-in-Ok-clause-untouched : goal.returns-in-Ok-clause-untouched
 unfolding opens_files
-returns-in-Ok-clause-untouched g c = rw c.in-Ok.ensures.value c.run_request.ensures.untouched
+returns-in-Ok-clause-untouched g c = rw c.in-Ok.ensures.value c.run_request-ended.ensures.untouched
 
 pub returns-in-Ok-clause-given : goal.returns-in-Ok-clause-given
 unfolding hands_to_writes
-returns-in-Ok-clause-given g c = rw c.in-Ok.ensures.value c.run_request.ensures.given
+returns-in-Ok-clause-given g c = rw c.in-Ok.ensures.value c.run_request-ended.ensures.given
 
 pub returns-in_ok-say-in-Err-Usage-clause-does : goal.returns-in_ok-say-in-Err-Usage-clause-does
 returns-in_ok-say-in-Err-Usage-clause-does g c = λ told.
