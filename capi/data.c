@@ -51,6 +51,7 @@ tie (struct elfkit_data *d, Elf *elf)
   d->elf = elf;
   d->is_64 = elf->class == ELFCLASS64;
   d->is_native = elf->order == NATIVE_ORDER;
+  d->has_form = d->is_64 && d->is_native;
 }
 
 struct elfkit_data *

@@ -69,10 +69,11 @@ static inline void *
 get_item (Elf_Data *data, Elf_Type type, int ndx, void *dst, size_t size)
 {
   const struct elfkit_data *d = data_of (data);
-  if (d == NULL || d->d.d_type != type || !d->is_64 || !d->is_native || ndx < 0
-      || d->d.d_buf == NULL || ((size_t) ndx + 1) * size > d->d.d_size)
+  const size_t at = (size_t) ndx * size;        /* no size is so great as a place below 0 */
+  if (d == NULL || d->d.d_type != type || !d->has_form || d->d.d_buf == NULL
+      || at + (size - 1) >= d->d.d_size)
     return other_item (data, type, ndx, dst, size);
-  memcpy (dst, (const uint8_t *) d->d.d_buf + (size_t) ndx * size, size);
+  memcpy (dst, (const uint8_t *) d->d.d_buf + at, size);
   check_item (d, ndx, dst, size);
   return dst;
 }

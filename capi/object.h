@@ -25,6 +25,7 @@ struct elfkit_data
   struct elfkit_data *next;     /* the next piece of the section */
   bool from_core;               /* the core's items are those of d_buf */
   bool is_64, is_native;        /* the class and the order of its image */
+  bool has_form;                /* both are those of the forms of gelf(3E) */
   uint8_t flags;
 };
 
