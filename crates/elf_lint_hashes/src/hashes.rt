@@ -42,7 +42,7 @@ impl SectionRule for Hashes {
 
     #[tactic(auto, unfolding(crate::specs::Hashes::is_broken_hash, crate::specs::Hashes::has_words_of_symbols))]
     fn finds<S: Source>(&self, elf: &mut Elf<S>, s: ScnId) -> Result<bool, Stop> {
-        if !is_plain(elf, s) || !is_hash_of_words(object_class(elf), &section_header(elf, s)) {
+        if !is_hash_of_words(object_class(elf), &section_header(elf, s)) || !is_plain(elf, s) {
             return Ok(false);
         }
         let Some(l) = linked_symbols(elf, s) else {
