@@ -1,7 +1,8 @@
 # Builds elfkit with the Rattle toolchain's command rt, which proves what it builds.
 #
 #   make                       the program build/elfkit, a line for each crate that is proved;
-#                              LANES=N proves N at a time, else one for each processor
+#                              LANES=N proves N at a time, else one for each processor;
+#                              CPU=x86-64-v3 compiles for newer processors, CPU=x86-64 for all again
 #   make try ARGS="ARGUMENTS"  the program without any proof, for a first look
 #   make test                  the gate: all proofs, tests and edits that must fail
 #   make edits                 the edits of crates/*/edits/, which the gate does not try
@@ -39,6 +40,18 @@ build/elfkit: crates.txt $(sources)
 	@tools/needs make
 	@tools/build elfkit
 	@rt version > build/kit
+
+# What was compiled for other processors is compiled again.
+ifdef CPU
+export CPU
+build/elfkit build/libelfkit.a: build/cpu
+endif
+
+build/cpu: FORCE
+	@mkdir -p build
+	@echo '$(CPU)' | cmp -s - $@ || echo '$(CPU)' > $@
+
+FORCE:
 
 # One line names what this machine lacks, with the package that has it.
 $(needs): needs-%:
