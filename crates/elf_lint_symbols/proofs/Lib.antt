@@ -1,4 +1,5 @@
 mod ItemLemmas
 mod ScanLemmas
+pub mod SoundLemmas
 mod TableLemmas
 mod RelocationLemmas

@@ -97,3 +97,25 @@ pub record IsCheckedSymbolTable (o : Object) (t : CheckedSymbolTable) : Type 0 w
   pub named : t.named ≡ is_string_table (linked_header o t.section.0)
   pub first_other : t.first_other ≡ (header_at o t.section.0).info
   pub sections : t.sections ≡ length o.sections
+
+-- ---- What the code looks for once an object
+
+-- a test holds of no symbol of a section that a rule looks at
+abbrev pub FindsNone : SymbolTest → Object → ℕ → Type 0
+FindsNone test o s = (number : ℕ) (text : List ℕ) → at_symbols_of number text test o s ≡ []
+
+-- the rules 21 to 25 find nothing at the symbols of a section
+pub record AreSoundSymbols (o : Object) (s : ℕ) : Type 0 where
+  pub first : symbol_0_of o s ≡ []
+  pub names : FindsNone has_no_name o s
+  pub late : FindsNone is_late_local o s
+  pub early : FindsNone is_early_other o s
+  pub sections : FindsNone is_of_no_section o s
+
+-- nor at those of any section
+pub record AllSymbolsSound (o : Object) : Type 0 where
+  pub first : symbol_0_in_use o ≡ []
+  pub names : unreadable_symbol_names o ≡ []
+  pub late : local_symbols_among_the_others o ≡ []
+  pub early : other_symbols_among_the_local o ≡ []
+  pub sections : symbols_of_no_section o ≡ []

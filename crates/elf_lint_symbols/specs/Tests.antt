@@ -1,7 +1,7 @@
 -- The tests of the rules 22 to 25 by what is known of a table, and of the end of its strings: no
 -- more of the object is looked at. The laws that they are those of the rules stand here, since the
 -- laws of an impl cannot name proofs/.
-use Rattle.std.proofs.Common.{◌≡◌, ℕ, ◌&&◌, ◌||◌, not, Bool, true, false, Option, Some, None, IfSome, refl, sym, ap, ◌∙◌, arith}
+use Rattle.std.proofs.Common.{◌≡◌, ◌==◌, ℕ, ◌&&◌, ◌||◌, not, Bool, true, false, Option, Some, None, IfSome, refl, sym, ap, ◌∙◌, arith}
 use Rattle.std.specs.Prelude.{nat_le, nat_lt, is_none, is_some}
 use Rattle.std.proofs.lemmas.Bool.{leb-true, ltb-true}
 use Rattle.elf_types.specs.declared.constants.TheConstants.{SHN_LORESERVE}
@@ -15,7 +15,7 @@ use Rattle.tool_objects.specs.AtHand.Items.{IsWithinSpan}
 use Rattle.tool_objects.specs.AtHand.Strings.{is_past, EndsAt}
 use Rattle.tool_objects.proofs.at_hand.Ends.{unreadable_test}
 use Rattle.elf_lint_symbols.specs.declared.by_symbol.CheckedSymbolTable.{CheckedSymbolTable}
-use Rattle.elf_lint_symbols.specs.Symbols.{SymbolTest, IsCheckedSymbolTable, has_no_name, is_late_local, is_early_other, is_of_no_section}
+use Rattle.elf_lint_symbols.specs.Symbols.{is_used, SymbolTest, IsCheckedSymbolTable, has_no_name, is_late_local, is_early_other, is_of_no_section}
 
 -- ---- The tests
 
@@ -45,6 +45,17 @@ is_before_others t end i x = not (is_local x) && nat_lt i t.first_other
 
 abbrev pub lacks_section : TestOfTable
 lacks_section t end i x = nat_le t.sections x.shndx && nat_lt x.shndx SHN_LORESERVE
+
+-- that of rule 21, which is of symbol 0 alone
+abbrev pub is_in_use : TestOfTable
+is_in_use t end i x = i == 0 && is_used x
+
+-- one of these
+abbrev pub some_holds : TestOfTable
+some_holds t end i x =
+    lacks_name t end i x
+    || (lacks_section t end i x
+    || (is_in_use t end i x || (is_behind_others t end i x || is_before_others t end i x)))
 
 -- ---- They are those of the rules
 

@@ -329,7 +329,7 @@ fn each_of_table<R: SymbolRule, S: Source, O: Sink, E: Sink>(
 
 /// Where the strings of a table end, where a rule looks at the names of its symbols and that can be
 /// told.
-fn end_of_names<S: Source>(
+pub fn end_of_names<S: Source>(
     names: bool,
     elf: &mut Elf<S>,
     t: CheckedSymbolTable,

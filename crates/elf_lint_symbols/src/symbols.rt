@@ -19,7 +19,7 @@ use tool_output::{FileName, Outputs, Stop};
 
 /// Whether a field of a symbol is not 0.
 #[tactic(auto, unfolding(crate::specs::Symbols::is_used))]
-fn is_used(x: Sym) -> bool
+pub fn is_used(x: Sym) -> bool
     ensures { result ≡ rule.is_used x }
 {
     let named = x.name != 0 || x.info != 0 || x.other != 0;
@@ -93,7 +93,7 @@ pub fn symbol_0_in_use<S: Source, O: Sink, E: Sink>(
 
 /// Names of symbols that cannot be read.
 #[derive(Clone, Copy)]
-struct SymbolNames;
+pub struct SymbolNames;
 
 impl SymbolRule for SymbolNames {
     ghost finds = { rule.has_no_name };
@@ -170,7 +170,7 @@ pub fn unreadable_symbol_names<S: Source, O: Sink, E: Sink>(
 
 /// Local symbols after the first other one.
 #[derive(Clone, Copy)]
-struct LateLocals;
+pub struct LateLocals;
 
 impl SymbolRule for LateLocals {
     ghost finds = { rule.is_late_local };
@@ -239,7 +239,7 @@ pub fn local_symbols_among_the_others<S: Source, O: Sink, E: Sink>(
 
 /// Other symbols before the first other one.
 #[derive(Clone, Copy)]
-struct EarlyOthers;
+pub struct EarlyOthers;
 
 impl SymbolRule for EarlyOthers {
     ghost finds = { rule.is_early_other };
@@ -308,7 +308,7 @@ pub fn other_symbols_among_the_local<S: Source, O: Sink, E: Sink>(
 
 /// Sections of symbols that are not there.
 #[derive(Clone, Copy)]
-struct SymbolSections;
+pub struct SymbolSections;
 
 impl SymbolRule for SymbolSections {
     ghost finds = { rule.is_of_no_section };
