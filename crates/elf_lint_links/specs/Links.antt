@@ -59,3 +59,11 @@ dynamic_lacks_strings o s =
 unfoldable pub dynamic_without_strings : Rule
 dynamic_without_strings o =
     at_sections 18 (codes "link is no string table") (dynamic_lacks_strings o) (all_sections o)
+
+-- ---- What the code looks for once a section
+
+-- one of these rules has a finding at it
+unfoldable pub is_linked_wrongly : Object → ℕ → Bool
+is_linked_wrongly o s =
+    symbols_lack_strings o s
+    || (relocations_lack_symbols o s || (hashes_lack_symbols o s || dynamic_lacks_strings o s))

@@ -1,7 +1,8 @@
 //! The rules 15 to 18: what sections of some types link to. Nothing is read. The type, which most
 //! sections are not of, is looked at first.
 
-ghost use Rattle.std.specs.Prelude.{◌≡◌};
+ghost use Rattle.std.specs.Prelude.{◌≡◌, ◌<◌, length};
+ghost use Rattle.elf_lint_findings.specs.elf_object.Sections.{header_at};
 ghost use Rattle.elf_lint_links.specs.Links as rule;
 ghost use Rattle.elf_lint_findings.specs.Steps.{FindsOver};
 
@@ -172,4 +173,56 @@ pub fn dynamic_without_strings<S: Source, O: Sink, E: Sink>(
         elf,
         outputs,
     )
+}
+
+/// Whether rule 15 has a finding at a section with that header, which is there.
+fn symbols_lack_strings<S: Source>(elf: &Elf<S>, s: ScnId, h: &Shdr) -> bool
+    requires there { s.0 < length elf.now.o.sections }
+    requires header { h.now ≡ header_at elf.now.o s.0 }
+    ensures { result ≡ rule.symbols_lack_strings elf.now.o s.0 }
+{
+    is_symbol_table_header(object_class(elf), h) && SymbolLinks.finds(elf, s)
+}
+
+/// Whether rule 16 has a finding at a section with that header, which is there.
+fn relocations_lack_symbols<S: Source>(elf: &Elf<S>, s: ScnId, h: &Shdr) -> bool
+    requires there { s.0 < length elf.now.o.sections }
+    requires header { h.now ≡ header_at elf.now.o s.0 }
+    ensures { result ≡ rule.relocations_lack_symbols elf.now.o s.0 }
+{
+    is_relocation_section(h) && RelocationLinks.finds(elf, s)
+}
+
+/// Whether rule 17 has a finding at a section with that header, which is there.
+fn hashes_lack_symbols<S: Source>(elf: &Elf<S>, s: ScnId, h: &Shdr) -> bool
+    requires there { s.0 < length elf.now.o.sections }
+    requires header { h.now ≡ header_at elf.now.o s.0 }
+    ensures { result ≡ rule.hashes_lack_symbols elf.now.o s.0 }
+{
+    goes_by_symbols(h) && HashLinks.finds(elf, s)
+}
+
+/// Whether rule 18 has a finding at a section with that header, which is there.
+fn dynamic_lacks_strings<S: Source>(elf: &Elf<S>, s: ScnId, h: &Shdr) -> bool
+    requires there { s.0 < length elf.now.o.sections }
+    requires header { h.now ≡ header_at elf.now.o s.0 }
+    ensures { result ≡ rule.dynamic_lacks_strings elf.now.o s.0 }
+{
+    h.stype == SHT_DYNAMIC && DynamicLinks.finds(elf, s)
+}
+
+/// Whether one of the rules 15 to 18 has a finding at a section with that header, which is there.
+/// Nothing is read.
+///
+/// Source: gABI chapter 4, "Section Header", sh_link.
+#[tactic(auto, unfolding(crate::specs::Links::is_linked_wrongly))]
+pub fn is_linked_wrongly<S: Source>(elf: &Elf<S>, s: ScnId, h: &Shdr) -> bool
+    requires there { s.0 < length elf.now.o.sections }
+    requires header { h.now ≡ header_at elf.now.o s.0 }
+    ensures { result ≡ rule.is_linked_wrongly elf.now.o s.0 }
+{
+    let of_symbols = symbols_lack_strings(elf, s, h);
+    let of_relocations = relocations_lack_symbols(elf, s, h);
+    let of_hashes = hashes_lack_symbols(elf, s, h);
+    of_symbols | (of_relocations | (of_hashes | dynamic_lacks_strings(elf, s, h)))
 }
