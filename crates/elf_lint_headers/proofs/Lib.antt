@@ -1,2 +1,3 @@
+pub mod OddLemmas
 mod PartLemmas
 mod NameLemmas

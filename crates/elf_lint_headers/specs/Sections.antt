@@ -1,6 +1,6 @@
 -- The rules 4, 6 to 12 and 19: section headers (gABI chapter 4, "Section Header"). They look at
 -- section 0 too, but for rule 12.
-use Rattle.std.specs.Prelude.{ℕ, ◌/◌, ◌%◌, ◌==◌, ◌&&◌, not, nat_lt, Bool, true, false, List, [], ◌∷◌, codes}
+use Rattle.std.specs.Prelude.{ℕ, ◌/◌, ◌%◌, ◌==◌, ◌&&◌, ◌||◌, not, nat_lt, Bool, true, false, List, [], ◌∷◌, codes}
 use Rattle.std.specs.Int.{is_power_of_two}
 use Rattle.std.specs.List.{list_any}
 use Rattle.elf_types.specs.declared.constants.TheConstants.{SHF_TLS}
@@ -107,3 +107,25 @@ unfoldable pub unallocated_thread_storage : Rule
 unallocated_thread_storage o =
     at_sections 19 (codes "thread-local but not allocated") (is_unallocated_storage o)
     (all_sections o)
+
+-- ---- What the code looks for once a section
+
+-- rule 8 or 9 has a finding at it
+abbrev pub is_odd_in_memory : Object → ℕ → Bool
+is_odd_in_memory o s = has_odd_alignment o s || has_unaligned_address o s
+
+-- one of the rules 4 and 6 to 9 has
+abbrev pub is_odd_in_place : Object → ℕ → Bool
+is_odd_in_place o s =
+    is_used_section_0 o s
+    || (is_outside_file o s || (is_ragged_section o s || is_odd_in_memory o s))
+
+-- one of the rules 10 to 12 and 19 has
+abbrev pub is_odd_in_kind : Object → ℕ → Bool
+is_odd_in_kind o s =
+    links_nowhere o s
+    || (informs_of_nothing o s || (has_wrong_entry_size o s || is_unallocated_storage o s))
+
+-- one of all these rules has
+unfoldable pub is_odd_section : Object → ℕ → Bool
+is_odd_section o s = is_odd_in_place o s || is_odd_in_kind o s

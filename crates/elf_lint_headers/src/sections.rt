@@ -18,7 +18,7 @@ use tool_objects::prelude::{Elf, is_out, section_header};
 use tool_output::{FileName, Outputs, Stop};
 
 /// Whether a field of section 0 that must be 0 is not.
-fn has_reserved_field(h: &Shdr) -> bool
+pub fn has_reserved_field(h: &Shdr) -> bool
     ensures { result ≡ list_any (λ n. not (n == 0)) (rule.reserved_fields h.now) }
 {
     let front = h.name != 0 || h.stype != 0 || h.flags != 0;
@@ -26,7 +26,7 @@ fn has_reserved_field(h: &Shdr) -> bool
 }
 
 /// Whether the items of a kind are entries whose size a header tells.
-fn has_entries(kind: Kind) -> bool
+pub fn has_entries(kind: Kind) -> bool
     ensures { result ≡ rule.has_entries kind }
 {
     matches!(kind, Kind::Sym | Kind::Rel | Kind::Rela | Kind::Dyn)
@@ -267,7 +267,7 @@ pub fn infos_of_no_section<S: Source, O: Sink, E: Sink>(
 
 /// Entry sizes that are not those of the items.
 #[derive(Clone, Copy)]
-struct WrongEntrySizes;
+pub struct WrongEntrySizes;
 
 impl HeaderRule for WrongEntrySizes {
     ghost finds = { λ _. rule.has_wrong_entry_size };
@@ -300,7 +300,7 @@ pub fn wrong_entry_sizes<S: Source, O: Sink, E: Sink>(
 
 /// Thread-local storage that is not allocated.
 #[derive(Clone, Copy)]
-struct UnallocatedStorage;
+pub struct UnallocatedStorage;
 
 impl HeaderRule for UnallocatedStorage {
     ghost finds = { λ _. rule.is_unallocated_storage };
