@@ -1,4 +1,5 @@
 mod RuleLemmas
+mod SurveyLemmas
 mod OpenedLemmas
 mod NoFindings
 mod ReachLaws

@@ -26,6 +26,7 @@
 
 mod laws;
 mod rules;
+mod survey;
 mod tool;
 
 pub use laws::found_as_listed;

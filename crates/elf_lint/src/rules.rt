@@ -1,10 +1,14 @@
 //! The rules, one after another in their order.
 
-ghost use Rattle.std.specs.Prelude.{length};
+ghost use Rattle.std.specs.Prelude.{◌≡◌, ◌&&◌, length, IfOk};
 ghost use Rattle.std.specs.List.{flat_map};
 ghost use Rattle.elf_lint.specs.Rules.{finds, finds_by_header, finds_by_section, finds_by_link, finds_by_symbol, findings, lint_passes};
+ghost use Rattle.elf_lint_findings.specs.tool_objects.Steps.{ReadsElf};
 ghost use Rattle.elf_lint_findings.specs.Steps.{FindsOver};
+ghost use Rattle.elf_lint.specs.Survey as stated;
+ghost use Rattle.elf_lint.specs.Survey.{ClearsRules};
 
+use crate::survey::{Survey, survey_sections};
 use elf_lint_hashes::{gnu_hashes_not_whole, hashes_not_whole};
 use elf_lint_headers::{
     infos_of_no_section, links_to_no_section, missing_name_table, odd_alignments,
@@ -19,8 +23,8 @@ use elf_lint_links::{
     tables_without_last_nul,
 };
 use elf_lint_symbols::{
-    local_symbols_among_the_others, other_symbols_among_the_local, relocations_by_no_symbol,
-    symbol_0_in_use, symbols_of_no_section, unreadable_symbol_names,
+    all_symbols_sound, local_symbols_among_the_others, other_symbols_among_the_local,
+    relocations_by_no_symbol, symbol_0_in_use, symbols_of_no_section, unreadable_symbol_names,
 };
 use elf_outside::{Sink, Source};
 use symbol_lookup::prelude::Elf;
@@ -269,6 +273,140 @@ fn look_by<S: Source, O: Sink, E: Sink>(
     }
 }
 
+/// Whether a rule on links finds nothing by a survey.
+fn clears_link(survey: Survey, rule: RuleOnLinks) -> bool
+    ensures { result ≡ stated.clears_link survey rule }
+{
+    match rule {
+        RuleOnLinks::TablesWithoutFirstNul => !survey.strings,
+        RuleOnLinks::TablesWithoutLastNul => !survey.strings,
+        RuleOnLinks::SymbolsWithoutStrings => !survey.odd,
+        RuleOnLinks::RelocationsWithoutSymbols => !survey.odd,
+        RuleOnLinks::HashesWithoutSymbols => !survey.odd,
+        RuleOnLinks::DynamicWithoutStrings => !survey.odd,
+        RuleOnLinks::DynamicWithoutEnd => !survey.linking,
+        RuleOnLinks::BadNotes => !survey.notes,
+        RuleOnLinks::BadVersions => !survey.linking,
+    }
+}
+
+/// Whether a rule on symbols finds nothing by a survey.
+fn clears_symbol(survey: Survey, rule: RuleOnSymbols) -> bool
+    ensures { result ≡ stated.clears_symbol survey rule }
+{
+    match rule {
+        RuleOnSymbols::Symbol0InUse => !survey.symbols,
+        RuleOnSymbols::UnreadableSymbolNames => !survey.symbols,
+        RuleOnSymbols::LocalSymbolsAmongTheOthers => !survey.symbols,
+        RuleOnSymbols::OtherSymbolsAmongTheLocal => !survey.symbols,
+        RuleOnSymbols::SymbolsOfNoSection => !survey.symbols,
+        RuleOnSymbols::RelocationsByNoSymbol => !survey.relocations,
+        RuleOnSymbols::HashesNotWhole => !survey.linking,
+        RuleOnSymbols::GnuHashesNotWhole => !survey.linking,
+    }
+}
+
+/// Whether a rule finds nothing by a survey.
+fn clears(survey: Survey, rule: LintRule) -> bool
+    ensures { result ≡ stated.clears survey rule }
+{
+    match rule {
+        LintRule::Header(_) => false,
+        LintRule::Section(_) => !survey.odd,
+        LintRule::Link(rule) => clears_link(survey, rule),
+        LintRule::Symbol(rule) => clears_symbol(survey, rule),
+    }
+}
+
+/// Says what a rule finds, where a survey leaves that open.
+fn look_unless_clear<S: Source, O: Sink, E: Sink>(
+    rule: LintRule,
+    survey: Survey,
+    name: &FileName<'_>,
+    elf: &mut Elf<S>,
+    outputs: &mut Outputs<'_, O, E>,
+) -> Result<bool, Stop>
+    requires { ClearsRules elf.old.told elf.old.o survey }
+    ensures { FindsOver S.Source O.Sink E.Sink 1 (finds rule) name.now
+        result elf.old elf.new outputs.old outputs.new }
+{
+    if clears(survey, rule) {
+        return Ok(false);
+    }
+    look_by(rule, name, elf, outputs)
+}
+
+/// A survey of what the rules 21 to 25 find nothing at.
+fn without_symbols(survey: Survey) -> Survey
+    ensures { result ≡ stated.without_symbols survey }
+{
+    Survey {
+        odd: survey.odd,
+        strings: survey.strings,
+        symbols: false,
+        relocations: survey.relocations,
+        notes: survey.notes,
+        linking: survey.linking,
+        bytes: survey.bytes,
+    }
+}
+
+/// A survey that knows besides whether all symbols are sound.
+fn with_symbols(sound: bool, survey: Survey) -> Survey
+    ensures { result ≡ stated.with_symbols sound survey }
+{
+    if sound {
+        without_symbols(survey)
+    } else {
+        survey
+    }
+}
+
+/// A survey that looked at all symbols besides, before the first rule on them. Where sections may
+/// overlap nothing is looked at, since their tables would be held together.
+fn survey_symbols<S: Source>(
+    rule: LintRule,
+    survey: Survey,
+    elf: &mut Elf<S>,
+) -> Result<Survey, Stop>
+    requires { ClearsRules elf.old.told elf.old.o survey }
+    ensures clears { IfOk result (ClearsRules elf.old.told elf.old.o) }
+    ensures reads { ReadsElf S.Source result elf.old elf.new }
+{
+    let LintRule::Symbol(RuleOnSymbols::Symbol0InUse) = rule else {
+        return Ok(survey);
+    };
+    if !survey.symbols || survey.bytes > elf.base_len() {
+        return Ok(survey);
+    }
+    match all_symbols_sound(elf) {
+        Ok(sound) => Ok(with_symbols(sound, survey)),
+        Err(stop) => Err(stop),
+    }
+}
+
+/// Says what the next rule finds, and surveys the symbols before the first rule on them.
+fn look_by_next<S: Source, O: Sink, E: Sink>(
+    rule: LintRule,
+    survey: &mut Survey,
+    name: &FileName<'_>,
+    elf: &mut Elf<S>,
+    outputs: &mut Outputs<'_, O, E>,
+) -> Result<bool, Stop>
+    requires { ClearsRules elf.old.told elf.old.o survey.old }
+    ensures clears { ClearsRules elf.old.told elf.old.o survey.new }
+    ensures finds { FindsOver S.Source O.Sink E.Sink 1 (finds rule) name.now
+        result elf.old elf.new outputs.old outputs.new }
+{
+    match survey_symbols(rule, *survey, elf) {
+        Ok(next) => {
+            *survey = next;
+            look_unless_clear(rule, next, name, elf, outputs)
+        }
+        Err(stop) => Err(stop),
+    }
+}
+
 /// Says what rules find, one after another.
 fn look_by_each<S: Source, O: Sink, E: Sink>(
     rules: &[LintRule],
@@ -280,9 +418,10 @@ fn look_by_each<S: Source, O: Sink, E: Sink>(
         (λ o. flat_map (λ r. finds r o) rules.now) name.now
         result elf.old elf.new outputs.old outputs.new }
 {
+    let mut survey = survey_sections(elf);
     let mut found = false;
     for rule in rules {
-        let was_found = look_by(*rule, name, elf, outputs)?;
+        let was_found = look_by_next(*rule, &mut survey, name, elf, outputs)?;
         found = found | was_found;
     }
     Ok(found)
