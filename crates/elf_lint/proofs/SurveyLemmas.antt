@@ -1,16 +1,13 @@
 -- What one look at all headers tells of the rules, and one at all symbols.
-use Rattle.std.proofs.Common.{◌≡◌, ℕ, ◌+◌, ◌<◌, ◌≤◌, ◌==◌, ◌&&◌, ◌||◌, not, Bool, true, false, List, [], length, map, Option, None, IsTrue, refl, sym, ap, ◌∙◌, subst, below_more, arith}
+use Rattle.std.proofs.Common.{◌≡◌, ℕ, ◌+◌, ◌<◌, ◌≤◌, ◌==◌, ◌&&◌, ◌||◌, not, Bool, true, false, List, [], length, None, IsTrue, refl, sym, ap, ◌∙◌, subst, below_more, arith}
 use Rattle.std.specs.Prelude.{if◌then◌else◌, codes}
-use Rattle.std.specs.List.{flat_map, range_with_len}
+use Rattle.std.specs.List.{range_with_len}
 use Rattle.std.proofs.lemmas.Bool.{not-true}
 use Rattle.elf_types.specs.declared.constants.TheConstants.{SHT_DYNAMIC, SHT_HASH, SHT_NOTE, SHT_GNU_HASH, SHT_GNU_VERDEF, SHT_GNU_VERNEED}
-use Rattle.elf_types.specs.declared.records.Kind.TheVariants as kinds
 use Rattle.symbol_lookup.specs.elf_object.Object.{Object}
-use Rattle.symbol_lookup.specs.elf_object.Answers.{same_kind}
 use Rattle.symbol_lookup.specs.elf_object.Sections.{header_at, is_relocations, is_of}
-use Rattle.elf_types.specs.Kinds.{section_kind}
 use Rattle.elf_lint_findings.specs.declared.places.Place.TheVariants.{Section}
-use Rattle.elf_lint_findings.specs.Findings.{Finding, at_items, at_sections, finding, found_if}
+use Rattle.elf_lint_findings.specs.Findings.{at_items, at_sections, finding, found_if}
 use Rattle.elf_lint_findings.specs.Looking.{is_plain, is_string_table, is_symbol_table, is_outside_file, is_ragged_section, links_to_symbols}
 use Rattle.elf_lint_headers.specs.Sections as headers
 use Rattle.elf_lint_headers.specs.Sections.{is_odd_section, is_odd_in_place, is_odd_in_memory, is_odd_in_kind, section_0_in_use, sections_outside_the_file, ragged_sections, odd_alignments, unaligned_addresses, links_to_no_section, infos_of_no_section, wrong_entry_sizes, unallocated_thread_storage}

@@ -1,6 +1,5 @@
-use Rattle.std.proofs.Common.{ℕ, refl, sym, ap, ◌∙◌}
+use Rattle.std.proofs.Common.{ℕ, ap, ◌∙◌}
 use Rattle.symbol_lookup.specs.elf_object.Sections.{header_at, is_relocations}
-use Rattle.elf_types.specs.declared.records.Shdr.{Shdr}
 use Rattle.elf_lint_findings.specs.Looking.{is_string_table, is_symbol_table}
 use Rattle.elf_lint.specs.Survey.{is_odd, is_notes, is_of_linking}
 use Rattle.elf_lint.proofs.SurveyLemmas.{next_fails}
