@@ -1,17 +1,18 @@
 -- What the bits of a mask tell of the runs of its bytes.
-use Rattle.std.proofs.Common.{drop-drop, ◌≡◌, ℕ, zero, suc, ◌+◌, ◌-◌, ◌/◌, ◌%◌, ◌^◌, ◌<◌, ◌≤◌, Bool, true, false, cond, eqb, List, [], ◌∷◌, ◌++◌, map, length, get_or, take, drop, Fits, w8, w64, refl, sym, ap, ap₂, ◌∙◌, subst, arith, inl, inr, bit_and, take-append-drop, length-take-le, length-drop, get_or-take, get_or-drop, shr-shr}
+use Rattle.std.proofs.Common.{drop-drop, ◌*◌, ◌≡◌, ℕ, zero, suc, ◌+◌, ◌-◌, ◌/◌, ◌%◌, ◌^◌, ◌<◌, ◌≤◌, Bool, true, false, cond, eqb, List, [], ◌∷◌, ◌++◌, map, length, get_or, take, drop, Fits, w8, w64, refl, sym, ap, ap₂, ◌∙◌, subst, arith, inl, inr, bit_and, take-append-drop, length-take-le, length-drop, get_or-take, get_or-drop, shr-shr}
 use Rattle.std.specs.Int.{bit_at, bit_not}
 use Rattle.std.specs.Simd.Lanes.{mask_l, top, Each1}
 use Rattle.std.proofs.lemmas.Bool.{agree_below, agree_below_at, cases_lt, cases_Bool, both_ways, eq-eqb, ne_eqb}
-use Rattle.std.proofs.lemmas.List.{length-map, get_or-map}
+use Rattle.std.proofs.lemmas.List.{length-map, get_or-map, drop-map, drop-take}
 use Rattle.std.proofs.lemmas.List.Folds.{prefix_len-append}
 use Rattle.std.proofs.lemmas.List.Sums.{prefix_len_passes, prefix_len_stops, prefix_len_is}
+use Rattle.std.proofs.Math.Nat.{div-one, zero-div, pow-le-pow_right}
 use Rattle.std.proofs.Math.Pow.{shr_le}
 use Rattle.std.proofs.lemmas.Nat.Bits.{bit_at_and, bit_at-lt, bit_at-zero, bit_at_above, bit_at_not}
 use Rattle.std.proofs.lemmas.Simd.{map-map, mask_l-mod, mask_l-lt, bit_mask_l}
 use Rattle.strings_tool.specs.Runs.{is_printable, runs_after, long_runs}
 use Rattle.strings_tool.specs.Skips.{Skips}
-use Rattle.strings_tool.specs.Masks.{printable_mask, AreSet, BeginRuns}
+use Rattle.strings_tool.specs.Masks.{printable_mask, AreSet, BeginRuns, ShowsBytes, IsFirstRun}
 use Rattle.strings_tool.proofs.RunLemmas.{front_len, rest_is, long_after, short_cons, skips_none, skips_more}
 
 -- ---- The mask of a load
@@ -26,6 +27,29 @@ pub mask_is : (f : ℕ → ℕ) (p : ℕ → Bool) (v z : List ℕ) → length v
 mask_is f p v z short fits lanes all =
     ap (λ l. mask_l l % 2 ^ 64) (ap (map (top 7)) lanes ∙ map-map (top 7) f v ∙ each_byte f p all v fits)
     ∙ mask_l-mod (map p v) 64 (omega (arith, length-map v p, short))
+
+-- a mask is shifted: its first lanes are gone
+half : (b : Bool) (n : ℕ) → (cond b 1 0 + 2 * n) / 2 ≡ n
+half true n = omega arith
+half false n = omega arith
+
+mask_shifted : (ms : List Bool) (k : ℕ) → mask_l ms / 2 ^ k ≡ mask_l (drop k ms)
+mask_shifted [] zero = zero-div (2 ^ 0)
+mask_shifted [] (suc k) = zero-div (2 ^ suc k)
+mask_shifted (m ∷ ms) zero = div-one (mask_l (m ∷ ms))
+mask_shifted (m ∷ ms) (suc k) =
+    ap (λ (j : ℕ). mask_l (m ∷ ms) / 2 ^ j) (let e : suc k ≡ 1 + k = omega arith in e)
+    ∙ sym (shr-shr (mask_l (m ∷ ms)) 1 k) ∙ ap (λ n. n / 2 ^ k) (half m (mask_l ms)) ∙ mask_shifted ms k
+
+pub shown_rest : (mask count k : ℕ) (bytes : List ℕ) → ShowsBytes mask count bytes → k ≤ count → ShowsBytes (mask / 2 ^ k) (count - k) (drop k bytes)
+shown_rest mask count k bytes shown within = record {
+  few = omega (arith, shown.few);
+  there = omega (arith, shown.there, within, length-drop k bytes);
+  is = ap (λ m. m / 2 ^ k) shown.is ∙ mask_shifted (map is_printable (take count bytes)) k
+      ∙ ap mask_l (drop-map is_printable k (take count bytes)
+      ∙ ap (λ (n : ℕ). map is_printable (drop k (take n bytes))) (let e : count ≡ k + (count - k) = omega (arith, within) in e)
+      ∙ ap (map is_printable) (drop-take k (count - k) bytes));
+}
 
 -- ---- Bits in a row
 
@@ -157,35 +181,38 @@ set_tells : (b : Bool) → cond {A = ℕ} b 1 0 ≡ 1 → b ≡ true
 set_tells true e = refl
 set_tells false e = absurd (omega (arith, e))
 
-module _ (bytes : List ℕ) (room : 64 ≤ length bytes) where
+module _ (count : ℕ) (bytes : List ℕ) (few : count ≤ 64) (room : count ≤ length bytes) where
   abbrev mask : ℕ
-  mask = printable_mask (take 64 bytes)
+  mask = printable_mask (take count bytes)
 
-  front : length (take 64 bytes) ≡ 64
-  front = length-take-le 64 bytes room
+  front : length (take count bytes) ≡ count
+  front = length-take-le count bytes room
 
-  bit_is : (i : ℕ) → i < 64 → bit_at mask i ≡ cond (is_printable (get_or bytes i 0)) 1 0
+  bit_is : (i : ℕ) → i < count → bit_at mask i ≡ cond (is_printable (get_or bytes i 0)) 1 0
   bit_is i early =
-      bit_mask_l (map is_printable (take 64 bytes)) i
-      ∙ ap (λ b. cond b 1 0) (get_or-map is_printable (take 64 bytes) i 0 false (omega (arith, front, early)) ∙ ap is_printable (get_or-take 64 bytes i 0 early))
+      bit_mask_l (map is_printable (take count bytes)) i
+      ∙ ap (λ b. cond b 1 0) (get_or-map is_printable (take count bytes) i 0 false (omega (arith, front, early)) ∙ ap is_printable (get_or-take count bytes i 0 early))
 
-  mask_small : mask < 2 ^ 64
-  mask_small = subst (λ n. mask < 2 ^ n) (length-map (take 64 bytes) is_printable ∙ front) (mask_l-lt (map is_printable (take 64 bytes)))
+  mask_below : mask < 2 ^ count
+  mask_below = subst (λ n. mask < 2 ^ n) (length-map (take count bytes) is_printable ∙ front) (mask_l-lt (map is_printable (take count bytes)))
 
-  bit_early : (i : ℕ) → bit_at mask i ≡ 1 → i < 64
-  bit_early i set = elim (cases_lt i 64) [
+  pub mask_small : mask < 2 ^ 64
+  mask_small = omega (arith, mask_below, pow-le-pow_right {n = 2} (omega arith) few)
+
+  bit_early : (i : ℕ) → bit_at mask i ≡ 1 → i < count
+  bit_early i set = elim (cases_lt i count) [
     | inl early ↦ early
-    | inr late ↦ absurd (omega (arith, set, bit_at_above mask 64 i mask_small late))
+    | inr late ↦ absurd (omega (arith, set, bit_at_above mask count i mask_below late))
   ]
 
   set_printable : (i : ℕ) → bit_at mask i ≡ 1 → is_printable (get_or bytes i 0) ≡ true
   set_printable i set = set_tells _ (sym (bit_is i (bit_early i set)) ∙ set)
 
-  printable_set : (i : ℕ) → i < 64 → is_printable (get_or bytes i 0) ≡ true → bit_at mask i ≡ 1
+  printable_set : (i : ℕ) → i < count → is_printable (get_or bytes i 0) ≡ true → bit_at mask i ≡ 1
   printable_set i early shown = bit_is i early ∙ ap (λ b. cond b 1 0) shown
 
   module _ (least starts : ℕ) (some : 0 < least) (runs : BeginRuns mask least starts) where
-    pub ends_early : (i : ℕ) → bit_at starts i ≡ 1 → i + least ≤ 64
+    pub ends_early : (i : ℕ) → bit_at starts i ≡ 1 → i + least ≤ count
     ends_early i set = omega (arith, some, bit_early (i + (least - 1)) ((runs i).0 set (least - 1) (omega (arith, some))))
 
     pub long_here : (i : ℕ) → bit_at starts i ≡ 1 → least ≤ front_len (drop i bytes)
@@ -200,7 +227,7 @@ module _ (bytes : List ℕ) (room : 64 ≤ length bytes) where
       | inr long ↦ long
     ]
 
-    pub short_here : (i : ℕ) → bit_at starts i ≡ 0 → i + least ≤ 64 → front_len (drop i bytes) < least
+    pub short_here : (i : ℕ) → bit_at starts i ≡ 0 → i + least ≤ count → front_len (drop i bytes) < least
     short_here i clear ends = elim (cases_lt (front_len (drop i bytes)) least) [
       | inl short ↦ short
       | inr long ↦
@@ -211,7 +238,7 @@ module _ (bytes : List ℕ) (room : 64 ≤ length bytes) where
     ]
 
     -- what is set from such a place on has at least so many bits
-    pub long_stretch : (i n : ℕ) → bit_at starts i ≡ 1 → (i + n < 64 → bit_at mask (i + n) ≡ 0) → least ≤ n
+    pub long_stretch : (i n : ℕ) → bit_at starts i ≡ 1 → (i + n < count → bit_at mask (i + n) ≡ 0) → least ≤ n
     long_stretch i n set ends = elim (cases_lt n least) [
       | inl short ↦
           let inside = ends_early i set in
@@ -219,22 +246,34 @@ module _ (bytes : List ℕ) (room : 64 ≤ length bytes) where
       | inr long ↦ long
     ]
 
-    pub none_early : starts ≡ 0 → least ≤ 64 → Skips least bytes (65 - least)
-    none_early none few =
-        skips_all least (65 - least) bytes
-        (λ i early. short_here i (ap (λ s. bit_at s i) none ∙ bit_at-zero i) (omega (arith, early, few))) (omega (arith, room, few))
+    pub none_early : starts ≡ 0 → Skips least bytes (count + 1 - least)
+    none_early none = elim (cases_lt count least) [
+      | inl much ↦ subst (Skips least bytes) (let e : 0 ≡ count + 1 - least = omega (arith, much) in e) (skips_none least bytes)
+      | inr fits ↦
+          skips_all least (count + 1 - least) bytes
+          (λ i early. short_here i (ap (λ s. bit_at s i) none ∙ bit_at-zero i) (omega (arith, early, fits))) (omega (arith, room, fits))
+    ]
 
     pub first_early : (n : ℕ) → bit_at starts n ≡ 1 → ((i : ℕ) → i < n → bit_at starts i ≡ 0) → Skips least bytes n
     first_early n set clear =
         let ends = ends_early n set in
         skips_all least n bytes (λ i early. short_here i (clear i early) (omega (arith, ends, early))) (omega (arith, ends, room))
 
+  -- what is set lies within the bytes
+  pub stretch_within : (i n : ℕ) → AreSet mask i n → i ≤ count → i + n ≤ count
+  stretch_within i n set inside = elim (cases_lt count (i + n)) [
+    | inl past ↦
+        let last = bit_early (i + (count - i)) (set (count - i) (omega (arith, past, inside))) in
+        absurd (omega (arith, last, inside))
+    | inr within ↦ within
+  ]
+
   -- a stretch of printable bytes that the mask shows
-  module _ (i n : ℕ) (set : AreSet mask i n) (within : i + n ≤ 64) where
+  module _ (i n : ℕ) (set : AreSet mask i n) (within : i + n ≤ count) where
     shown_here : (j : ℕ) → j < n → is_printable (get_or (drop i bytes) j 0) ≡ true
     shown_here j less = ap is_printable (get_or-drop i bytes j 0) ∙ set_printable (i + j) (set j less)
 
-    pub stretch_ends : i + n < 64 → bit_at mask (i + n) ≡ 0 → front_len (drop i bytes) ≡ n
+    pub stretch_ends : i + n < count → bit_at mask (i + n) ≡ 0 → front_len (drop i bytes) ≡ n
     stretch_ends inside clear =
         prefix_len_is is_printable (drop i bytes) n 0 (omega (arith, length-drop i bytes, within, room)) shown_here
         (λ _. elim (cases_Bool (is_printable (get_or bytes (i + n) 0))) [
@@ -242,21 +281,21 @@ module _ (bytes : List ℕ) (room : 64 ≤ length bytes) where
           | inr plain ↦ ap is_printable (get_or-drop i bytes n 0) ∙ plain
         ])
 
-    pub stretch_goes_on : i + n ≡ 64 → front_len (drop i bytes) ≡ n + front_len (drop 64 bytes)
+    pub stretch_goes_on : i + n ≡ count → front_len (drop i bytes) ≡ n + front_len (drop count bytes)
     stretch_goes_on whole =
         let long : n ≤ length (drop i bytes) = omega (arith, length-drop i bytes, within, room) in
-        let count = length-take-le n (drop i bytes) long in
-        let all = prefix_len_is is_printable (take n (drop i bytes)) n 0 (omega (arith, count))
+        let taken = length-take-le n (drop i bytes) long in
+        let all = prefix_len_is is_printable (take n (drop i bytes)) n 0 (omega (arith, taken))
         (λ j less. ap is_printable (get_or-take n (drop i bytes) j 0 less) ∙ shown_here j less)
-        (λ short. absurd (omega (arith, count, short))) in
+        (λ short. absurd (omega (arith, taken, short))) in
         front_on n (drop i bytes) long all
         ∙ ap (λ l. n + front_len l) (drop-drop n i bytes ∙ ap (λ k. drop k bytes) whole)
 
   module _ (stops : ℕ) (other : stops ≡ bit_not w64 mask) where
-    other_bit : (i : ℕ) → i < 64 → bit_at stops i ≡ 1 - bit_at mask i
-    other_bit i early = ap (λ m. bit_at m i) other ∙ bit_at_not w64 mask i mask_small early
+    other_bit : (i : ℕ) → i < count → bit_at stops i ≡ 1 - bit_at mask i
+    other_bit i early = ap (λ m. bit_at m i) other ∙ bit_at_not w64 mask i mask_small (omega (arith, early, few))
 
-    pub ends_here : (n : ℕ) → n < 64 → bit_at stops n ≡ 1 → ((i : ℕ) → i < n → bit_at stops i ≡ 0) → front_len bytes ≡ n
+    pub ends_here : (n : ℕ) → n < count → bit_at stops n ≡ 1 → ((i : ℕ) → i < n → bit_at stops i ≡ 0) → front_len bytes ≡ n
     ends_here n early set clear =
         prefix_len_is is_printable bytes n 0 (omega (arith, early, room))
         (λ i before. set_printable i (omega (arith, clear i before, bit_at-lt mask i, other_bit i (omega (arith, before, early)))))
@@ -265,11 +304,37 @@ module _ (bytes : List ℕ) (room : 64 ≤ length bytes) where
           | inr plain ↦ plain
         ])
 
-    pub all_early : stops ≡ 0 → front_len bytes ≡ 64 + front_len (drop 64 bytes)
+    pub all_early : stops ≡ 0 → front_len bytes ≡ count + front_len (drop count bytes)
     all_early none =
-        front_on 64 bytes room
-        (prefix_len_is is_printable (take 64 bytes) 64 0 (omega (arith, front))
+        front_on count bytes room
+        (prefix_len_is is_printable (take count bytes) count 0 (omega (arith, front))
         (λ i early.
         let shown = set_printable i (omega (arith, bit_at-lt mask i, other_bit i early, ap (λ m. bit_at m i) none ∙ bit_at-zero i)) in
-        ap is_printable (get_or-take 64 bytes i 0 early) ∙ shown)
+        ap is_printable (get_or-take count bytes i 0 early) ∙ shown)
         (λ short. absurd (omega (arith, front, short))))
+
+-- ---- The first run that a mask shows
+
+module _ (m least starts count : ℕ) (bytes : List ℕ) (some : 0 < least) (runs : BeginRuns m least starts) (shown : ShowsBytes m count bytes) where
+  begins : BeginRuns (printable_mask (take count bytes)) least starts
+  begins = subst (λ k. BeginRuns k least starts) shown.is runs
+
+  pub none_shown : starts ≡ 0 → Skips least bytes (count + 1 - least)
+  none_shown none = none_early count bytes shown.few shown.there least starts some begins none
+
+  pub first_shown : (i n : ℕ) → bit_at starts i ≡ 1 → ((j : ℕ) → j < i → bit_at starts j ≡ 0) → AreSet m i n → (i + n < 64 → bit_at m (i + n) ≡ 0)
+      → IsFirstRun least count bytes (i, n)
+  first_shown i n set clear all ends =
+      let few = shown.few in
+      let room = shown.there in
+      let here = subst (λ k. AreSet k i n) shown.is all in
+      let early = ends_early count bytes few room least starts some begins i set in
+      let inside = stretch_within count bytes few room i n here (omega (arith, early)) in
+      let stops : i + n < count → bit_at (printable_mask (take count bytes)) (i + n) ≡ 0 =
+      λ lt. ap (λ k. bit_at k (i + n)) (sym shown.is) ∙ ends (omega (arith, lt, few)) in record {
+        within = inside;
+        long = long_stretch count bytes few room least starts some begins i n set stops;
+        skips = first_early count bytes few room least starts some begins i set clear;
+        ended = λ lt. stretch_ends count bytes few room i n here inside lt (stops lt);
+        goes_on = stretch_goes_on count bytes few room i n here inside;
+      }

@@ -1,6 +1,7 @@
 mod LaneLemmas
 mod RunLemmas
 mod TextLemmas
+mod LineLemmas
 mod ScanLemmas
 mod RangeLemmas
 mod SectionLemmas

@@ -1,6 +1,7 @@
 -- The long runs of bytes, by what stands at their front.
 use Rattle.std.proofs.Common.{◌-◌, length-drop, take_all, ◌≡◌, ◌+◌, ◌<◌, ◌≤◌, ◌++◌, ◌&&◌, ℕ, zero, suc, Bool, true, false, not, cond, nat_le, List, [], ◌∷◌, length, take, drop, filter, take_while, refl, sym, ap, ◌∙◌, subst, arith, drop-drop, append_assoc, get_or, drop-cons, take-append-drop, length-take-le, length-take, get_or-take}
 use Rattle.std.specs.List.{prefix_len}
+use Rattle.std.proofs.lemmas.List.{take-append-le}
 use Rattle.std.proofs.lemmas.List.Elements.{filter-append}
 use Rattle.std.proofs.lemmas.List.Folds.{length-prefix_len}
 use Rattle.std.proofs.lemmas.List.Sums.{prefix_len-le-length}
@@ -197,3 +198,39 @@ module _ (least : ℕ) where
       let same : front_len (take k bytes ++ drop k bytes) ≡ front_len bytes = ap front_len (take-append-drop k bytes) in
       let len : length (take k bytes) ≡ k = length-take-le k bytes there in
       omega (arith, grows, same, len, all, is)
+
+-- ---- Bytes up to one that is not printable, and those that follow
+
+front_same : (y r q : List ℕ) (b : ℕ) → is_printable b ≡ false → front_len (y ++ b ∷ r) ≡ front_len (y ++ b ∷ q)
+front_same [] r q b plain = rw plain refl
+front_same (c ∷ y) r q b plain = ap (λ (n : ℕ). cond (is_printable c) (1 + n) 0) (front_same y r q b plain)
+
+run_same : (begins : Bool) (at b : ℕ) (y r q : List ℕ) → is_printable b ≡ false → run_if begins at (y ++ b ∷ r) ≡ run_if begins at (y ++ b ∷ q)
+run_same false at b y r q plain = refl
+run_same true at b y r q plain =
+    let le = front_within 0 y q b plain in
+    let same : take_while is_printable (y ++ b ∷ r) ≡ take_while is_printable (y ++ b ∷ q) =
+    ap (λ (n : ℕ). take n (y ++ b ∷ r)) (front_same y r q b plain)
+    ∙ take-append-le (front_len (y ++ b ∷ q)) y (b ∷ r) le
+    ∙ sym (take-append-le (front_len (y ++ b ∷ q)) y (b ∷ q) le) in
+    ap (λ (l : List ℕ). record { at = at; bytes = l } ∷ []) same
+
+runs_part : (behind : Bool) (at b : ℕ) (y r : List ℕ) → is_printable b ≡ false
+    → runs_after behind at (y ++ b ∷ r) ≡ runs_after behind at (y ++ b ∷ []) ++ runs_after false (at + (length y + 1)) r
+unfolding runs_after
+runs_part behind at b [] r plain = rw plain refl
+runs_part behind at b (c ∷ y) r plain =
+    let first = run_if (is_printable c && not behind) at (c ∷ (y ++ b ∷ [])) in
+    ap (λ (l : List Run). l ++ runs_after (is_printable c) (at + 1) (y ++ b ∷ r)) (run_same (is_printable c && not behind) at b (c ∷ y) r [] plain)
+    ∙ ap (λ (l : List Run). first ++ l)
+    (runs_part (is_printable c) (at + 1) b y r plain
+    ∙ ap (λ (n : ℕ). runs_after (is_printable c) (at + 1) (y ++ b ∷ []) ++ runs_after false n r) (let e : at + 1 + (length y + 1) ≡ at + (length (c ∷ y) + 1) = omega arith in e))
+    ∙ sym (append_assoc first (runs_after (is_printable c) (at + 1) (y ++ b ∷ [])) (runs_after false (at + (length (c ∷ y) + 1)) r))
+
+pub long_part : (least at b : ℕ) (y r : List ℕ) → is_printable b ≡ false
+    → long_runs least at (y ++ b ∷ r) ≡ long_runs least at (y ++ b ∷ []) ++ long_runs least (at + (length y + 1)) r
+unfolding long_runs
+long_part least at b y r plain =
+    let is_long = λ (run : Run). nat_le least (length run.bytes) in
+    ap (filter is_long) (runs_part false at b y r plain)
+    ∙ filter-append is_long (runs_after false at (y ++ b ∷ [])) (runs_after false (at + (length y + 1)) r)

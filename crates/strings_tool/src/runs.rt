@@ -1,17 +1,17 @@
 //! The printable runs of bytes in memory, found by lanes: many bytes are looked at together, and a
 //! mask has a bit for each of them.
 
-ghost use Rattle.std.specs.Prelude.{◌≡◌, ◌+◌, ◌-◌, ◌≤◌, ◌<◌, false, length, take, drop, slice_index, IfSome, IfNone};
+ghost use Rattle.std.specs.Prelude.{◌≡◌, ◌+◌, ◌-◌, ◌≤◌, ◌<◌, false, ℕ, List, length, take, drop, slice_index, IfSome, IfNone};
 ghost use Rattle.std.specs.Int.{bit_at};
 ghost use Rattle.std.specs.List.{prefix_len};
-ghost use Rattle.strings_tool.specs.Masks.{printable_mask, AreSet, BeginRuns};
+ghost use Rattle.strings_tool.specs.Masks.{printable_mask, AreSet, BeginRuns, ShowsBytes, IsFirstRun};
 ghost use Rattle.strings_tool.specs.Runs.{is_printable};
 ghost use Rattle.strings_tool.specs.Skips.{Skips};
 
 use std::simd::prelude::*;
 
 /// How many bytes are looked at together.
-const LANES: usize = 64;
+pub const LANES: usize = 64;
 
 /// Whether a byte is shown: 0x20 to 0x7e, or a tab.
 #[tactic(auto, unfolding(crate::specs::Runs::is_printable))]
@@ -24,7 +24,7 @@ pub fn is_printable(byte: u8) -> bool
 
 /// The mask of the first bytes: which of them are printable.
 #[inline(always)]
-fn printable_mask(bytes: &[u8]) -> u64
+pub fn printable_mask(bytes: &[u8]) -> u64
     requires { LANES ≤ length bytes.now }
     ensures { result ≡ printable_mask (take LANES bytes.now) }
 {
@@ -79,28 +79,34 @@ fn set_bits(mask: u64, from: usize) -> usize
     clear.trailing_zeros() as usize
 }
 
-/// Finds the first run of at least so many bytes that has these among the first bytes: its place,
-/// and how many of the first bytes it has. Where they are the last ones, it may go on after them.
+/// Finds the first run of at least so many bytes that has these among those that a mask shows: its
+/// place, and how many of them it has. Where they are the last ones, it may go on after them.
 #[inline(always)]
-fn find_early_run(bytes: &[u8], least: usize) -> Option<(usize, usize)>
-    requires room { LANES ≤ length bytes.now }
-    requires least { (0 < least) × (least ≤ LANES) }
-    ensures none { IfNone result (Skips least bytes.now (LANES + 1 - least)) }
-    ensures within { IfSome result (λ r. (r.0 + r.1 ≤ LANES) × (least ≤ r.1)) }
-    ensures skips { IfSome result (λ r. Skips least bytes.now r.0) }
-    ensures ended { IfSome result (λ r. r.0 + r.1 < LANES →
-        prefix_len is_printable (drop r.0 bytes.now) ≡ r.1) }
-    ensures goes_on { IfSome result (λ r. r.0 + r.1 ≡ LANES →
-        prefix_len is_printable (drop r.0 bytes.now)
-        ≡ r.1 + prefix_len is_printable (drop LANES bytes.now)) }
+pub fn run_in(mask: u64, least: usize) -> Option<(usize, usize)>
+    requires { (0 < least) × (least ≤ LANES) }
+    ensures none { (count : ℕ) (bytes : List ℕ) → ShowsBytes mask count bytes
+        → IfNone result (Skips least bytes (count + 1 - least)) }
+    ensures some { (count : ℕ) (bytes : List ℕ) → ShowsBytes mask count bytes
+        → IfSome result (IsFirstRun least count bytes) }
 {
-    let mask = printable_mask(bytes);
     let starts = run_starts(mask, least);
     if starts == 0 {
         return None;
     }
     let from = starts.trailing_zeros() as usize;
     Some((from, set_bits(mask, from)))
+}
+
+/// Finds the first run of at least so many bytes that has these among the first bytes, as `run_in`
+/// does.
+#[inline(always)]
+fn find_early_run(bytes: &[u8], least: usize) -> Option<(usize, usize)>
+    requires room { LANES ≤ length bytes.now }
+    requires least { (0 < least) × (least ≤ LANES) }
+    ensures none { IfNone result (Skips least bytes.now (LANES + 1 - least)) }
+    ensures some { IfSome result (IsFirstRun least LANES bytes.now) }
+{
+    run_in(printable_mask(bytes), least)
 }
 
 /// The first byte that is not printable, or None where the first bytes are all printable.
@@ -137,10 +143,12 @@ pub fn run_len(bytes: &[u8]) -> usize
 }
 
 /// The last byte that is not printable, or None where all are.
-fn last_unprintable(bytes: &[u8]) -> Option<usize>
+pub fn last_unprintable(bytes: &[u8]) -> Option<usize>
     ensures all { IfNone result (prefix_len is_printable bytes.now ≡ length bytes.now) }
     ensures last { IfSome result (λ i. (i < length bytes.now)
         × (is_printable (slice_index bytes.now i) ≡ false)) }
+    ensures rest { IfSome result (λ i.
+        prefix_len is_printable (drop (i + 1) bytes.now) + (i + 1) ≡ length bytes.now) }
 {
     let mut i = bytes.len();
     while i > 0 {

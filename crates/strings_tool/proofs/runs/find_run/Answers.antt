@@ -6,8 +6,8 @@ use Rattle.strings_tool.proofs.runs.find_run.Goals as goal
 pub returns-in-Some-2-clause-len : goal.returns-in-Some-2-clause-len
 returns-in-Some-2-clause-len c = λ _.
     let bytes = c.args.bytes.now in
-    let whole : c.in-Some.i + c.in-Some.len ≡ 64 = omega (arith, c.in-Some.ensures.within, c.if-i-len-lt-LANES.false) in
-    joined_len c.lanes.at c.in-Some.i c.in-Some.len c.run_len.result bytes (c.in-Some.ensures.goes_on whole) c.run_len.ensures.len
+    let whole : c.in-Some.i + c.in-Some.len ≡ 64 = omega (arith, c.in-Some.ensures.some.within, c.if-i-len-lt-LANES.false) in
+    joined_len c.lanes.at c.in-Some.i c.in-Some.len c.run_len.result bytes (c.in-Some.ensures.some.goes_on whole) c.run_len.ensures.len
 
 pub bytes-preserved : goal.bytes-preserved
 bytes-preserved c =
