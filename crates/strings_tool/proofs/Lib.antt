@@ -2,6 +2,7 @@ mod LaneLemmas
 mod RunLemmas
 mod TextLemmas
 mod LineLemmas
+mod PlaceLemmas
 mod ScanLemmas
 mod RangeLemmas
 mod SectionLemmas

@@ -108,9 +108,9 @@ fn put_each(
     }
 }
 
-/// Appends the lines of the runs that begin in the blocks of some bytes, whose masks do not wait for
-/// the runs of the blocks before them, and gives how many bytes these runs and what is before them
-/// take.
+/// Appends the lines of the runs that begin in the blocks of some bytes, and gives how many bytes
+/// these runs and what is before them take. The mask of a block does not wait for the runs of those
+/// before it.
 fn put_blocks(
     page: &mut Octets,
     bytes: &[u8],
