@@ -1,5 +1,5 @@
 -- A number behind spaces, right in the seven places of a column, and a space.
-use Rattle.std.proofs.Common.{◌≡◌, ◌-◌, ◌<◌, ◌≤◌, ◌+◌, ◌++◌, ℕ, List, length, take, drop, sym, ap, ◌∙◌, arith}
+use Rattle.std.proofs.Common.{◌≡◌, ◌-◌, ◌<◌, ◌≤◌, ◌++◌, ℕ, List, length, take, drop, sym, ap, ◌∙◌, arith}
 use Rattle.std.proofs.Math.ListN.{replicate, length-replicate}
 use Rattle.std.proofs.lemmas.List.{take-replicate, drop-replicate, length-drop, drop-append-le, take-append-drop, take_all}
 

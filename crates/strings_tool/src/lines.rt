@@ -16,12 +16,7 @@ use tool_text::Radix;
 /// Appends the line of a run.
 #[tactic(auto, using(elf_types::proofs::Writers::kept), unfolding(crate::specs::Texts::run_line))]
 #[inline(always)]
-fn put_run(
-    page: &mut Octets,
-    place: Option<Radix>,
-    at: u128,
-    bytes: &[u8],
-) -> Result<(), ElfError>
+fn put_run(page: &mut Octets, place: Option<Radix>, at: u128, bytes: &[u8]) -> Result<(), ElfError>
     ensures ok { OnOk result (page.new ≡ page.old
         ++ run_line place (record { at = at; bytes = bytes.now })) }
     ensures err { IfErr result (WantsMemory page.old page.new) }

@@ -1,6 +1,5 @@
-use Rattle.std.proofs.Common.{arith}
 use Rattle.std.proofs.lemmas.Result.{err_from_is_err_and}
-use Rattle.strings_tool.proofs.LineLemmas.{none_put, refused_put, more_put}
+use Rattle.strings_tool.proofs.LineLemmas.{refused_put}
 use Rattle.strings_tool.proofs.lines.put_blocks.Goals as goal
 
 pub returns-in_err-used-clause-err : goal.returns-in_err-used-clause-err
