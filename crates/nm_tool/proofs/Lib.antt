@@ -7,6 +7,7 @@ mod Keys
 mod FoundTable
 mod RowLemmas
 mod Ranking
+mod NameFronts
 mod PlaceLemmas
 mod PlainLemmas
 mod HeldLemmas

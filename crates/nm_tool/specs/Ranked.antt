@@ -1,6 +1,6 @@
 -- Kept symbols as they are sorted: by keys, each of which decides most comparisons, then by their
 -- names, then by their indexes.
-use Rattle.std.specs.Prelude.{◌≡◌, ◌+◌, ◌*◌, ◌<◌, ℕ, zero, suc, Bool, not, List, All, slice_index_or}
+use Rattle.std.specs.Prelude.{◌≡◌, ◌+◌, ◌*◌, ◌<◌, ◌==◌, ℕ, zero, suc, Bool, true, not, List, All, length, slice_index_or}
 use Rattle.std.specs.declared.cmp.Ordering.{Ordering}
 use Rattle.std.specs.Ordering.{ordering_then, nat_cmp}
 use Rattle.std.specs.Cmp.Lexicographic.{slice_cmp}
@@ -19,6 +19,10 @@ number_from place (suc n) bytes =
 -- two lists have the same bytes before a place
 abbrev pub SharesFront : ℕ → List ℕ → List ℕ → Type 0
 SharesFront place a b = (i : ℕ) → i < place → slice_index_or a i 0 ≡ slice_index_or b i 0
+
+-- none of the bytes is a NUL
+abbrev pub HasNoNul : List ℕ → Type 0
+HasNoNul bytes = (i : ℕ) → i < length bytes → not (slice_index_or bytes i 0 == 0) ≡ true
 
 -- the symbol with the number of eight bytes of its name as its key
 abbrev pub keyed : (ℕ → List ℕ) → ℕ → Kept → Kept

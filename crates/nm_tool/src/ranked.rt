@@ -11,10 +11,11 @@ ghost use Rattle.std.specs.List.{list_all};
 ghost use Rattle.std.specs.List.Sorted.{IsNonDecreasingBy};
 ghost use Rattle.std.specs.Cmp.Lexicographic.{slice_cmp};
 ghost use Rattle.elf_types.specs.Lists.{AreBytes};
+ghost use Rattle.elf_object.specs.Strings.{has_nul};
 ghost use Rattle.nm_tool.specs.declared.kept.Kept.{Kept as TheKept};
 ghost use Rattle.nm_tool.specs.Order.{entries_in_order};
 ghost use Rattle.nm_tool.specs.Kept.{order_of, shown_name_in, linked_shown_name, ranked_entry, kept_entries};
-ghost use Rattle.nm_tool.specs.Ranked.{number_from, SharesFront, kept_cmp, names_cmp, has_nonempty_name, keyed, AreKeyed};
+ghost use Rattle.nm_tool.specs.Ranked.{number_from, SharesFront, HasNoNul, kept_cmp, names_cmp, has_nonempty_name, keyed, AreKeyed};
 ghost use Rattle.nm_tool.specs.Tables.{AreTables};
 
 use crate::kept::{Kept, name_or_none};
@@ -120,11 +121,40 @@ fn shared_within(first: &[u8], name: &[u8], count: usize) -> usize
     count
 }
 
+/// Whether bytes end with a NUL.
+fn is_ended(bytes: &[u8]) -> bool
+    ensures { result ≡ true → has_nul bytes.now ≡ true }
+{
+    let len = bytes.len();
+    if len == 0 {
+        return false;
+    }
+    bytes[len - 1] == 0
+}
+
+/// How many of the first `count` bytes of a list without a NUL are those of the name at a place of
+/// strings, up to the first that differs. The end of a name that has them all is not looked for.
+fn shared_at(strings: &[u8], place: u32, first: &[u8], count: usize) -> usize
+    requires count { count ≤ length first.now }
+    requires plain { HasNoNul first.now }
+    ensures shares { SharesFront result first.now (shown_name_in strings.now place) }
+    ensures within { result ≤ count }
+{
+    let rest = rest_of(strings, place as usize);
+    if is_ended(rest) {
+        if rest.starts_with(&first[..count]) {
+            return count;
+        }
+    }
+    shared_within(first, name_at(strings, place), count)
+}
+
 /// As many bytes as are looked for that all names share.
 const MOST_SHARED: usize = 4096;
 
-/// How many bytes of a list are before the names of symbols too, in each of them.
+/// How many bytes of a list without a NUL are before the names of symbols too, in each of them.
 fn shared_with(strings: &[u8], rows: &[Kept], first: &[u8]) -> usize
+    requires { HasNoNul first.now }
     ensures shares { All (λ k. SharesFront result first.now (shown_name_in strings.now k.name))
         rows.now }
     ensures within { result ≤ length first.now }
@@ -134,7 +164,7 @@ fn shared_with(strings: &[u8], rows: &[Kept], first: &[u8]) -> usize
         if count == 0 {
             return 0;
         }
-        count = shared_within(first, name_at(strings, k.name), count);
+        count = shared_at(strings, k.name, first, count);
     }
     count
 }
