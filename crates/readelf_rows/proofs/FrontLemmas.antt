@@ -61,6 +61,13 @@ precedes_then {a} {b} {c} {end} {mid} {at} {x} {y} before this =
       stands = this.stands ∙ ap (λ (l : List ℕ). x ++ l) before.stands ∙ sym (append_assoc x y (drop end a));
     }
 
+-- before what stood from the place on
+pub stands_before : {a b : List ℕ} {end at : ℕ} {x y : List ℕ} → Precedes a b end at x → drop end a ≡ y → drop at b ≡ x ++ y
+stands_before {a} {b} {end} {at} {x} {y} h is = h.stands ∙ ap (λ (l : List ℕ). x ++ l) is
+
+pub begins_inside : {a b : List ℕ} {end at : ℕ} {x : List ℕ} → Precedes a b end at x → end ≤ length a → at ≤ length b
+begins_inside {a} {b} {end} {at} {x} h inside = omega (arith, h.place, h.long, inside)
+
 -- the same text, stated otherwise
 pub precedes_as : {a b : List ℕ} {end at : ℕ} {x y : List ℕ} → x ≡ y → Precedes a b end at x → Precedes a b end at y
 precedes_as {a} {b} {end} {at} {x} {y} same h = subst (λ (l : List ℕ). Precedes a b end at l) same h

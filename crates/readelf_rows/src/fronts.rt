@@ -27,6 +27,18 @@ fn put_over(buffer: &mut [u8], at: usize, bytes: &[u8])
     buffer[at..at + bytes.len()].copy_from_slice(bytes);
 }
 
+/// Writes bytes.
+#[inline(always)]
+pub fn write_bytes(buffer: &mut [u8], end: usize, bytes: &[u8]) -> usize
+    requires room { length bytes.now ≤ end }
+    requires inside { end ≤ length buffer.old }
+    ensures { Precedes buffer.old buffer.new end result bytes.now }
+{
+    let at = end - bytes.len();
+    put_over(buffer, at, bytes);
+    at
+}
+
 /// Writes a text.
 #[inline(always)]
 pub fn write_text(buffer: &mut [u8], end: usize, text: &str) -> usize

@@ -7,6 +7,7 @@ pub mod data;
 pub mod fields;
 pub mod fronts;
 pub mod links;
+pub mod written;
 
 pub use data::{SectionPart, each_plain, is_of_type, put_data_title};
 pub use fields::{
@@ -14,3 +15,4 @@ pub use fields::{
     put_hex_field, put_name_column, put_name_field, put_name_or_hex, put_row_start,
 };
 pub use links::{ItemTable, SectionLinks, links_of};
+pub use written::WrittenRows;
