@@ -40,6 +40,13 @@ module _ (i : ℕ) (h : Shdr) where
       ∙ sym (in_a_row r b t p (m ++ codes "\n"))
       ∙ sym (append_assoc (((((r ++ codes " ") ++ b) ++ codes " ") ++ t) ++ p) m (codes "\n"))
 
+  -- the same, with the name before the rest
+  pub named_before : (n : List ℕ)
+      → section_front i (codes " [") ++ (n ++ section_end (codes "] ") h)
+      ≡ section_line i (Some n) h
+  named_before n =
+      sym (append_assoc (section_front i (codes " [")) n (section_end (codes "] ") h)) ∙ named n
+
   pub unnamed : section_front i (codes " <none>") ++ section_end (codes " ") h
       ≡ section_line i None h
   unfolding section_front section_end section_start section_line bracketed

@@ -1,3 +1,4 @@
 pub mod Header
 pub mod Segments
 pub mod Sections
+pub mod SectionBlocks

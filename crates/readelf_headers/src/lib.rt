@@ -3,6 +3,7 @@
 #![tactic(auto)]
 
 pub mod headers;
+pub mod section_blocks;
 pub mod sections;
 pub mod segments;
 

@@ -1,20 +1,24 @@
-//! The lines of the section headers. What is before the name of a section is written into a buffer,
-//! from its end, and then put at once; so is what is after the name.
+//! The lines of the section headers. A line is written from its end before a place of a buffer, so
+//! that the lines of a block are written one before the other; or what is before the name of a
+//! section, and what is after it, is written into a buffer of its own and put at once.
 
-ghost use Rattle.std.specs.Prelude.{◌≡◌, ◌++◌, ◌+◌, ◌≤◌, codes, length, OnOk, IfErr};
+ghost use Rattle.std.specs.Prelude.{◌≡◌, ◌++◌, ◌+◌, ◌≤◌, codes, length, OnOk, IfErr, IfSome};
 ghost use Rattle.std.specs.Option.{option_copied};
 ghost use Rattle.elf_types.specs.Names.{section_type_name_of};
 ghost use Rattle.elf_types.specs.Writers.{WantsMemory};
+ghost use Rattle.elf_object.specs.Due.{all_sections};
+ghost use Rattle.tool_output.specs.Reports.{reports_of};
 ghost use Rattle.tool_objects.specs.Steps.{ReportsOver};
 ghost use Rattle.readelf_rows.specs.Fields.{name_or_hex, decimal_column};
 ghost use Rattle.readelf_rows.specs.Fronts.{Precedes};
 ghost use Rattle.readelf_headers.specs.Sections.{section_places, section_number_columns, section_front, section_end, section_line, sections_title, shown_section_line, sections_report};
 
+use crate::section_blocks::{load_names, names_at_hand, show_blocks};
 use elf_outside::{Sink, Source};
 use elf_types::{ElfError, Octets, ScnId, Shdr, put_bytes, section_type_name};
 use readelf_rows::fronts::{
-    write_decimal, write_decimal_column, write_hex_column, write_name_or_hex, write_row_start,
-    write_text,
+    write_bytes, write_decimal, write_decimal_column, write_hex_column, write_name_or_hex,
+    write_row_start, write_text,
 };
 use readelf_rows::put_counted_line;
 use tool_objects::prelude::Elf;
@@ -84,23 +88,26 @@ fn write_numbers(buffer: &mut [u8], end: usize, h: &Shdr) -> usize
     write_decimal_column(buffer, info, "link", u64::from(h.link))
 }
 
-/// Writes what is after the name of a section, after the text with which that is closed, so that it
-/// ends with the buffer, and tells where it begins.
+/// Writes what is after the name of a section, after the text with which that is closed, before a
+/// place.
 #[tactic(auto, unfolding(crate::specs::Sections::section_end))]
 #[inline(always)]
-fn write_end(buffer: &mut [u8], closing: &str, h: &Shdr) -> usize
-    requires len { length buffer.old ≡ 256 }
+fn write_end(buffer: &mut [u8], end: usize, closing: &str, h: &Shdr) -> usize
+    requires room { 256 ≤ end }
+    requires inside { end ≤ length buffer.old }
     requires short { length closing.now ≤ 8 }
-    ensures { Precedes buffer.old buffer.new 256 result (section_end closing.now h.now) }
+    ensures wrote { Precedes buffer.old buffer.new end result (section_end closing.now h.now) }
+    ensures room { end ≤ result + 256 }
 {
-    let newline = write_text(buffer, END, "\n");
+    let newline = write_text(buffer, end, "\n");
     let numbers = write_numbers(buffer, newline, h);
     let places = write_places(buffer, numbers, h);
     let stype = write_type(buffer, places, h.stype);
     write_text(buffer, stype, closing)
 }
 
-/// Appends the same, by a buffer for it.
+/// Appends what is after the name of a section, after the text with which that is closed, by a
+/// buffer for it.
 #[tactic(auto, using(elf_types::proofs::Writers::kept))]
 #[inline(always)]
 fn put_end_by(page: &mut Octets, closing: &str, h: &Shdr, buffer: &mut [u8]) -> Result<(), ElfError>
@@ -109,7 +116,7 @@ fn put_end_by(page: &mut Octets, closing: &str, h: &Shdr, buffer: &mut [u8]) -> 
     ensures ok { OnOk result (page.new ≡ page.old ++ section_end closing.now h.now) }
     ensures err { IfErr result (WantsMemory page.old page.new) }
 {
-    let at = write_end(buffer, closing, h);
+    let at = write_end(buffer, END, closing, h);
     put_bytes(page, &buffer[at..])
 }
 
@@ -124,19 +131,19 @@ fn put_end(page: &mut Octets, closing: &str, h: &Shdr) -> Result<(), ElfError>
     put_end_by(page, closing, h, &mut buffer)
 }
 
-/// Writes `  I` and the text with which the name is opened, so that they end with the buffer, and
-/// tells where they begin.
+/// Writes `  I` and the text with which the name is opened, before a place.
 #[inline(always)]
-fn write_front(buffer: &mut [u8], i: u64, opening: &str) -> usize
-    requires len { length buffer.old ≡ 32 }
+fn write_front(buffer: &mut [u8], end: usize, i: u64, opening: &str) -> usize
+    requires room { 32 ≤ end }
+    requires inside { end ≤ length buffer.old }
     requires short { length opening.now ≤ 8 }
-    ensures { Precedes buffer.old buffer.new 32 result (section_front i opening.now) }
+    ensures { Precedes buffer.old buffer.new end result (section_front i opening.now) }
 {
-    let opened = write_text(buffer, FRONT, opening);
+    let opened = write_text(buffer, end, opening);
     write_row_start(buffer, opened, i)
 }
 
-/// Appends the same, by a buffer for it.
+/// Appends `  I` and the text with which the name is opened, by a buffer for it.
 #[tactic(auto, using(elf_types::proofs::Writers::kept))]
 #[inline(always)]
 fn put_front_by(page: &mut Octets, i: u64, opening: &str, buffer: &mut [u8]) -> Result<(), ElfError>
@@ -145,7 +152,7 @@ fn put_front_by(page: &mut Octets, i: u64, opening: &str, buffer: &mut [u8]) -> 
     ensures ok { OnOk result (page.new ≡ page.old ++ section_front i opening.now) }
     ensures err { IfErr result (WantsMemory page.old page.new) }
 {
-    let at = write_front(buffer, i, opening);
+    let at = write_front(buffer, FRONT, i, opening);
     put_bytes(page, &buffer[at..])
 }
 
@@ -160,15 +167,48 @@ fn put_front(page: &mut Octets, i: u32, opening: &str) -> Result<(), ElfError>
     put_front_by(page, u64::from(i), opening, &mut buffer)
 }
 
+/// Writes the line of a section before a place of a buffer, and tells where it begins; None where
+/// there may be no room for it.
+#[inline(always)]
+pub fn write_line(
+    buffer: &mut [u8],
+    end: usize,
+    index: u32,
+    name: Option<&[u8]>,
+    h: &Shdr,
+) -> Option<usize>
+    requires { end ≤ length buffer.old }
+    ensures { IfSome result (λ at. Precedes buffer.old buffer.new end at
+        (section_line index (option_copied name.entry) h.now)) }
+{
+    if end < FRONT + END {
+        return None;
+    }
+    match name {
+        Some(name) => {
+            if end - FRONT - END < name.len() {
+                return None;
+            }
+            let closed = write_end(buffer, end, "] ", h);
+            let named = write_bytes(buffer, closed, name);
+            Some(write_front(buffer, named, u64::from(index), " ["))
+        }
+        None => {
+            let closed = write_end(buffer, end, " ", h);
+            Some(write_front(buffer, closed, u64::from(index), " <none>"))
+        }
+    }
+}
+
 /// The line of a section.
 #[derive(Clone, Copy)]
-struct SectionLine<'a> {
+pub struct SectionLine<'a> {
     /// Its number.
-    index: u32,
+    pub index: u32,
     /// Its name.
-    name: Option<&'a [u8]>,
+    pub name: Option<&'a [u8]>,
     /// Its header.
-    header: Shdr,
+    pub header: Shdr,
 }
 
 impl Line for SectionLine<'_> {
@@ -231,6 +271,36 @@ impl SectionTool for SectionRows {
     }
 }
 
+/// Shows a line for each section, from the strings of the names where these are in memory.
+fn show_lines<S: Source, O: Sink, E: Sink>(
+    elf: &mut Elf<S>,
+    outputs: &mut Outputs<'_, O, E>,
+) -> Result<bool, Stop>
+    ensures { ReportsOver S.Source O.Sink E.Sink 1
+        (λ o. reports_of (shown_section_line o) (all_sections o))
+        result elf.old elf.new outputs.old outputs.new }
+{
+    match names_at_hand(elf) {
+        Some(strings) => show_blocks(elf, strings, outputs),
+        None => each_section(&SectionRows, elf, outputs),
+    }
+}
+
+/// Shows a line for each section: the names are read first, once, where they are a table of strings.
+fn show_rows<S: Source, O: Sink, E: Sink>(
+    elf: &mut Elf<S>,
+    outputs: &mut Outputs<'_, O, E>,
+) -> Result<bool, Stop>
+    ensures { ReportsOver S.Source O.Sink E.Sink 1
+        (λ o. reports_of (shown_section_line o) (all_sections o))
+        result elf.old elf.new outputs.old outputs.new }
+{
+    match load_names(elf) {
+        Ok(()) => show_lines(elf, outputs),
+        Err(stop) => Err(stop),
+    }
+}
+
 /// Shows the section headers: their number, and a line for each. The names are read once, with the
 /// section that holds them. Nothing is rejected.
 pub fn show_sections<S: Source, O: Sink, E: Sink>(
@@ -242,5 +312,5 @@ pub fn show_sections<S: Source, O: Sink, E: Sink>(
 {
     let count = elf.shnum();
     outputs.show(&SectionsTitle { count })?;
-    each_section(&SectionRows, elf, outputs)
+    show_rows(elf, outputs)
 }

@@ -21,8 +21,8 @@ pub returns : goal.returns
 unfolding sections_report
 returns g c =
     let count = ok_value_is _ _ c.shnum-count.ensures in
-    elf_shown_then g.S.Source g.O.Sink g.E.Sink (λ o. sections_title (length o.sections)) (λ o. reports_of (shown_section_line o) (all_sections o)) c.each_section.result _
+    elf_shown_then g.S.Source g.O.Sink g.E.Sink (λ o. sections_title (length o.sections)) (λ o. reports_of (shown_section_line o) (all_sections o)) c.show_rows.result _
     c.args.elf.now _ _ c.args.outputs.now _ _
     (elf_says g.S.Source g.O.Sink g.E.Sink (λ o. shown_report (sections_title (length o.sections))) _ c.args.elf.now _ c.args.outputs.now _ (elf_left g.S.Source c.args.elf.now)
     (λ told. rw (← count) (c.in_ok-show.ensures.reports)) c.in_ok-show.ensures.leaves)
-    c.each_section.ensures
+    c.show_rows.ensures

@@ -1,5 +1,4 @@
-use Rattle.std.proofs.Common.{ℕ, List, Option, sym, subst, ap₂, ◌∙◌}
-use Rattle.elf_types.specs.Names.{section_type_name_of}
+use Rattle.std.proofs.Common.{ℕ, List, Option, sym, subst, ap₂}
 use Rattle.readelf_rows.specs.Fields.{name_or_hex}
 use Rattle.readelf_rows.proofs.FrontLemmas.{precedes_as}
 use Rattle.readelf_rows.proofs.ShortNames.{IsShort}
