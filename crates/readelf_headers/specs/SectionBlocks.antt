@@ -10,7 +10,8 @@ use Rattle.readelf_headers.specs.Sections.{section_line}
 -- the line of a section, with the name that the bytes of the strings hold
 abbrev pub line_by : Object → List ℕ → ℕ → List ℕ
 line_by o strings i =
-    section_line i (string_front (drop (section_at o i).header.name strings)) (section_at o i).header
+    section_line i (string_front (drop (section_at o i).header.name strings))
+    (section_at o i).header
 
 -- the lines of the sections from one on and below another
 abbrev pub lines_by : Object → List ℕ → ℕ → ℕ → List ℕ

@@ -1,6 +1,6 @@
 //! The lines of the sections of an object whose names are in memory, as a table of strings: a block
-//! of them is written into a buffer and shown at once. So no section is asked for its name, and each
-//! line is told from its header and from these bytes.
+//! of them is written into a buffer and shown at once. So no section is asked for its name, and
+//! each line is told from its header and from these bytes.
 
 ghost use Rattle.std.specs.Prelude.{◌≡◌, ◌≤◌, ◌<◌, length, drop, IfSome};
 ghost use Rattle.tool_output.specs.Reports.{Reports, shown_report};

@@ -286,7 +286,7 @@ fn show_lines<S: Source, O: Sink, E: Sink>(
     }
 }
 
-/// Shows a line for each section: the names are read first, once, where they are a table of strings.
+/// Shows a line for each section. The names are read first, once, where they are one table.
 fn show_rows<S: Source, O: Sink, E: Sink>(
     elf: &mut Elf<S>,
     outputs: &mut Outputs<'_, O, E>,
