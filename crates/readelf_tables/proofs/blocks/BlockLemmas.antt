@@ -1,7 +1,7 @@
 -- The rows of a table, block by block.
 use Rattle.std.proofs.Common.{◌≡◌, ℕ, suc, zero, ◌+◌, ◌-◌, ◌*◌, ◌<◌, ◌≤◌, ◌++◌, List, [], ◌∷◌, length, take, drop, get_or, Option, Some, None, refl, sym, ap, ◌∙◌, arith}
 use Rattle.std.specs.Prelude.{slice_get, IsTrue}
-use Rattle.std.proofs.lemmas.List.{append_assoc, take_more, take_all, drop-drop, get_or-drop, length-take-le, length-drop}
+use Rattle.std.proofs.lemmas.List.{at_drop_more, at_drop_all, append_assoc, take_more, take_all, drop-drop, get_or-drop, length-take-le, length-drop}
 use Rattle.std.proofs.lemmas.Option.{get_or_from_slice_get, slice_get_within}
 use Rattle.elf_types.specs.declared.records.Kind.{Kind}
 use Rattle.elf_object.specs.Object.{Object}
@@ -69,6 +69,20 @@ module _ {X : Type 0} (line : ℕ → X → List ℕ) where
       let next : b * 64 + 64 ≡ (b + 1) * 64 = omega arith in
       block_left 64 (b * 64) xs
       ∙ ap (λ (n : ℕ). joined_reports (shown_report (numbered_lines line (b * 64) (take 64 (drop (b * 64) xs)))) (shown_report (numbered_lines line n (drop n xs)))) next
+
+-- the line of an item, and those behind it
+module _ {X : Type 0} (line : ℕ → X → List ℕ) (xs : List X) where
+  pub line_first : (i : ℕ) (x : X) → i < length xs → x ≡ get_or xs i x
+      → numbered_lines line i (drop i xs) ≡ line i x ++ numbered_lines line (i + 1) (drop (i + 1) xs)
+  unfolding numbered_lines
+  line_first i x lt is =
+      at_drop_more (numbered_lines line i) xs i x lt
+      ∙ ap (λ (y : X). numbered_lines line i (y ∷ drop (i + 1) xs)) (sym is)
+
+  -- there is none
+  pub no_line : (i : ℕ) → length xs ≤ i → numbered_lines line i (drop i xs) ≡ []
+  unfolding numbered_lines
+  no_line i le = at_drop_all (numbered_lines line i) xs i le
 
 -- two ways to write a line
 pub lines_same : {X : Type 0} (f g : ℕ → X → List ℕ) → ((i : ℕ) (x : X) → f i x ≡ g i x) → (i : ℕ) (xs : List X) → numbered_lines f i xs ≡ numbered_lines g i xs

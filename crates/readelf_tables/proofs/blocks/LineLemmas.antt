@@ -45,6 +45,14 @@ module _ (i : ℕ) (x : Rel) (addend : Option ℤ) where
       ∙ sym (append_assoc q b z)
       ∙ sym (append_assoc (q ++ b) a (codes "\n"))
 
+  -- the same, with the name before the rest
+  pub named_before : (n : List ℕ)
+      → relocation_front i x (codes " [") ++ (n ++ relocation_end (codes "]") addend)
+      ≡ relocation_line i x addend (Some n)
+  named_before n =
+      sym (append_assoc (relocation_front i x (codes " [")) n (relocation_end (codes "]") addend))
+      ∙ named n
+
   pub unnamed : relocation_front i x (codes " <none>") ++ relocation_end [] addend
       ≡ relocation_line i x addend None
   unfolding relocation_front relocation_end relocation_start relocation_line bracketed

@@ -37,6 +37,10 @@ module _ (i : ℕ) (x : Sym) (place : Option SymPlace) where
       ∙ ap (λ (l : List ℕ). s ++ (m ++ (w ++ (p ++ (32 ∷ 91 ∷ l))))) (sym (append_assoc n (93 ∷ []) (10 ∷ [])))
       ∙ sym (in_a_row s m w p ((codes "[" ++ n) ++ codes "]"))
 
+  -- the same, with the name before what closes it
+  pub behind_named : (n : List ℕ) → symbol_front i x place (codes " [") ++ (n ++ codes "]\n") ≡ symbol_line i x place (Some n)
+  behind_named n = sym (append_assoc (symbol_front i x place (codes " [")) n (codes "]\n")) ∙ front_named n
+
   pub front_unnamed : symbol_front i x place (codes " <none>\n") ≡ symbol_line i x place None
   unfolding symbol_front symbol_line symbol_end bracketed
   front_unnamed = sym (in_a_row (symbol_start i x) (symbol_names x) (codes " shndx ") (place_text x place) (codes "<none>"))

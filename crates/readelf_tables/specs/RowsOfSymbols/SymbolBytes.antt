@@ -1,10 +1,11 @@
 -- The rows of a table of symbols of which the bytes are at hand, and those of its strings, and which
 -- has no extended indexes.
-use Rattle.std.specs.Prelude.{◌≡◌, ◌==◌, ℕ, nat_lt, List, drop, Option, Some, None, if◌then◌else◌}
+use Rattle.std.specs.Prelude.{◌≡◌, ◌-◌, ◌==◌, ℕ, nat_lt, List, take, drop, Option, Some, None, if◌then◌else◌}
 use Rattle.elf_types.specs.declared.records.Kind.TheVariants as kinds
 use Rattle.elf_types.specs.declared.records.Sym.{Sym}
 use Rattle.elf_types.specs.declared.constants.TheConstants.{SHN_LORESERVE, SHN_XINDEX}
 use Rattle.elf_object.specs.Answers.{syms_of}
+use Rattle.tool_output.specs.Lines.{numbered_lines}
 use Rattle.tool_objects.specs.elf_descriptor.State.{State}
 use Rattle.tool_objects.specs.gelf_view.Records.{string_front}
 use Rattle.tool_objects.specs.gelf_view.declared.symbols.SymPlace.{SymPlace}
@@ -30,6 +31,12 @@ bytes_row strings i x =
 -- the symbols of a table
 abbrev pub symbols_of_bytes : SymbolBytes → List Sym
 symbols_of_bytes t = held_items kinds.Sym syms_of t.symbols
+
+-- the rows of those from one index on and below another
+abbrev pub symbol_rows : SymbolBytes → ℕ → ℕ → List ℕ
+symbol_rows t from to =
+    numbered_lines (bytes_row t.strings.now) from
+    (take (to - from) (drop from (symbols_of_bytes t)))
 
 -- they are those of a section without extended indexes, and the strings those of the linked one
 pub record AreSymbolBytes {S : Type 0} (state : State S) (table : ItemTable) (t : SymbolBytes)

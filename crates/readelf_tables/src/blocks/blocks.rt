@@ -2,7 +2,7 @@
 //! block are looked up one right after the other, and then their names, and then its lines are
 //! written. So the processor waits for the memory of many rows at once, and not for each in turn.
 
-ghost use Rattle.std.specs.Prelude.{◌≡◌, ◌<◌, ℕ, ◌^◌, length, get_or, IfOk, IfErr, OnOk};
+ghost use Rattle.std.specs.Prelude.{◌≡◌, ◌<◌, ◌≤◌, ℕ, ◌^◌, length, drop, get_or, IfOk, IfErr, IfSome, OnOk};
 ghost use Rattle.std.specs.Option.{option_copied};
 ghost use Rattle.tool_output.specs.Lines.{numbered_lines};
 ghost use Rattle.tool_output.specs.Reports.{Reports, shown_report};
@@ -12,9 +12,10 @@ ghost use Rattle.readelf_tables.specs.Blocks.Blocks as blocks;
 ghost use Rattle.readelf_tables.specs.Blocks.Blocks.{rel_entry, rela_entry, line_row, found_row, HasWholeItems, relocations_in_bytes, block_rows, table_row};
 
 use crate::blocks::at_hand::TableBytes;
-use crate::blocks::relocation_lines::{RelocationEntry, RelocationLine};
+use crate::blocks::relocation_lines::{RelocationEntry, RelocationLine, write_line};
 use elf_outside::Sink;
 use elf_types::{ElfError, List, Rel, Rela, Sym};
+use readelf_rows::WrittenRows;
 use std::alloc::Global;
 use tool_objects::at_hand::{item_of, most_items, table_string_from};
 use tool_objects::prelude::Item;
@@ -22,6 +23,9 @@ use tool_output::{Outputs, Stop};
 
 /// How many rows are looked up before their lines are written.
 const BLOCK: u64 = 64;
+
+/// Lines are shown one by one where so many bytes are no room for a block of them.
+const LINES: usize = 16384;
 
 /// A relocation of a table, with an addend or without one.
 pub trait Relocation {
@@ -154,8 +158,24 @@ fn block_lines<'a, T: Item + Relocation>(
     name_lines(alloc, table.strings, found.as_slice())
 }
 
+/// Writes lines before the end of a buffer, the last one first, and tells where they begin; None
+/// where there may be no room for all.
+fn write_lines(lines: &[RelocationLine<'_>], buffer: &mut [u8]) -> Option<usize>
+    ensures inside { IfSome result (λ at. at ≤ length buffer.new) }
+    ensures wrote { IfSome result (λ at. drop at buffer.new ≡ numbered_lines line_row 0 lines.now) }
+{
+    let mut at = buffer.len();
+    let mut i = lines.len();
+    while i > 0 {
+        i -= 1;
+        let line = item_at(lines, i);
+        at = write_line(buffer, at, &line)?;
+    }
+    Some(at)
+}
+
 /// Shows lines one after the other.
-fn show_lines<O: Sink, E: Sink>(
+fn show_one_by_one<O: Sink, E: Sink>(
     lines: &[RelocationLine<'_>],
     outputs: &mut Outputs<'_, O, E>,
 ) -> Result<bool, Stop>
@@ -170,12 +190,31 @@ fn show_lines<O: Sink, E: Sink>(
     Ok(false)
 }
 
+/// Shows lines: at once where a buffer has room for all.
+fn show_lines<O: Sink, E: Sink>(
+    lines: &[RelocationLine<'_>],
+    buffer: &mut [u8],
+    outputs: &mut Outputs<'_, O, E>,
+) -> Result<bool, Stop>
+    ensures reports { Reports O.Sink E.Sink result outputs.old outputs.new
+        (shown_report (numbered_lines line_row 0 lines.now)) }
+    ensures leaves { LeavesOutputs O.Sink E.Sink ⊥ result outputs.old outputs.new }
+{
+    match write_lines(lines, buffer) {
+        Some(at) => outputs.show(&WrittenRows {
+            bytes: &buffer[at..],
+        }),
+        None => show_one_by_one(lines, outputs),
+    }
+}
+
 /// Shows the rows of a block, from one relocation on.
 fn show_block<T: Item + Relocation, O: Sink, E: Sink>(
     alloc: Global,
     table: &TableBytes<'_>,
     first: u64,
     found: &mut List<Found>,
+    buffer: &mut [u8],
     outputs: &mut Outputs<'_, O, E>,
 ) -> Result<bool, Stop>
     requires bytes { HasWholeItems T.kind table.now }
@@ -186,9 +225,30 @@ fn show_block<T: Item + Relocation, O: Sink, E: Sink>(
     ensures leaves { LeavesOutputs O.Sink E.Sink ⊥ result outputs.old outputs.new }
 {
     match block_lines::<T>(alloc, table, first, found) {
-        Ok(lines) => show_lines(lines.as_slice(), outputs),
+        Ok(lines) => show_lines(lines.as_slice(), buffer, outputs),
         Err(e) => Err(Stop::want_of(e)),
     }
+}
+
+/// Shows the rows of a table, a block at a time by a buffer.
+fn show_blocks_by<T: Item + Relocation, O: Sink, E: Sink>(
+    alloc: Global,
+    table: &TableBytes<'_>,
+    buffer: &mut [u8],
+    outputs: &mut Outputs<'_, O, E>,
+) -> Result<bool, Stop>
+    requires { HasWholeItems T.kind table.now }
+    ensures reports { Reports O.Sink E.Sink result outputs.old outputs.new
+        (shown_report (numbered_lines (table_row T.entry_of table.now) 0
+        (relocations_in_bytes T.kind T.list_of table.now))) }
+    ensures leaves { LeavesOutputs O.Sink E.Sink ⊥ result outputs.old outputs.new }
+{
+    let mut found = List::new(alloc);
+    let count = most_items::<T>(table.relocations, table.class, table.order);
+    for block in 0..count / BLOCK + 1 {
+        show_block::<T, O, E>(alloc, table, block * BLOCK, &mut found, buffer, outputs)?;
+    }
+    Ok(false)
 }
 
 /// Shows the rows of a table whose bytes are in memory.
@@ -203,10 +263,6 @@ pub fn show_blocks<T: Item + Relocation, O: Sink, E: Sink>(
         (relocations_in_bytes T.kind T.list_of table.now))) }
     ensures leaves { LeavesOutputs O.Sink E.Sink ⊥ result outputs.old outputs.new }
 {
-    let mut found = List::new(alloc);
-    let count = most_items::<T>(table.relocations, table.class, table.order);
-    for block in 0..count / BLOCK + 1 {
-        show_block::<T, O, E>(alloc, table, block * BLOCK, &mut found, outputs)?;
-    }
-    Ok(false)
+    let mut buffer = [0u8; LINES];
+    show_blocks_by::<T, O, E>(alloc, table, &mut buffer, outputs)
 }

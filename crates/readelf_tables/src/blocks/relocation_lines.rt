@@ -1,7 +1,8 @@
-//! The line of a relocation. What is before the name of its symbol is written into a buffer, from its
-//! end, and then put at once; so is what is after the name.
+//! The line of a relocation. It is written from its end before a place of a buffer, so that those
+//! of a block are written one before the other; or what is before the name of its symbol, and what
+//! is after it, is written into a buffer of its own and put at once.
 
-ghost use Rattle.std.specs.Prelude.{◌≡◌, ◌++◌, ◌+◌, ◌≤◌, length, OnOk, IfErr};
+ghost use Rattle.std.specs.Prelude.{◌≡◌, ◌++◌, ◌+◌, ◌≤◌, length, OnOk, IfErr, IfSome};
 ghost use Rattle.std.specs.Option.{option_copied};
 ghost use Rattle.elf_types.specs.Writers.{WantsMemory};
 ghost use Rattle.readelf_rows.specs.Fronts.{Precedes};
@@ -9,7 +10,7 @@ ghost use Rattle.readelf_tables.specs.Blocks.RelocationLines.{relocation_front, 
 
 use elf_types::{ElfError, Octets, Rel, put_bytes};
 use readelf_rows::fronts::{
-    write_decimal_column, write_hex_column, write_row_start, write_signed, write_text,
+    write_bytes, write_decimal_column, write_hex_column, write_row_start, write_signed, write_text,
 };
 use tool_output::Line;
 
@@ -19,23 +20,24 @@ const FRONT: usize = 112;
 /// What is after it takes at most so many.
 const END: usize = 48;
 
-/// Writes `  I offset 0xO type T sym Y` and the text with which the name is opened, so that they end
-/// with the buffer, and tells where they begin.
+/// Writes `  I offset 0xO type T sym Y` and the text with which the name is opened, before a place.
 #[tactic(auto, unfolding(crate::specs::Blocks::RelocationLines::relocation_front))]
 #[inline(always)]
-fn write_front(buffer: &mut [u8], i: u64, x: &Rel, opening: &str) -> usize
-    requires len { length buffer.old ≡ 112 }
+fn write_front(buffer: &mut [u8], end: usize, i: u64, x: &Rel, opening: &str) -> usize
+    requires room { 112 ≤ end }
+    requires inside { end ≤ length buffer.old }
     requires short { length opening.now ≤ 8 }
-    ensures { Precedes buffer.old buffer.new 112 result (relocation_front i x.now opening.now) }
+    ensures { Precedes buffer.old buffer.new end result (relocation_front i x.now opening.now) }
 {
-    let opened = write_text(buffer, FRONT, opening);
+    let opened = write_text(buffer, end, opening);
     let symbol = write_decimal_column(buffer, opened, "sym", u64::from(x.sym));
     let kind = write_decimal_column(buffer, symbol, "type", u64::from(x.rtype));
     let offset = write_hex_column(buffer, kind, "offset", x.offset);
     write_row_start(buffer, offset, i)
 }
 
-/// Appends the same, by a buffer for it.
+/// Appends what is before the name of a symbol and the text with which that is opened, by a buffer
+/// for it.
 #[tactic(auto, using(elf_types::proofs::Writers::kept))]
 #[inline(always)]
 fn put_front_by(
@@ -50,13 +52,12 @@ fn put_front_by(
     ensures ok { OnOk result (page.new ≡ page.old ++ relocation_front i x.now opening.now) }
     ensures err { IfErr result (WantsMemory page.old page.new) }
 {
-    let at = write_front(buffer, i, x, opening);
+    let at = write_front(buffer, FRONT, i, x, opening);
     put_bytes(page, &buffer[at..])
 }
 
 /// Appends what is before the name of a symbol, and the text with which that is opened.
 #[tactic(auto, using(elf_types::proofs::Writers::kept))]
-#[inline(always)]
 fn put_front(page: &mut Octets, i: u64, x: &Rel, opening: &str) -> Result<(), ElfError>
     requires { length opening.now ≤ 8 }
     ensures ok { OnOk result (page.new ≡ page.old ++ relocation_front i x.now opening.now) }
@@ -84,21 +85,24 @@ fn write_addend(buffer: &mut [u8], end: usize, addend: Option<i64>) -> usize
     }
 }
 
-/// Writes what is after the name of a symbol, after the text with which that is closed, so that it
-/// ends with the buffer, and tells where it begins.
+/// Writes what is after the name of a symbol, after the text with which that is closed, before a
+/// place.
 #[tactic(auto, unfolding(crate::specs::Blocks::RelocationLines::relocation_end))]
 #[inline(always)]
-fn write_end(buffer: &mut [u8], closing: &str, addend: Option<i64>) -> usize
-    requires len { length buffer.old ≡ 48 }
+fn write_end(buffer: &mut [u8], end: usize, closing: &str, addend: Option<i64>) -> usize
+    requires room { 48 ≤ end }
+    requires inside { end ≤ length buffer.old }
     requires short { length closing.now ≤ 8 }
-    ensures { Precedes buffer.old buffer.new 48 result (relocation_end closing.now addend) }
+    ensures wrote { Precedes buffer.old buffer.new end result (relocation_end closing.now addend) }
+    ensures room { end ≤ result + 48 }
 {
-    let newline = write_text(buffer, END, "\n");
+    let newline = write_text(buffer, end, "\n");
     let addend = write_addend(buffer, newline, addend);
     write_text(buffer, addend, closing)
 }
 
-/// Appends the same, by a buffer for it.
+/// Appends what is after the name of a symbol, after the text with which that is closed, by a
+/// buffer for it.
 #[tactic(auto, using(elf_types::proofs::Writers::kept))]
 #[inline(always)]
 fn put_end_by(
@@ -112,13 +116,12 @@ fn put_end_by(
     ensures ok { OnOk result (page.new ≡ page.old ++ relocation_end closing.now addend) }
     ensures err { IfErr result (WantsMemory page.old page.new) }
 {
-    let at = write_end(buffer, closing, addend);
+    let at = write_end(buffer, END, closing, addend);
     put_bytes(page, &buffer[at..])
 }
 
 /// Appends what is after the name of a symbol, after the text with which that is closed.
 #[tactic(auto, using(elf_types::proofs::Writers::kept))]
-#[inline(always)]
 fn put_end(page: &mut Octets, closing: &str, addend: Option<i64>) -> Result<(), ElfError>
     requires { length closing.now ≤ 8 }
     ensures ok { OnOk result (page.new ≡ page.old ++ relocation_end closing.now addend) }
@@ -146,6 +149,35 @@ pub struct RelocationLine<'a> {
     pub entry: RelocationEntry,
     /// The name of its symbol.
     pub name: Option<&'a [u8]>,
+}
+
+/// Writes the line of a relocation before a place of a buffer, and tells where it begins; None
+/// where there may be no room for it.
+#[inline(always)]
+pub fn write_line(buffer: &mut [u8], end: usize, line: &RelocationLine<'_>) -> Option<usize>
+    requires { end ≤ length buffer.old }
+    ensures { IfSome result (λ at. Precedes buffer.old buffer.new end at
+        (relocation_line line.now.entry.index line.now.entry.rel line.now.entry.addend
+        (option_copied line.now.name))) }
+{
+    let entry = &line.entry;
+    if end < FRONT + END {
+        return None;
+    }
+    match line.name {
+        Some(name) => {
+            if end - FRONT - END < name.len() {
+                return None;
+            }
+            let closed = write_end(buffer, end, "]", entry.addend);
+            let named = write_bytes(buffer, closed, name);
+            Some(write_front(buffer, named, entry.index, &entry.rel, " ["))
+        }
+        None => {
+            let closed = write_end(buffer, end, "", entry.addend);
+            Some(write_front(buffer, closed, entry.index, &entry.rel, " <none>"))
+        }
+    }
 }
 
 impl Line for RelocationLine<'_> {

@@ -1,7 +1,8 @@
-//! The line of a symbol. All of it that is before the name is written into a buffer, from its end,
-//! and then put into the buffer at once.
+//! The line of a symbol. It is written from its end before a place of a buffer, so that the lines
+//! of a block are written one before the other; or all of it that is before the name is written
+//! into a buffer of its own and put at once.
 
-ghost use Rattle.std.specs.Prelude.{◌≡◌, ◌+◌, ◌≤◌, ◌++◌, length, OnOk, IfErr};
+ghost use Rattle.std.specs.Prelude.{◌≡◌, ◌+◌, ◌≤◌, ◌++◌, length, OnOk, IfErr, IfSome};
 ghost use Rattle.std.specs.Option.{option_copied};
 ghost use Rattle.elf_types.specs.Writers.{WantsMemory};
 ghost use Rattle.readelf_rows.specs.Fronts.{Precedes};
@@ -15,14 +16,17 @@ use elf_types::{
     visibility_name,
 };
 use readelf_rows::fronts::{
-    write_decimal, write_decimal_column, write_hex, write_hex_column, write_name_column,
-    write_row_start, write_text,
+    write_bytes, write_decimal, write_decimal_column, write_hex, write_hex_column,
+    write_name_column, write_row_start, write_text,
 };
 use tool_objects::prelude::SymPlace;
 use tool_output::Line;
 
 /// What is before the name of a symbol takes at most so many bytes.
 const FRONT: usize = 192;
+
+/// What is after it takes so many.
+const CLOSING: usize = 2;
 
 /// The line of a symbol.
 #[derive(Clone, Copy)]
@@ -125,24 +129,51 @@ fn write_start(buffer: &mut [u8], end: usize, i: u64, x: &Sym) -> usize
     write_row_start(buffer, value, i)
 }
 
-/// Writes what is before the name of a symbol and the text with which that is opened, so that they
-/// end with the buffer, and tells where they begin.
+/// Writes what is before the name of a symbol and the text with which that is opened, before a
+/// place.
 #[tactic(auto, unfolding(crate::specs::RowsOfSymbols::Fronts::symbol_front))]
 #[inline(always)]
-fn write_front(buffer: &mut [u8], line: &SymbolLine<'_>, opening: &str) -> usize
-    requires len { length buffer.old ≡ 192 }
+fn write_front(buffer: &mut [u8], end: usize, line: &SymbolLine<'_>, opening: &str) -> usize
     requires short { length opening.now ≤ 8 }
-    ensures { Precedes buffer.old buffer.new 192 result
+    requires room { 192 ≤ end }
+    requires inside { end ≤ length buffer.old }
+    ensures { Precedes buffer.old buffer.new end result
         (symbol_front line.now.index line.now.symbol line.now.place opening.now) }
 {
-    let opened = write_text(buffer, FRONT, opening);
+    let opened = write_text(buffer, end, opening);
     let place = write_place(buffer, opened, &line.symbol, line.place);
     let index = write_text(buffer, place, " shndx ");
     let names = write_names(buffer, index, &line.symbol);
     write_start(buffer, names, line.index, &line.symbol)
 }
 
-/// Appends the same, by a buffer for it.
+/// Writes the line of a symbol before a place of a buffer, and tells where it begins; None where
+/// there may be no room for it.
+#[inline(always)]
+pub fn write_line(buffer: &mut [u8], end: usize, line: &SymbolLine<'_>) -> Option<usize>
+    requires { end ≤ length buffer.old }
+    ensures { IfSome result (λ at. Precedes buffer.old buffer.new end at
+        (symbol_line line.now.index line.now.symbol line.now.place
+        (option_copied line.now.name))) }
+{
+    if end < FRONT + CLOSING {
+        return None;
+    }
+    match line.name {
+        Some(name) => {
+            if end - FRONT - CLOSING < name.len() {
+                return None;
+            }
+            let closed = write_text(buffer, end, "]\n");
+            let named = write_bytes(buffer, closed, name);
+            Some(write_front(buffer, named, line, " ["))
+        }
+        None => Some(write_front(buffer, end, line, " <none>\n")),
+    }
+}
+
+/// Appends what is before the name of a symbol and the text with which that is opened, by a buffer
+/// for it.
 #[tactic(auto, using(elf_types::proofs::Writers::kept))]
 #[inline(always)]
 fn put_front_by(
@@ -157,13 +188,12 @@ fn put_front_by(
         ++ symbol_front line.now.index line.now.symbol line.now.place opening.now) }
     ensures err { IfErr result (WantsMemory page.old page.new) }
 {
-    let at = write_front(buffer, line, opening);
+    let at = write_front(buffer, FRONT, line, opening);
     put_bytes(page, &buffer[at..])
 }
 
 /// Appends what is before the name of a symbol, and the text with which that is opened.
 #[tactic(auto, using(elf_types::proofs::Writers::kept))]
-#[inline(always)]
 fn put_front(page: &mut Octets, line: &SymbolLine<'_>, opening: &str) -> Result<(), ElfError>
     requires { length opening.now ≤ 8 }
     ensures ok { OnOk result (page.new ≡ page.old

@@ -3,7 +3,7 @@ use Rattle.std.proofs.lemmas.Result.{err_from_is_err_and}
 use Rattle.tool_output.proofs.UnderWayLemmas.{begins, line_shown, stops_at, is_given, no_lines_left}
 use Rattle.readelf_tables.specs.Blocks.Blocks.{table_row, relocations_in_bytes}
 use Rattle.readelf_tables.proofs.blocks.BlockLemmas.{block_done}
-use Rattle.readelf_tables.proofs.blocks.blocks.show_blocks.Goals as goal
+use Rattle.readelf_tables.proofs.blocks.blocks.show_blocks_by.Goals as goal
 
 pub loop-block-init : goal.loop-block-init
 loop-block-init g c = record { lines = begins g.O.Sink g.E.Sink c.args.outputs.now _; keeps = search rules }

@@ -3,7 +3,7 @@ use Rattle.tool_output.specs.Lines.{numbered_lines}
 use Rattle.tool_output.specs.Reports.{shown_report, UnderWay}
 use Rattle.tool_output.specs.Steps.{KeepsSinks}
 use Rattle.readelf_tables.specs.Blocks.Blocks.{table_row, relocations_in_bytes}
-use Rattle.readelf_tables.proofs.blocks.blocks.show_blocks.Given as goal
+use Rattle.readelf_tables.proofs.blocks.blocks.show_blocks_by.Given as goal
 
 abbrev pub invariant-loop-block : goal.invariant-loop-block
 invariant-loop-block g l = record {

@@ -3,7 +3,7 @@ use Rattle.tool_output.specs.Lines.{numbered_lines}
 use Rattle.tool_output.specs.Reports.{shown_report, UnderWay}
 use Rattle.tool_output.specs.Steps.{KeepsSinks}
 use Rattle.readelf_tables.specs.Blocks.Blocks.{line_row}
-use Rattle.readelf_tables.proofs.blocks.blocks.show_lines.Given as goal
+use Rattle.readelf_tables.proofs.blocks.blocks.show_one_by_one.Given as goal
 
 abbrev pub invariant-loop-i : goal.invariant-loop-i
 invariant-loop-i g l = record {
