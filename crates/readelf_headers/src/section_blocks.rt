@@ -28,6 +28,9 @@ pub fn load_names<S: Source>(elf: &mut Elf<S>) -> Result<(), Stop>
     ensures { ReadsElf S.Source result elf.old elf.new }
 {
     let names = elf.shstrndx();
+    if names == 0 {
+        return Ok(());
+    }
     match strings_end(elf, ScnId(names)) {
         Ok(_) => Ok(()),
         Err(stop) => Err(stop),
