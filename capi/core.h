@@ -53,6 +53,20 @@ struct elfkit_write
   uint64_t size, at, len;
 };
 
+/* LayoutHandle: the layout of an image; a null pointer where there is none. */
+struct elfkit_layout
+{
+  void *ptr;
+};
+
+/* PartRecord: a part of an image that is not empty, and the number of the section whose bytes it
+   is: 0 for the ELF header and the two tables. */
+struct elfkit_part
+{
+  uint64_t at, len;
+  uint32_t section;
+};
+
 /* EhdrRecord: an ELF header with its true counts. */
 struct elfkit_ehdr
 {
@@ -166,6 +180,16 @@ uint32_t elfkit_plan (struct elfkit_handle *h, struct elfkit_writes *w, struct e
 uint32_t elfkit_write (struct elfkit_writes *w, uint64_t i, struct elfkit_write *out);
 void elfkit_write_bytes (struct elfkit_writes *w, uint64_t i, uint8_t *out, size_t length);
 void elfkit_writes_end (struct elfkit_writes *w);
+
+/* The layout of an image by its headers, whose sections' bytes the caller writes itself: the parts
+   by their places, and the bytes of those with section 0. */
+uint32_t elfkit_lay_out (const struct elfkit_ehdr *ehdr, const uint8_t *pad, size_t pad_length,
+                         const Elf64_Phdr *phdrs, size_t phnum, const Elf64_Shdr *shdrs,
+                         size_t shnum, uint64_t base, struct elfkit_layout *out);
+uint64_t elfkit_layout_length (struct elfkit_layout *l);
+uint32_t elfkit_layout_part (struct elfkit_layout *l, uint64_t i, struct elfkit_part *out);
+void elfkit_layout_bytes (struct elfkit_layout *l, uint64_t i, uint8_t *out, size_t length);
+void elfkit_layout_end (struct elfkit_layout *l);
 
 /* Archives. */
 uint32_t elfkit_ar_begin (struct elfkit_lent image, struct elfkit_ar_handle *h,

@@ -3,3 +3,4 @@ pub mod Translation
 pub mod Editing
 pub mod Updating
 pub mod Writes
+pub mod Layout

@@ -1,3 +1,4 @@
 pub mod Archives
 pub mod Handles
 pub mod Writes
+pub mod Layout

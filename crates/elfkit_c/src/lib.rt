@@ -1,8 +1,8 @@
 //! The exports for C: functions `elfkit_..` over the calls of the plain object or of an archive;
 //! capi/ makes libelf's names of them, and rust/elfkit its crate.
 //!
-//! An object, an archive or the writes of an update are a handle, one pointer, and the image is
-//! bytes that C lends and gets back. Each call returns a number, 0 where it is not rejected, and
+//! An object, an archive, the writes of an update or the layout of an image are a handle, one
+//! pointer, and the image is bytes that C lends and gets back. Each call returns a number, 0 where it is not rejected, and
 //! gives its value in C's memory.
 //!
 //! What C owes at each call: a pointer that is a parameter is not null and is aligned, and what it
@@ -15,6 +15,7 @@ mod editing;
 mod hashes;
 mod headers;
 mod items;
+mod layout;
 mod opening;
 mod strings;
 mod translation;
