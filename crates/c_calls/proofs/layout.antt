@@ -1,0 +1,8 @@
+mod PassLaws
+mod PieceLaws
+mod ImageLaws
+mod SectionLaws
+mod StatedLaws
+mod ListLaws
+mod FrontLaws
+mod CountLaws
