@@ -4,7 +4,6 @@ use Rattle.std.specs.Prelude.{if◌then◌else◌, IfOk, IfErr}
 use Rattle.std.proofs.lemmas.List.{append-nil}
 use Rattle.elf_object.specs.Object.{Object}
 use Rattle.elf_object.specs.Layout.{placed}
-use Rattle.elf_object.specs.Image.{front_blocks}
 use Rattle.elf_update_to.proofs.UpdateLaws.{planned_end}
 use Rattle.rebuild_image.specs.declared.ranges.ranges.ByteRange.{ByteRange}
 use Rattle.rebuild_image.specs.declared.streaming.Streamed.{Streamed}

@@ -1,6 +1,6 @@
 -- The parts of a layout, each at its place, make the image.
-use Rattle.std.proofs.Common.{◌≡◌, ℕ, ◌<◌, true, false, Bool, List, [], ◌∷◌, length, None, refl, sym, ap, ◌∙◌, subst, arith}
-use Rattle.std.specs.Prelude.{map, All}
+use Rattle.std.proofs.Common.{◌≡◌, ℕ, true, List, [], ◌∷◌, length, refl, sym, ap, ◌∙◌, subst, arith}
+use Rattle.std.specs.Prelude.{map}
 use Rattle.std.specs.List.{AllByRecursion}
 use Rattle.std.proofs.lemmas.List.Elements.{All-from_recursion, recursion_from_All}
 use Rattle.elf_types.specs.declared.records.Part.{Part}
@@ -8,10 +8,10 @@ use Rattle.elf_types.specs.declared.records.Part.TheVariants as part
 use Rattle.elf_layout.specs.declared.parts.PartAt.{PartAt}
 use Rattle.elf_layout.specs.Meeting.{has_bytes}
 use Rattle.elf_object.specs.Blocks.{Block}
-use Rattle.elf_object.specs.Object.{Object, has_file_bytes, section_at, is_dirty}
+use Rattle.elf_object.specs.Object.{Object, has_file_bytes, is_dirty}
 use Rattle.elf_object.specs.Joined.{file_bytes}
 use Rattle.elf_object.specs.Layout.{placed, placed_by, places_of}
-use Rattle.elf_object.specs.Image.{image, image_length, kept_base, front_blocks}
+use Rattle.elf_object.specs.Image.{image, kept_base, front_blocks}
 use Rattle.law_object.specs.Writing.Lines.{AreInLine, in_line}
 use Rattle.law_object.proofs.ImageLaws.{placed-dirty, joined-none}
 use Rattle.law_object.proofs.StandLaws.{joined-placed}
@@ -24,7 +24,7 @@ use Rattle.elf_update_to.proofs.PieceLaws.{length-joined_pieces}
 use Rattle.elf_update_to.proofs.PlanLaws.{planned_long}
 use Rattle.elf_update_to.proofs.UpdateLaws.{planned_end, planned_image, planned_line}
 use Rattle.c_handles.specs.declared.layout.planned.PlannedLayout.{PlannedLayout}
-use Rattle.c_calls.specs.Layout.Parts.{front_of, section_number, part_len}
+use Rattle.c_calls.specs.Layout.Parts.{part_len}
 use Rattle.c_calls.specs.Layout.Images.{IsLayoutOf, part_text, part_block, IsToldAs, MakesImage, LayoutMakesImage}
 use Rattle.c_calls.proofs.layout.PieceLaws.{one_text, no_text, section_text}
 use Rattle.c_calls.proofs.layout.SectionLaws.{IsThere, planned_there, planned_some, bytes_some}

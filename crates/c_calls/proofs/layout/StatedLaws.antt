@@ -1,9 +1,9 @@
 -- What the headers that C hands over tell of each object that has them.
-use Rattle.std.proofs.Common.{◌≡◌, ◌⊎◌, inl, inr, ℕ, zero, suc, ◌<◌, ◌≤◌, Bool, true, false, not, ◌&&◌, ◌||◌, List, [], ◌∷◌, length, get_or, Option, Some, None, Result, Ok, Err, refl, sym, ap, ◌∙◌, subst, arith, ⊎_elim}
+use Rattle.std.proofs.Common.{◌≡◌, inr, ℕ, ◌<◌, ◌≤◌, Bool, true, false, not, ◌&&◌, ◌||◌, List, [], ◌∷◌, length, get_or, Option, Some, None, Result, Err, refl, sym, ap, ◌∙◌, subst, arith}
 use Rattle.std.specs.Prelude.{map, ◌^◌, ◌==◌, nat_lt, nat_le, if◌then◌else◌}
 use Rattle.std.specs.List.{position}
 use Rattle.std.specs.Option.{option_map}
-use Rattle.std.proofs.lemmas.Bool.{le-ltb, ltb-false}
+use Rattle.std.proofs.lemmas.Bool.{le-ltb}
 use Rattle.std.proofs.lemmas.List.{length-map, get_or-map}
 use Rattle.std.proofs.lemmas.List.Elements.{All-get_or}
 use Rattle.elf_types.specs.Answers.{refused_if, first_refusal, answered}
@@ -23,7 +23,7 @@ use Rattle.elf_object.specs.Refusal.{too_many, unfit_segment, unfit_item, missin
 use Rattle.elf_object.specs.Valid.{IsSection}
 use Rattle.law_object.proofs.ImageLaws.{joined-none}
 use Rattle.elf_update_plan.specs.Placing.{IsRefused}
-use Rattle.elf_update_plan.proofs.PlacingLaws.{passed_from, refused_from, wants_as}
+use Rattle.elf_update_plan.proofs.PlacingLaws.{refused_from, wants_as}
 use Rattle.c_records.specs.declared.headers.EhdrRecord.{EhdrRecord}
 use Rattle.c_records.specs.declared.headers.PhdrRecord.{PhdrRecord}
 use Rattle.c_records.specs.declared.headers.ShdrRecord.{ShdrRecord}
@@ -33,7 +33,7 @@ use Rattle.rebuild_image.specs.Planning.{IsLaidOut}
 use Rattle.c_calls.proofs.layout.PassLaws.{position_of}
 use Rattle.c_calls.specs.Editing.From.{phdr_from_record, shdr_from_record}
 use Rattle.c_calls.specs.Translation.Numbers.{class_from}
-use Rattle.c_calls.specs.Layout.Stated.{header_stated, IsStated}
+use Rattle.c_calls.specs.Layout.Stated.{IsStated}
 use Rattle.c_calls.specs.Layout.Listed.{first_occupies, counts_refusal, segments_refusal, size_listed, ListsHeaders}
 
 -- ---- Refusals of an object

@@ -1,9 +1,9 @@
 -- What an update in place over lent bytes has kept of its writes.
-use Rattle.std.proofs.Common.{◌≡◌, ◌⊎◌, ◌+◌, ◌≤◌, inl, inr, ℕ, Bool, true, false, List, Some, Box, Result, Ok, Err, IsOk, refl, sym, ap, ◌∙◌, subst, arith}
+use Rattle.std.proofs.Common.{◌≡◌, ◌⊎◌, ◌+◌, ◌≤◌, inl, inr, ℕ, true, false, Some, Box, Result, Ok, Err, IsOk, refl, sym, ap, ◌∙◌, subst, arith}
 use Rattle.std.proofs.lemmas.Bool.{cases_Bool}
 use Rattle.elf_types.specs.declared.errors.ElfError.{ElfError}
 use Rattle.elf_types.specs.declared.errors.ElfError.TheVariants.{Memory, Read, Write}
-use Rattle.elf_object.specs.Object.{Object, is_dirty}
+use Rattle.elf_object.specs.Object.{is_dirty}
 use Rattle.elf_object.specs.Words.{UpdateAnswers}
 use Rattle.elf_object.specs.Calls.{update_null}
 use Rattle.elf_object.specs.Image.{image}
@@ -15,9 +15,8 @@ use Rattle.elf_update_in_place.specs.Updates.{UpdatesInPlace}
 use Rattle.c_handles.specs.declared.lent.loan.Loan.{Loan}
 use Rattle.c_handles.specs.declared.lent.loan.Lent.{Lent}
 use Rattle.c_handles.specs.declared.lent.image.LentImage.{LentImage}
-use Rattle.c_handles.specs.declared.lent.writes.KeptWrite.{KeptWrite}
 use Rattle.c_handles.specs.Lent.Images.{bytes_now, write_bytes_given}
-use Rattle.c_handles.specs.Lent.Writes.{with_writes, bytes_put}
+use Rattle.c_handles.specs.Lent.Writes.{with_writes}
 use Rattle.c_handles.specs.contracts.lent.image.LentImageSource.TheImpl as source
 use Rattle.c_handles.specs.contracts.lent.image.LentImageDevice.TheImpl as device
 use Rattle.c_handles.specs.Objects.Objects.{SameLoan, IsLoanOf}
