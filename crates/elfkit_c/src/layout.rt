@@ -100,12 +100,7 @@ pub extern "C" fn elfkit_layout_part(
 ///
 /// Source: elf_update with ELF_C_WRITE of elf(3E).
 #[unsafe(no_mangle)]
-pub extern "C" fn elfkit_layout_bytes(
-    alloc: Global,
-    l: &mut LayoutHandle,
-    i: u64,
-    out: &mut [u8],
-)
+pub extern "C" fn elfkit_layout_bytes(alloc: Global, l: &mut LayoutHandle, i: u64, out: &mut [u8])
     requires full { l.old.full ≡ true }
     requires room { IfSome (front_at l.old.held i) (λ bytes. length out.old ≡ length bytes) }
     ensures bytes { IfSome (front_at l.old.held i) (λ bytes. out.new ≡ bytes) }

@@ -4,8 +4,8 @@ ghost use Rattle.std.specs.Prelude.{◌≡◌, Bool, true, false};
 ghost use Rattle.c_handles.specs.declared.layout.planned.PlannedLayout.{PlannedLayout};
 ghost use Rattle.c_handles.specs.Layout.Handles.{layout_own, layout_coded};
 
-use crate::objects::Loose;
 use crate::layout::planned::PlannedLayout;
+use crate::objects::Loose;
 use std::alloc::Global;
 use std::marker::Model;
 use std::mem::replace;

@@ -1,5 +1,4 @@
 use Rattle.std.proofs.Common.{◌≡◌, inl, inr, refl, sym, ap, ◌∙◌, subst}
-use Rattle.elf_types.specs.declared.errors.ElfError.{ElfError}
 use Rattle.elf_types.specs.declared.errors.ElfError.TheVariants.{TooMany}
 use Rattle.c_handles.specs.declared.layout.planned.PlannedLayout.{PlannedLayout}
 use Rattle.c_records.specs.Codes.{code}
@@ -17,7 +16,7 @@ returns-in-Ok-clause-lays_out c =
 
 pub returns-in-Err-clause-lays_out : goal.returns-in-Err-clause-lays_out
 returns-in-Err-clause-lays_out c =
-    inr (c.requires.empty, (c.in-Err.e, (c.code_of.ensures, c.in-Err.ensures.lays_out)))
+    inr (c.requires.empty, (c.in-Err.e, c.code_of.ensures, c.in-Err.ensures.lays_out))
 
 pub returns-in-Ok-clause-many : goal.returns-in-Ok-clause-many
 returns-in-Ok-clause-many c = λ many. let never = c.in-Ok.ensures.many many in cc
