@@ -38,7 +38,7 @@ put_core_ehdr (Elf *elf, struct elfkit_handle *h)
 
 #ifdef ELFKIT_CHECK
 /* Compares what was taken from a plain image with the core's, of an object that is ended again, and
-   the section headers that read_shdr takes. */
+   the section headers that opened_shdr takes. */
 static bool
 check_ehdr (Elf *elf)
 {

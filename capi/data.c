@@ -71,7 +71,7 @@ static bool
 make_raw (Elf_Scn *scn)
 {
   GElf_Shdr shdr;
-  if (!has_home (scn) || !is_given (elfkit_shdr (core_of (scn->elf), scn->index, &shdr)))
+  if (!has_home (scn) || !opened_shdr (scn, &shdr))
     return false;
   if (!lies_in (scn->home.at, scn->home.len, scn->elf->size) && scn->home.len > 0)
     return false_with (E_INVALID_SECTION_HEADER);
@@ -107,7 +107,7 @@ static bool
 has_items (Elf_Scn *scn, Elf_Type type)
 {
   uint32_t kind;
-  if (!is_given (elfkit_kind (core_of (scn->elf), scn->index, 0, &kind)))
+  if (!has_core (scn->elf) || !is_given (elfkit_kind (core_of (scn->elf), scn->index, 0, &kind)))
     return false;
   return kind == (types[type].kind != 0 ? types[type].kind : BYTES) || false_with (E_INVALID_DATA);
 }

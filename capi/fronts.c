@@ -145,7 +145,8 @@ open_front (Elf *elf)
   if (elf->memory == MAPPED
       && mprotect ((void *) elf->lent, EI_NIDENT, PROT_READ | PROT_WRITE) != 0)
     return NULL;
-  if (elf->memory != MAPPED && elf->memory != COPIED && elf->front == NULL)
+  bool is_own = elf->memory == MAPPED || elf->memory == COPIED || elf->memory == WRITTEN;
+  if (!is_own && elf->front == NULL)
     {
       elf->front = new_copy (elf->lent, elf->size);
       if (elf->front == NULL)
@@ -191,6 +192,7 @@ begin_core (Elf *elf)
       if (front == NULL)
         return REFUSED_MEMORY;
       bool again = mend (elf, front, number);
+      elf->is_torn = true;
       if (elf->memory == MAPPED)
         mprotect ((void *) elf->lent, EI_NIDENT, PROT_READ);
       if (!again)

@@ -1,6 +1,6 @@
-/* handing.c: how elf_update hands a section to the core: its header is completed as elfutils
-   completes it, and its data is handed over in the form that it has in the file, where the object
-   does not have it. */
+/* handing.c: how elf_update hands the headers to the core, which lays the image out: a section
+   header is completed as elfutils completes it. Where all is as the image that is open has it,
+   nothing is handed over. */
 #include "update.h"
 
 /* ---- Section headers */
@@ -88,11 +88,7 @@ complete_shdr (struct update *u, Elf_Scn *scn, GElf_Shdr *shdr)
         return false;
     }
   else if (!scn->is_made)
-    {
-      if (!has_home (scn))
-        return false;
-      end = has_bytes (shdr) ? scn->home.len : shdr->sh_size;
-    }
+    end = has_bytes (shdr) ? scn->home.len : shdr->sh_size;
   if (!u->has_layout)
     {
       u->end = round_up (u->end, align);
@@ -107,133 +103,149 @@ complete_shdr (struct update *u, Elf_Scn *scn, GElf_Shdr *shdr)
   return has_whole_entries (u, scn, shdr, shdr->sh_size);
 }
 
-/* ---- Data */
-
-/* Where the bytes of a section are handed over to. */
-struct place
-{
-  struct update *u;
-  uint32_t section;
-  bool has_home;                /* what is handed over takes the place of its first piece */
-};
-
-/* Hands bytes over, as they stand in the file. */
+/* Completes the header of a section, and looks whether its data is there. An image that a program
+   laid out and did not change need not have it. */
 static bool
-hand_bytes (struct place *p, const uint8_t *bytes, size_t size)
+hand_section (struct update *u, Elf_Scn *scn, GElf_Shdr *shdr)
 {
-  static const uint8_t none;
-  uint32_t piece, number = REFUSED_NO_DATA;
-  if (size == 0)
-    bytes = &none;
-  if (p->has_home)
-    number = elfkit_replace (&p->u->handle, p->section, 0, bytes, size);
-  p->has_home = false;
-  if (number == REFUSED_NO_DATA)
-    number = elfkit_newdata (&p->u->handle, p->section, bytes, size, 1, &piece);
-  return is_given (number);
-}
-
-/* Hands so many fill bytes over. */
-static bool
-hand_fill (struct place *p, uint64_t size)
-{
-  if (size == 0)
-    return true;
-  uint8_t *bytes = size > MOST_FILL ? null_with (E_NOMEM) : new_bytes (size);
-  if (bytes == NULL)
+  GElf_Shdr old;
+  if (gelf_getshdr (scn, shdr) == NULL || (!scn->is_new && !has_home (scn)))
     return false;
-  bool done = hand_bytes (p, memset (bytes, fill_byte, size), size);
-  free (bytes);
-  return done;
-}
-
-/* Hands a piece over, in the form that it has in the file. */
-static bool
-hand_piece (struct place *p, const Elf_Data *d)
-{
-  const Elf *elf = p->u->elf;
-  if (d->d_size > 0 && d->d_buf == NULL)
-    return false_with (E_INVALID_DATA);
-  if (!is_foreign (elf, d->d_type) || d->d_size == 0)
-    return hand_bytes (p, d->d_buf, d->d_size);
-  if ((unsigned int) d->d_type >= ELF_T_NUM)
-    return false_with (E_UNKNOWN_TYPE);
-  uint8_t *bytes = translated (elf, d->d_type, false, d->d_buf, d->d_size);
-  bool done = bytes != NULL && hand_bytes (p, bytes, d->d_size);
-  free (bytes);
-  return done;
-}
-
-/* Whether the data of a section is what the image has, for all that the program says. */
-static bool
-is_as_opened (Elf_Scn *scn)
-{
-  const struct elfkit_data *d = &scn->data;
-  const Elf *elf = scn->elf;
-  if (scn->last != NULL || !has_home (scn) || d->d.d_size != scn->home.len)
+  old = *shdr;
+  if (!complete_shdr (u, scn, shdr)
+      || (memcmp (shdr, &old, sizeof old) != 0 && !put_shdr (scn, shdr)))
     return false;
-  if (((scn->flags | d->flags | elf->flags) & ELF_F_DIRTY) == 0)
-    return true;
-  return !is_foreign (elf, d->d.d_type)
-         && lies_in (scn->home.at, scn->home.len, elf->size)
-         && (d->d.d_size == 0
-             || memcmp (d->d.d_buf, elf->lent + scn->home.at, d->d.d_size) == 0);
+  if (!u->is_dirty)
+    u->is_dirty = scn->is_new || !opened_shdr (scn, &old) || memcmp (shdr, &old, sizeof old) != 0
+                  || (has_bytes (shdr) && is_marked (scn));
+  bool is_as_opened = !u->is_anew && !has_pieces (scn) && shdr->sh_size == scn->home.len;
+  return !has_bytes (shdr) || is_as_opened
+         || put_section (u, scn, shdr->sh_offset, shdr->sh_size);
 }
 
-/* Hands the pieces of a section over, with fill bytes between them, and behind them where the
-   program laid out that the section is longer. */
+/* Completes all section headers. The first one is that of the image that is open. */
 static bool
-hand_pieces (struct place *p, Elf_Scn *scn, const GElf_Shdr *shdr)
+hand_sections (struct update *u)
 {
-  uint64_t end = 0;
-  for (const struct elfkit_data *d = &scn->data; d != NULL; d = d->next)
+  Elf *elf = u->elf;
+  u->shdrs = has_sections (elf) ? new_zeros ((elf->shnum + 1) * sizeof *u->shdrs) : NULL;
+  if (u->shdrs == NULL)
+    return false;
+  if (elf->shnum > 0 && !u->is_anew && !section_at (elf, 0)->is_new
+      && !opened_shdr (section_at (elf, 0), u->shdrs))
+    return false;
+  for (size_t i = 1; i < elf->shnum; i++)
+    if (!hand_section (u, section_at (elf, i), &u->shdrs[i]))
+      return false;
+  return true;
+}
+
+/* Places the section headers behind all other parts, where the places are not the program's. */
+static bool
+place_headers (struct update *u)
+{
+  Elf *elf = u->elf;
+  if (!u->has_layout && elf->shnum > 0)
     {
-      uint64_t at = d->d.d_off;
-      if (at < end)
-        return false_with (E_INVALID_DATA);
-      if (!hand_fill (p, at - end) || !hand_piece (p, &d->d))
-        return false;
-      end = at + d->d.d_size;
+      u->ehdr.e_shoff = round_up (u->end, item_size (ELF_T_OFF, elf->class));
+      u->end = u->ehdr.e_shoff + elf->shnum * item_size (ELF_T_SHDR, elf->class);
     }
-  return hand_fill (p, shdr->sh_size - end);
+  return put_ehdr (elf, &u->ehdr);
 }
 
-/* Hands over what the image has where a section was, and fill bytes behind it where a program made
-   it longer. */
+/* ---- The other headers */
+
+/* Takes the program headers. */
 static bool
-hand_home (struct place *p, Elf_Scn *scn, const GElf_Shdr *shdr)
+hand_phdrs (struct update *u)
 {
-  const Elf *elf = scn->elf;
-  uint64_t size = shdr->sh_size < scn->home.len ? shdr->sh_size : scn->home.len;
-  if (!lies_in (scn->home.at, size, elf->size))
-    return false_with (E_INVALID_SECTION_HEADER);
-  return hand_bytes (p, elf->lent + scn->home.at, size) && hand_fill (p, shdr->sh_size - size);
+  Elf *elf = u->elf;
+  u->phdrs = new_bytes (elf->phnum * sizeof *u->phdrs);
+  if (u->phdrs == NULL || (!u->is_dirty && !has_core (elf)))
+    return false;
+  u->is_dirty = u->is_dirty || elfkit_phnum (core_of (elf)) != elf->phnum;
+  for (size_t i = 0; i < elf->phnum; i++)
+    {
+      GElf_Phdr old;
+      if (gelf_getphdr (elf, i, &u->phdrs[i]) == NULL
+          || (!u->is_dirty && !is_given (elfkit_phdr (core_of (elf), i, &old))))
+        return false;
+      u->is_dirty = u->is_dirty || memcmp (&u->phdrs[i], &old, sizeof old) != 0;
+    }
+  return true;
 }
 
-/* Hands the data of a section over, where the object does not have it. */
+/* Fills in the ELF header. The section of names is one that there is, unless the image was opened
+   so. */
 static bool
-hand_data (struct update *u, Elf_Scn *scn, const GElf_Shdr *shdr)
+hand_ehdr (struct update *u, struct elfkit_ehdr *x)
 {
-  struct place p = { u, scn->index, !u->is_anew && !scn->is_new };
-  if (p.has_home && shdr->sh_size == scn->home.len && (!has_pieces (scn) || is_as_opened (scn)))
-    return true;
-  if (has_pieces (scn))
-    return hand_pieces (&p, scn, shdr);
-  return scn->is_made ? hand_fill (&p, shdr->sh_size) : hand_home (&p, scn, shdr);
+  Elf *elf = u->elf;
+  struct elfkit_ehdr old;
+  memset (x, 0, sizeof *x);
+  x->class = elf->class;
+  x->order = elf->order;
+  if (!u->is_anew && !has_core (elf))
+    return false;
+  if (!u->is_anew)
+    elfkit_ehdr (core_of (elf), x);
+  memcpy (&old, x, sizeof old);
+  x->osabi = u->ehdr.e_ident[EI_OSABI];
+  x->abiversion = u->ehdr.e_ident[EI_ABIVERSION];
+  x->etype = u->ehdr.e_type;
+  x->machine = u->ehdr.e_machine;
+  x->entry = u->ehdr.e_entry;
+  x->phoff = u->ehdr.e_phoff;
+  x->shoff = u->ehdr.e_shoff;
+  x->flags = u->ehdr.e_flags;
+  size_t names = 0;
+  if (elf->shnum > 0 && elf_getshdrstrndx (elf, &names) != 0)
+    return false;
+  x->shstrndx = u->names = names;
+  bool is_same = !u->is_anew && memcmp (x, &old, sizeof old) == 0;
+  u->is_dirty = u->is_dirty || !is_same;
+  return is_same || names == 0 || names < elf->shnum || false_with (E_INVALID_INDEX);
+}
+
+/* Whether data that no program asked for lies in the image that is open, where there is any. */
+static bool
+has_homes (struct update *u)
+{
+  Elf *elf = u->elf;
+  for (size_t i = 1; i < elf->shnum; i++)
+    {
+      Elf_Scn *scn = section_at (elf, i);
+      const GElf_Shdr *shdr = &u->shdrs[i];
+      if (has_bytes (shdr) && shdr->sh_size > 0 && !has_pieces (scn)
+          && !put_section (u, scn, shdr->sh_offset, shdr->sh_size))
+        return false;
+    }
+  return true;
+}
+
+/* Has the core lay the image out. */
+static bool
+lay_out (struct update *u, const struct elfkit_ehdr *x)
+{
+  Elf *elf = u->elf;
+  if (!has_homes (u)
+      || !is_given (elfkit_lay_out (x, u->ehdr.e_ident + EI_PAD, EI_NIDENT - EI_PAD, u->phdrs,
+                                    elf->phnum, u->shdrs, elf->shnum, u->base, &u->layout)))
+    return false;
+  u->length = elfkit_layout_length (&u->layout);
+  return true;
 }
 
 bool
-hand_section (struct update *u, Elf_Scn *scn)
+hand_over (struct update *u)
 {
-  GElf_Shdr shdr, old;
-  if (gelf_getshdr (scn, &shdr) == NULL)
-    return false;
-  old = shdr;
-  if (!complete_shdr (u, scn, &shdr)
-      || (memcmp (&shdr, &old, sizeof shdr) != 0 && !put_shdr (scn, &shdr))
-      || !is_given (elfkit_shdr (&u->handle, scn->index, &old))
-      || (memcmp (&shdr, &old, sizeof shdr) != 0
-          && !is_given (elfkit_update_shdr (&u->handle, scn->index, &shdr))))
-    return false;
-  return !has_bytes (&shdr) || hand_data (u, scn, &shdr);
+  Elf *elf = u->elf;
+  struct elfkit_ehdr x;
+  u->is_dirty = u->is_anew || elf->is_torn || (elf->flags & ELF_F_DIRTY);
+  u->length = elf->size;
+  bool done = hand_sections (u) && place_headers (u) && hand_phdrs (u) && hand_ehdr (u, &x)
+              && (!u->is_dirty || lay_out (u, &x));
+  free (u->shdrs);
+  free (u->phdrs);
+  return done;
 }

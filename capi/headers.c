@@ -174,10 +174,10 @@ PUBLIC Elf32_Phdr *elf32_getphdr (Elf *elf)
 PUBLIC Elf64_Phdr *elf64_getphdr (Elf *elf)
 { return is_elf (elf, ELFCLASS64) ? native_phdrs (elf) : NULL; }
 
-/* The core's header of a section. Where the image has headers in the very form that is asked for,
-   it is read there; a library that is built with ELFKIT_CHECK compares it with the core's. */
-static bool
-read_shdr (const Elf_Scn *scn, GElf_Shdr *dst)
+/* Where the image has headers in the very form that is asked for, it is read there; a library that
+   is built with ELFKIT_CHECK compares it with the core's. */
+bool
+opened_shdr (const Elf_Scn *scn, GElf_Shdr *dst)
 {
   Elf *elf = scn->elf;
   uint64_t at = elf->tables.shoff + scn->index * sizeof *dst;
@@ -204,7 +204,7 @@ gelf_getshdr (Elf_Scn *scn, GElf_Shdr *dst)
   if (dst == NULL)
     return null_with (E_INVALID_OPERAND);
   if (scn->shdr == NULL)
-    return read_shdr (scn, dst) ? dst : NULL;
+    return opened_shdr (scn, dst) ? dst : NULL;
   to_gelf (ELF_T_SHDR, scn->elf->class, dst, scn->shdr);
   return dst;
 }

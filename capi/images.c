@@ -10,15 +10,15 @@
 
 #include "object.h"
 
-uint8_t *
+/* Maps the file as programs see it; NULL where it cannot be mapped. */
+static uint8_t *
 map_shown (int fd, size_t size)
 {
   void *shown = mmap (NULL, size, PROT_READ | PROT_WRITE, MAP_PRIVATE, fd, 0);
   return shown == MAP_FAILED ? NULL : shown;
 }
 
-/* Maps the file; false where it cannot be mapped. */
-static bool
+bool
 map_file (Elf *elf, int fd, size_t size)
 {
   bool once = elf->cmd == ELF_C_READ_MMAP;
@@ -79,7 +79,7 @@ read_bytes (int fd, size_t *size)
 bool
 is_apart (Elf *elf)
 {
-  if (elf->memory != COPIED || elf->lent != elf->shown)
+  if ((elf->memory != COPIED && elf->memory != WRITTEN) || elf->lent != elf->shown)
     return true;
   const uint8_t *own = new_copy (elf->shown, elf->size);
   if (own != NULL)
@@ -127,11 +127,18 @@ drop_bytes (void *at, size_t size, bool is_mapped)
 }
 
 void
+drop_lent (Elf *elf)
+{
+  if (elf->lent != elf->shown)
+    drop_bytes ((void *) elf->lent, elf->size, elf->memory == MAPPED);
+}
+
+void
 let_go (Elf *elf)
 {
   bool is_twice = elf->memory == MAPPED || elf->memory == COPIED || elf->memory == WRITTEN;
-  if (is_twice && elf->lent != elf->shown)
-    drop_bytes ((void *) elf->lent, elf->size, elf->memory == MAPPED);
+  if (is_twice)
+    drop_lent (elf);
   if (is_twice || elf->memory == MAPPED_ONCE
       || (elf->memory == BORROWED && (elf->marks & IS_HANDED_OVER)))
     drop_bytes (elf->shown, elf->size, elf->memory != COPIED && elf->memory != BORROWED);
@@ -142,57 +149,6 @@ let_go (Elf *elf)
       drop_bytes (k->at, k->size, k->is_mapped);
       free (k);
     }
-}
-
-/* Has the pages of a mapping in memory that a range lies in: what is written is a mapping's own. */
-static void
-touch (uint8_t *map, size_t size, uint64_t from, uint64_t to)
-{
-  size_t page = sysconf (_SC_PAGESIZE);
-  for (uint64_t at = from - from % page; from < to && at < to && at < size; at += page)
-    {
-      volatile uint8_t *first = map + at;
-      *first = *first;
-    }
-}
-
-void
-keep_pages (Elf *elf, uint64_t from, uint64_t to)
-{
-  if (elf->memory == MAPPED || elf->memory == WRITTEN)
-    touch (elf->shown, elf->size, from, to);
-  for (struct kept *k = elf->kept; k != NULL; k = k->next)
-    if (k->is_mapped)
-      touch (k->at, k->size, from, to);
-}
-
-/* Has a mapping in memory from a place on, at the same place: where a file gets shorter, what was
-   written of a mapping behind its end is lost too. */
-static bool
-hold (uint8_t *map, size_t size, uint64_t from)
-{
-  from -= from % sysconf (_SC_PAGESIZE);
-  if (from >= size)
-    return true;
-  void *own = mmap (NULL, size - from, PROT_READ | PROT_WRITE, MAP_PRIVATE | MAP_ANONYMOUS, -1, 0);
-  if (own == MAP_FAILED)
-    return false_with (E_NOMEM);
-  memcpy (own, map + from, size - from);
-  if (mremap (own, size - from, size - from, MREMAP_MAYMOVE | MREMAP_FIXED, map + from)
-      != MAP_FAILED)
-    return true;
-  munmap (own, size - from);
-  return false_with (E_NOMEM);
-}
-
-bool
-keep_end (Elf *elf, uint64_t from)
-{
-  bool done = (elf->memory != MAPPED && elf->memory != WRITTEN)
-              || hold (elf->shown, elf->size, from);
-  for (struct kept *k = elf->kept; done && k != NULL; k = k->next)
-    done = !k->is_mapped || hold (k->at, k->size, from);
-  return done;
 }
 
 bool

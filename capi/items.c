@@ -42,7 +42,7 @@ check_item (const struct elfkit_data *d, int ndx, const void *dst, size_t size)
 {
 #ifdef ELFKIT_CHECK
   uint64_t item[sizeof (GElf_Move) / sizeof (uint64_t)];        /* the longest one */
-  if (d->from_core && types[d->d.d_type].kind != 0
+  if (d->from_core && types[d->d.d_type].kind != 0 && has_core (d->elf)
       && (core_item (d, ndx, item) != REFUSED_NOT || memcmp (item, dst, size) != 0))
     abort ();
 #else
@@ -58,7 +58,7 @@ other_item (Elf_Data *data, Elf_Type type, int ndx, void *dst, size_t size)
   if (d == NULL)
     return NULL;
   if (is_asked (d, type))
-    return is_given (core_item (d, ndx, dst)) ? dst : NULL;
+    return has_core (d->elf) && is_given (core_item (d, ndx, dst)) ? dst : NULL;
   to_gelf (type, d->is_64 ? ELFCLASS64 : ELFCLASS32, dst, at_index (d, type, ndx));
   check_item (d, ndx, dst, size);
   return dst;

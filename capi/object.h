@@ -111,7 +111,7 @@ struct Elf
   uint8_t flags, ehdr_flags, phdr_flags;
   bool has_parts;               /* a program asked for more of a section than its place */
   bool is_bare;                 /* an image that is made anew: there is no object of it */
-  bool is_torn;                 /* a write failed: the file may have other bytes than the image */
+  bool is_torn;                 /* the file may have other bytes than those that are lent */
   struct kept *kept;
   struct elfkit_member *member;         /* its header, where it is a member of an archive */
   struct elfkit_archive *archive;       /* its members, where the kind is ELF_K_AR */
@@ -266,6 +266,10 @@ void free_array (Elf *elf);
 /* Whether it is an ELF image, of that class unless it is 0, with an ELF header. */
 bool is_elf (Elf *elf, unsigned int class);
 
+/* The core's header of a section of the image that is open; false and an error where there is no
+   memory. */
+bool opened_shdr (const Elf_Scn *scn, GElf_Shdr *dst);
+
 /* The native form of a section header and of the program headers; NULL and an error where there is
    none. */
 void *native_shdr (Elf_Scn *scn, unsigned int class);
@@ -289,12 +293,29 @@ void let_go (Elf *elf);
 /* Unmaps bytes, or frees them. */
 void drop_bytes (void *at, size_t size, bool is_mapped);
 
-/* Maps the file as programs see it, privately; NULL where it cannot be mapped. */
-uint8_t *map_shown (int fd, size_t size);
+/* Maps a file of a size; false where it cannot be mapped. */
+bool map_file (Elf *elf, int fd, size_t size);
+
+/* Lets go of the bytes that are lent, where programs do not see them. */
+void drop_lent (Elf *elf);
+
+/* Whether bytes are those that a mapping of the file shows at their place. */
+bool is_seen (const Elf *elf, uint64_t at, const uint8_t *bytes, size_t size);
 
 /* Has what programs see of a range of a file in memory, and what they saw before, so that a write
-   of it does not change it. */
-void keep_pages (Elf *elf, uint64_t from, uint64_t to);
+   of these bytes there does not change it. A mapping that shows these very bytes stays as it is. */
+void keep_pages (Elf *elf, uint64_t from, uint64_t to, const uint8_t *bytes);
+
+/* What is known of the pages of this process: so many entries of /proc/self/pagemap. */
+struct pages
+{
+  uint64_t first, count;
+  uint64_t entries[1024];
+};
+
+/* The first byte of a range of a private mapping that is in a page that was written, or in one that
+   was not, which has the file's bytes; else its end. */
+const uint8_t *find_page (struct pages *p, const uint8_t *at, const uint8_t *end, bool is_written);
 
 /* The same from a place on, so that a file that is cut there does not take it away; false and an
    error where there is no memory. */
@@ -309,9 +330,6 @@ struct tables tables_of (const uint8_t *image);
 
 /* Makes an ELF header of zeros one with that identification, which tells nothing else. */
 void make_front (uint8_t *image, const uint8_t *ident);
-
-/* The byte of gaps, for all threads. */
-extern _Atomic uint8_t fill_byte;
 
 /* Whether a command opens a file to be changed in place, and one to be written in either way. */
 static inline bool
@@ -345,8 +363,10 @@ bool is_plain (const Elf *elf);
 static inline bool
 has_core (Elf *elf)
 {
-  return elf->handle.ptr != NULL
-         || (is_apart (elf) && begin_over (elf->lent, elf->size, &elf->handle));
+  if (elf->handle.ptr != NULL)
+    return true;
+  return elf->is_torn ? is_given (begin_core (elf))
+                      : is_apart (elf) && begin_over (elf->lent, elf->size, &elf->handle);
 }
 
 /* That object, which is there. */

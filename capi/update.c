@@ -1,11 +1,11 @@
-/* update.c: elf_update. What a program stored, changed and made is handed to an object of the core
-   that is begun for it: over the image that is open, where the program laid its parts out, and
-   else over an ELF header alone. The layer checks what elfutils checks, and lays the parts out as
-   it does where the program did not; the core checks that they lie apart, derives what follows
-   from them, and gives the image, which the layer writes. */
+/* update.c: elf_update. The layer completes the headers as elfutils does, and lays the parts out
+   where the program did not (handing.c). The core checks that they lie apart, derives what follows
+   from them, and says where each part of the image is; it gives the bytes of the ELF header and of
+   the tables. The layer writes them, and the data of the sections from where the program has it
+   (parts.c, written.c). */
 #include "update.h"
 
-_Atomic uint8_t fill_byte;
+static _Atomic uint8_t fill_byte;
 
 /* elf_fill: the byte of gaps, for all descriptors. */
 PUBLIC void
@@ -13,8 +13,6 @@ elf_fill (int fill)
 {
   fill_byte = fill;
 }
-
-/* ---- The ELF header */
 
 /* Completes the ELF header: what an image has there whatever a program stored. */
 static bool
@@ -33,6 +31,7 @@ complete_ehdr (struct update *u)
   e->e_ehsize = item_size (ELF_T_EHDR, elf->class);
   e->e_shnum = elf->shnum < SHN_LORESERVE ? elf->shnum : 0;
   u->end = e->e_ehsize;
+  u->base = u->is_anew ? e->e_ehsize : elf->size;
   if (e->e_phnum == 0)
     e->e_phoff = 0;
   else if (!u->has_layout)
@@ -50,122 +49,45 @@ complete_ehdr (struct update *u)
   return put_ehdr (elf, e);
 }
 
-/* Places the section headers behind all other parts, where the places are not the program's. */
+/* Puts the first of the section headers, as the core gives it, into its native form. */
 static bool
-place_headers (struct update *u)
+take_first (struct update *u, const uint8_t *table)
 {
   Elf *elf = u->elf;
-  if (!u->has_layout && elf->shnum > 0)
-    {
-      u->ehdr.e_shoff = round_up (u->end, item_size (ELF_T_OFF, elf->class));
-      u->end = u->ehdr.e_shoff + elf->shnum * item_size (ELF_T_SHDR, elf->class);
-    }
-  return put_ehdr (elf, &u->ehdr);
+  Elf64_Shdr native;
+  GElf_Shdr now, old;
+  const size_t size = item_size (ELF_T_SHDR, elf->class);
+  Elf_Scn *first = section_at (elf, 0);
+  memcpy (&native, table, size);
+  if (is_foreign (elf, ELF_T_SHDR))
+    translate (ELF_T_SHDR, elf->class, true, &native, &native, size);
+  to_gelf (ELF_T_SHDR, elf->class, &now, &native);
+  return gelf_getshdr (first, &old) != NULL
+         && (memcmp (&now, &old, sizeof now) == 0 || put_shdr (first, &now));
 }
 
-/* Begins the object that is updated: over the image that is open, or over an ELF header alone. */
-static bool
-begin_update (struct update *u)
-{
-  const Elf *elf = u->elf;
-  if (elf->is_cut || elf->lacks_phdrs)
-    return false_with (E_INVALID_ELF);
-  if (!u->is_anew)
-    return begin_over (elf->lent, elf->size, &u->handle);
-  make_front (u->bare, u->ehdr.e_ident);
-  return begin_over (u->bare, u->ehdr.e_ehsize, &u->handle);
-}
-
-/* Hands the ELF header over, once the sections are there. */
-static bool
-hand_ehdr (struct update *u)
-{
-  Elf *elf = u->elf;
-  struct elfkit_ehdr x, old;
-  elfkit_ehdr (&u->handle, &old);
-  x = old;
-  x.osabi = u->ehdr.e_ident[EI_OSABI];
-  x.abiversion = u->ehdr.e_ident[EI_ABIVERSION];
-  x.etype = u->ehdr.e_type;
-  x.machine = u->ehdr.e_machine;
-  x.entry = u->ehdr.e_entry;
-  x.phoff = u->ehdr.e_phoff;
-  x.shoff = u->ehdr.e_shoff;
-  x.flags = u->ehdr.e_flags;
-  size_t names = 0;
-  if (elf->shnum > 0 && elf_getshdrstrndx (elf, &names) != 0)
-    return false;
-  x.shstrndx = names;
-  return memcmp (&x, &old, sizeof x) == 0 || is_given (elfkit_update_ehdr (&u->handle, &x));
-}
-
-/* Hands the program headers over that the object does not have so. */
-static bool
-hand_phdrs (struct update *u)
-{
-  Elf *elf = u->elf;
-  if (elfkit_phnum (&u->handle) != elf->phnum
-      && !is_given (elfkit_newphdr (&u->handle, elf->phnum)))
-    return false;
-  for (size_t i = 0; (u->is_anew || elf->phdr != NULL) && i < elf->phnum; i++)
-    {
-      GElf_Phdr x, old;
-      if (gelf_getphdr (elf, i, &x) == NULL || !is_given (elfkit_phdr (&u->handle, i, &old)))
-        return false;
-      if (memcmp (&x, &old, sizeof x) != 0
-          && !is_given (elfkit_update_phdr (&u->handle, i, &x)))
-        return false;
-    }
-  return true;
-}
-
-/* ---- The object */
-
-/* Hands all over: the sections first, to which the ELF header refers. */
-static bool
-hand_over (struct update *u)
-{
-  Elf *elf = u->elf;
-  uint32_t number, flags;
-  if (!has_sections (elf))
-    return false;
-  while (elfkit_shnum (&u->handle) < elf->shnum)
-    if (!is_given (elfkit_newscn (&u->handle, &number)))
-      return false;
-  for (size_t i = 1; i < elf->shnum; i++)
-    if (!hand_section (u, section_at (elf, i)))
-      return false;
-  if (!place_headers (u) || !hand_phdrs (u) || !hand_ehdr (u))
-    return false;
-  unsigned int wanted = ELF_F_LAYOUT | (u->is_anew ? ELF_F_DIRTY : elf->flags & ELF_F_DIRTY);
-  if (!is_given (elfkit_flag (&u->handle, true, wanted, &flags)))
-    return false;
-  elfkit_fill (&u->handle, fill_byte);
-  return true;
-}
-
-/* Puts the places and sizes that the object has now into the native headers. */
+/* Puts what the core derived into the native headers: the places of the tables and the sizes of
+   their entries, and the numbers that the first section header has. */
 static bool
 take_places (struct update *u)
 {
-  Elf *elf = u->elf;
-  struct elfkit_ehdr x;
-  elfkit_ehdr (&u->handle, &x);
-  u->ehdr.e_phoff = x.phoff;
-  u->ehdr.e_shoff = x.shoff;
-  u->ehdr.e_phentsize = x.phentsize;
-  u->ehdr.e_shentsize = x.shentsize;
-  if (!put_ehdr (elf, &u->ehdr))
-    return false;
-  for (size_t i = 0; i < elf->shnum; i++)
+  struct elfkit_part part;
+  for (uint64_t i = 0; elfkit_layout_part (&u->layout, i, &part) == REFUSED_NOT; i++)
     {
-      GElf_Shdr now, old;
-      Elf_Scn *scn = section_at (elf, i);
-      if (!is_given (elfkit_shdr (&u->handle, i, &now)) || gelf_getshdr (scn, &old) == NULL
-          || (memcmp (&now, &old, sizeof now) != 0 && !put_shdr (scn, &now)))
+      const uint8_t *bytes = part.section == 0 ? front_of (u, i, &part) : NULL;
+      if (part.section == 0 && bytes == NULL)
         return false;
+      if (is_table (u, &part) && !take_first (u, bytes))
+        return false;
+      if (part.at > 0)
+        continue;
+      const struct tables t = tables_of (bytes);
+      u->ehdr.e_phoff = t.phoff;
+      u->ehdr.e_shoff = t.shoff;
+      u->ehdr.e_phentsize = t.phentsize;
+      u->ehdr.e_shentsize = t.shentsize;
     }
-  return true;
+  return put_ehdr (u->elf, &u->ehdr);
 }
 
 static uint64_t
@@ -181,9 +103,9 @@ end_of_parts (struct update *u)
   Elf *elf = u->elf;
   uint64_t end = u->ehdr.e_ehsize;
   if (elf->phnum > 0)
-    end = later (end, u->ehdr.e_phoff + elf->phnum * u->ehdr.e_phentsize);
+    end = later (end, u->ehdr.e_phoff + elf->phnum * item_size (ELF_T_PHDR, elf->class));
   if (elf->shnum > 0)
-    end = later (end, u->ehdr.e_shoff + elf->shnum * u->ehdr.e_shentsize);
+    end = later (end, u->ehdr.e_shoff + elf->shnum * item_size (ELF_T_SHDR, elf->class));
   for (size_t i = 1; i < elf->shnum; i++)
     {
       GElf_Shdr shdr;
@@ -193,20 +115,20 @@ end_of_parts (struct update *u)
   return end;
 }
 
-/* Whether an image of a length has no more than so many bytes between its parts, and the file that
-   it is written to no more behind them. */
+/* Whether the image has no more than so many bytes between its parts, and the file that it is
+   written to no more behind them. */
 static bool
-is_dense (struct update *u, uint64_t length, uint64_t size)
+is_dense (struct update *u, uint64_t size)
 {
   Elf *elf = u->elf;
-  uint64_t left = length;
+  uint64_t left = u->length;
   for (size_t i = 1; i < elf->shnum && left > MOST_FILL; i++)
     {
       GElf_Shdr shdr;
       if (gelf_getshdr (section_at (elf, i), &shdr) != NULL && has_bytes (&shdr))
         left -= shdr.sh_size < left ? shdr.sh_size : left;
     }
-  return (left <= MOST_FILL && (size <= length || size - length <= MOST_FILL))
+  return (left <= MOST_FILL && (size <= u->length || size - u->length <= MOST_FILL))
          || false_with (E_NOMEM);
 }
 
@@ -221,16 +143,19 @@ may_update (const Elf *elf)
   return elf->parent == NULL || false_with (E_UNSUPPORTED);
 }
 
-/* Lays an object out and writes it, where it is to be written; the size of the file, or -1. */
+/* Lays an image out and writes it, where it is to be written; the size of the file, or -1. */
 static int64_t
 update (struct update *u, bool writes)
 {
-  uint64_t length;
-  if (!hand_over (u) || !is_given (elfkit_size (&u->handle, &length)) || !take_places (u))
+  Elf *elf = u->elf;
+  if (!complete_ehdr (u))
+    return -1;
+  if (elf->is_cut || elf->lacks_phdrs)
+    return negative_with (E_INVALID_ELF);
+  if (!hand_over (u) || (u->is_dirty && !take_places (u)))
     return -1;
   uint64_t size = u->has_layout ? end_of_parts (u) : u->end;
-  if (writes
-      && (!may_update (u->elf) || !is_dense (u, length, size) || !write_image (u, length, size)))
+  if (writes && (!may_update (elf) || !is_dense (u, size) || !write_image (u, size)))
     return -1;
   return size;
 }
@@ -244,11 +169,12 @@ elf_update (Elf *elf, Elf_Cmd cmd)
   if (!is_elf (elf, 0))
     return -1;
   bool has_layout = (elf->flags & ELF_F_LAYOUT) != 0;
-  struct update u = { .elf = elf, .has_layout = has_layout,
+  struct update u = { .elf = elf, .has_layout = has_layout, .fill = fill_byte,
                       .is_anew = elf->is_bare || !has_layout };
-  if (!complete_ehdr (&u) || !begin_update (&u))
-    return -1;
   int64_t size = update (&u, cmd != ELF_C_NULL);
-  end_object (&u.handle);
+  if (u.layout.ptr != NULL)
+    elfkit_layout_end (&u.layout);
+  free (u.ends);
+  free (u.block);
   return size;
 }

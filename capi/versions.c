@@ -8,7 +8,8 @@
   if (d == NULL) \
     return NULL; \
   if (d->from_core) \
-    return is_given (call (core_of (d->elf), d->scn->index, 0, offset, dst)) ? dst : NULL; \
+    return has_core (d->elf) && is_given (call (core_of (d->elf), d->scn->index, 0, offset, dst)) \
+           ? dst : NULL; \
   memcpy (dst, (const uint8_t *) data->d_buf + offset, sizeof *dst); \
   return dst
 
@@ -52,7 +53,8 @@ static __attribute__ ((noinline)) size_t
 core_note (const struct elfkit_data *d, size_t offset, GElf_Nhdr *nhdr, size_t *name, size_t *desc)
 {
   struct elfkit_note x;
-  if (!is_given (elfkit_note (core_of (d->elf), d->scn->index, 0, offset, &x)) || x.found == 0)
+  if (!has_core (d->elf)
+      || !is_given (elfkit_note (core_of (d->elf), d->scn->index, 0, offset, &x)) || x.found == 0)
     return 0;
   *nhdr = (GElf_Nhdr) { .n_namesz = x.namesz, .n_descsz = x.descsz, .n_type = x.ntype };
   *name = x.name_at;
@@ -92,7 +94,7 @@ gelf_getnote (Elf_Data *data, size_t offset, GElf_Nhdr *nhdr, size_t *name_offse
     return core_note (d, offset, nhdr, name_offset, desc_offset);
   size_t next = note_in (data, offset, nhdr, name_offset, desc_offset);
 #ifdef ELFKIT_CHECK
-  if (d->from_core)
+  if (d->from_core && has_core (d->elf))
     check_note (d, offset, next, nhdr, name_offset, desc_offset);
 #endif
   return next;

@@ -210,7 +210,8 @@ limit_files (rlim_t most)
   CHECK (setrlimit (RLIMIT_FSIZE, &limit) == 0);
 }
 
-/* A write that fails in the middle can be done again: the file is then as without a failure. */
+/* A write that fails in the middle can be done again: the file is then as without a failure.
+   Programs see the image as it was until then. */
 static void
 write_again (unsigned int flags)
 {
@@ -239,7 +240,7 @@ write_again (unsigned int flags)
       if (fails)
         {
           CHECK (found == -1 && elf_errno () == WRITE_ERROR);
-          CHECK (strcmp (elf_strptr (elf, STRINGS, 1), "first") != 0);
+          CHECK (strcmp (elf_strptr (elf, STRINGS, 1), "first") == 0);
           found = elf_update (elf, ELF_C_WRITE);
         }
       CHECK (strcmp (elf_strptr (elf, STRINGS, 1), "first") == 0 && elf_end (elf) == 0);
@@ -249,6 +250,92 @@ write_again (unsigned int flags)
       close (fd);
     }
   CHECK (memcmp (files[0], files[1], size) == 0);
+}
+
+/* Gives a section another place and another size, unless they are 0. */
+static void
+move (Elf *elf, unsigned int section, GElf_Off place, GElf_Xword size)
+{
+  GElf_Shdr shdr;
+  Elf_Scn *scn = elf_getscn (elf, section);
+  CHECK (gelf_getshdr (scn, &shdr) == &shdr);
+  shdr.sh_offset = place != 0 ? place : shdr.sh_offset;
+  shdr.sh_size = size != 0 ? size : shdr.sh_size;
+  CHECK (gelf_update_shdr (scn, &shdr) == 1);
+}
+
+/* Sections take the places of others that were not asked for, and what a program saw of the file
+   stays. */
+static void
+write_rotated (void)
+{
+  int fd;
+  size_t size;
+  GElf_Shdr names, strings, symbols;
+  uint8_t now[4096];
+  Elf *elf = open_copy (&fd, ELF_F_LAYOUT);
+  gelf_getshdr (elf_getscn (elf, NAMES), &names);
+  gelf_getshdr (elf_getscn (elf, STRINGS), &strings);
+  gelf_getshdr (elf_getscn (elf, SYMBOLS), &symbols);
+  const char *raw = elf_rawfile (elf, &size);
+  CHECK (size == image.size);
+  for (int round = 0; round < 2; round++)
+    {
+      move (elf, NAMES, round ? names.sh_offset : symbols.sh_offset, 0);
+      move (elf, STRINGS, round ? strings.sh_offset : names.sh_offset, 0);
+      move (elf, SYMBOLS, round ? symbols.sh_offset : 1600, 0);
+      CHECK (elf_update (elf, ELF_C_WRITE) > 0);
+      CHECK (memcmp (raw, image.bytes, image.size) == 0);
+      CHECK (strcmp (elf_strptr (elf, STRINGS, 7), "second") == 0);
+      CHECK (pread (fd, now, sizeof now, 0) > (ssize_t) image.size - 1);
+      CHECK (memcmp (now + (round ? symbols.sh_offset : 1600), image.bytes + symbols.sh_offset,
+                     symbols.sh_size) == 0);
+      CHECK (memcmp (now + (round ? strings.sh_offset : names.sh_offset),
+                     image.bytes + strings.sh_offset, strings.sh_size) == 0);
+    }
+  CHECK (elf_end (elf) == 0 && close (fd) == 0);
+}
+
+/* How many bytes this process wrote, where the system counts them; else 0. */
+static long long
+bytes_written (void)
+{
+  long long count = 0;
+  char line[64];
+  FILE *file = fopen ("/proc/self/io", "r");
+  while (file != NULL && fgets (line, sizeof line, file) != NULL)
+    sscanf (line, "wchar: %lld", &count);
+  if (file != NULL)
+    fclose (file);
+  return count;
+}
+
+/* Of a large section one byte is changed: a few pages are written, and in a second update again. */
+static void
+write_few (void)
+{
+  int fd;
+  const size_t place = 4096, size = 1 << 20;
+  static uint8_t now[1 << 20];
+  Elf *elf = open_copy (&fd, ELF_F_LAYOUT);
+  move (elf, STRINGS, place, size);
+  CHECK (elf_update (elf, ELF_C_WRITE) == (int64_t) (place + size) && elf_end (elf) == 0);
+  elf = elf_begin (fd, ELF_C_RDWR_MMAP, NULL);
+  CHECK (elf_flagelf (elf, ELF_C_SET, ELF_F_LAYOUT) == ELF_F_LAYOUT);
+  Elf_Data *data = elf_getdata (elf_getscn (elf, STRINGS), NULL);
+  CHECK (data != NULL && data->d_size == size);
+  for (size_t at = size / 2; at < size; at += size / 4)
+    {
+      ((char *) data->d_buf)[at] = 'x';
+      elf_flagdata (data, ELF_C_SET, ELF_F_DIRTY);
+      const long long before = bytes_written ();
+      CHECK (elf_update (elf, ELF_C_WRITE) == (int64_t) (place + size));
+      const long long written = bytes_written () - before;
+      CHECK (access ("/proc/self/pagemap", R_OK) != 0 || written < (1 << 16));
+      CHECK (pread (fd, now, size, place) == (ssize_t) size);
+      CHECK (memcmp (now, data->d_buf, size) == 0 && now[at] == 'x');
+    }
+  CHECK (elf_end (elf) == 0 && close (fd) == 0);
 }
 
 /* An image with sections of another size in its header is opened with those that there are, which
@@ -347,6 +434,8 @@ main (void)
       write_longer ();
       write_again (ELF_F_LAYOUT);
       write_again (0);
+      write_rotated ();
+      write_few ();
       write_mended ();
       write_ragged ();
       write_segments ();
