@@ -49,6 +49,13 @@ complete_ehdr (struct update *u)
   return put_ehdr (elf, e);
 }
 
+/* Whether a part is the table of section headers. */
+static bool
+is_table (const struct update *u, const struct elfkit_part *part)
+{
+  return part->section == 0 && u->elf->shnum > 0 && part->at == u->ehdr.e_shoff;
+}
+
 /* Puts the first of the section headers, as the core gives it, into its native form. */
 static bool
 take_first (struct update *u, const uint8_t *table)

@@ -40,23 +40,17 @@ bool put_parts (struct update *u);
 /* Puts so many fill bytes, but no zeros where a file gets longer by zeros. */
 bool put_fill (struct update *u, uint64_t at, uint64_t size);
 
+/* The bytes of the ELF header or of a table, which stay until the next ones are asked for; NULL and
+   an error where there is no memory. */
+const uint8_t *front_of (struct update *u, uint64_t i, const struct elfkit_part *part);
+
 /* gaps.c: fills the gaps of an image that a program laid out. */
 bool fill_gaps (struct update *u);
-
-/* The bytes of a front part; NULL and an error where there is no memory. */
-const uint8_t *front_of (struct update *u, uint64_t i, const struct elfkit_part *part);
 
 /* written.c: writes bytes at a place of a file; and the image to a file of a length: cut, or with
    zeros behind it. */
 bool write_bytes (int fd, const uint8_t *bytes, size_t size, size_t at);
 bool write_image (struct update *u, uint64_t length);
-
-/* Whether a part is the table of section headers. */
-static inline bool
-is_table (const struct update *u, const struct elfkit_part *part)
-{
-  return part->section == 0 && u->elf->shnum > 0 && part->at == u->ehdr.e_shoff;
-}
 
 /* Whether a section has data that a program asked for or made. */
 static inline bool

@@ -296,6 +296,35 @@ write_rotated (void)
   CHECK (elf_end (elf) == 0 && close (fd) == 0);
 }
 
+/* No fill byte goes over data: where the program headers are behind it, and where a section without
+   bytes lies in another one. */
+static void
+write_beside (void)
+{
+  int fd;
+  GElf_Ehdr ehdr;
+  GElf_Shdr names, notes, symbols;
+  uint8_t now[4096];
+  Elf *elf = open_copy (&fd, ELF_F_LAYOUT);
+  CHECK (gelf_newphdr (elf, 1) != NULL && gelf_getehdr (elf, &ehdr) == &ehdr);
+  ehdr.e_phoff = 1600;
+  CHECK (gelf_update_ehdr (elf, &ehdr) == 1);
+  gelf_getshdr (elf_getscn (elf, NAMES), &names);
+  gelf_getshdr (elf_getscn (elf, NOTES), &notes);
+  gelf_getshdr (elf_getscn (elf, SYMBOLS), &symbols);
+  notes.sh_offset = names.sh_offset + 8;
+  notes.sh_size = 0;
+  CHECK (gelf_update_shdr (elf_getscn (elf, NOTES), &notes) == 1);
+  elf_flagdata (elf_getdata (elf_getscn (elf, STRINGS), NULL), ELF_C_SET, ELF_F_DIRTY);
+  elf_fill (0x5a);
+  CHECK (elf_update (elf, ELF_C_WRITE) > 1600 && elf_end (elf) == 0);
+  elf_fill (0);
+  CHECK (pread (fd, now, sizeof now, 0) > 1600);
+  CHECK (memcmp (now + names.sh_offset, image.bytes + names.sh_offset, names.sh_size) == 0);
+  CHECK (memcmp (now + symbols.sh_offset, image.bytes + symbols.sh_offset, symbols.sh_size) == 0);
+  CHECK (now[names.sh_offset + names.sh_size] == 0x5a && close (fd) == 0);
+}
+
 /* How many bytes this process wrote, where the system counts them; else 0. */
 static long long
 bytes_written (void)
@@ -435,6 +464,7 @@ main (void)
       write_again (ELF_F_LAYOUT);
       write_again (0);
       write_rotated ();
+      write_beside ();
       write_few ();
       write_mended ();
       write_ragged ();
