@@ -92,7 +92,8 @@ struct Elf
   uint8_t *shown;               /* the image as programs see it, and may change it */
   struct elfkit_handle handle;  /* the core's object, where the kind is ELF_K_ELF (has_core) */
   const uint8_t *lent;          /* the image as the core reads it */
-  /* MAPPED_ONCE: programs see the lent bytes themselves; INSIDE: it lies in its archive's image */
+  /* MAPPED_ONCE: programs see the lent bytes themselves; INSIDE: it lies in its archive's image;
+     WRITTEN: the file may be another, and a copy is lent of what programs see of it */
   enum { MAPPED, MAPPED_ONCE, COPIED, BORROWED, INSIDE, WRITTEN, NOTHING } memory;
   uint8_t *front;               /* a copy of the image, lent with another front */
   struct tables tables;         /* where the kind is ELF_K_ELF */
