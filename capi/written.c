@@ -38,9 +38,37 @@ write_file (struct update *u, uint64_t length)
              || false_with (E_WRITE_ERROR));
 }
 
-/* The descriptor is over other mappings of the file. What programs saw of the old ones is kept. */
+/* Finds where programs see the image then: a mapping, or memory where the file cannot be mapped;
+   false and an error where there is none. */
+static bool
+find_room (Elf *next, int fd, size_t size)
+{
+  if (map_file (next, fd, size))
+    return true;
+  next->shown = new_bytes (size);
+  next->lent = next->shown;
+  next->size = size;
+  next->memory = COPIED;
+  return next->shown != NULL;
+}
+
+/* Reads what was written, where the file is not mapped. */
+static bool
+fill_room (const Elf *next, int fd)
+{
+  ssize_t got;
+  for (size_t done = 0; next->memory == COPIED && done < next->size; done += got)
+    {
+      got = pread (fd, next->shown + done, next->size - done, done);
+      if (got <= 0)
+        return false_with (E_READ_ERROR);
+    }
+  return true;
+}
+
+/* The descriptor is over other bytes of the file. What programs saw of the old ones is kept. */
 static void
-take_mappings (Elf *elf, const Elf *next, struct kept *kept)
+take_bytes_of (Elf *elf, const Elf *next, struct kept *kept)
 {
   *kept = (struct kept) { elf->kept, elf->shown, elf->size, elf->memory != COPIED };
   elf->kept = kept;
@@ -113,7 +141,7 @@ prepare (struct update *u, uint64_t length, Elf *next, struct kept **kept)
   if (elf->is_bare || u->stays)
     return true;
   *kept = new_zeros (sizeof **kept);
-  return *kept != NULL && (map_file (next, elf->fd, u->length) || false_with (E_NOMEM));
+  return *kept != NULL && find_room (next, elf->fd, u->length);
 }
 
 bool
@@ -126,7 +154,7 @@ write_image (struct update *u, uint64_t length)
   bool is_ready = prepare (u, length, &next, &kept);
   if (is_ready)
     end_object (&elf->handle);
-  if (!is_ready || !write_file (u, length))
+  if (!is_ready || !write_file (u, length) || (kept != NULL && !fill_room (&next, elf->fd)))
     {
       free (kept);
       if (next.lent != NULL)
@@ -136,7 +164,7 @@ write_image (struct update *u, uint64_t length)
       return false;
     }
   if (kept != NULL)
-    take_mappings (elf, &next, kept);
+    take_bytes_of (elf, &next, kept);
   if (!elf->is_bare)
     settle (u);
   clear_flags (elf);
